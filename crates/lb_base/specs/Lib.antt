@@ -1,0 +1,5 @@
+pub mod Mask
+pub mod Sets
+pub mod Weight
+pub mod Figures
+pub mod Greatest
