@@ -1,6 +1,6 @@
 -- The figures of the CPUs of a mask: the figure of one CPU, and the total of a number over all of
 -- them.
-use Rattle.std.specs.Prelude.{ℕ, ◌≡◌, ◌<◌, Bool, true, List, length, sum_by}
+use Rattle.std.specs.Prelude.{ℕ, ◌≡◌, ◌<◌, true, List, length, sum_by}
 use Rattle.std.specs.List.{slice_index_or}
 use Rattle.lb_base.specs.declared.mask.Mask.{Mask}
 use Rattle.lb_base.specs.declared.figure.Fig.{Fig}

@@ -1,6 +1,6 @@
 -- The first of the greatest among numbered candidates that are tried in rising order: what "the
 -- busiest group" and "the source queue" are. `p` says who is a candidate, `above` who is greater.
-use Rattle.std.specs.Prelude.{◌≡◌, ℕ, ◌<◌, nat_lt, Bool, true, false, not, ◌&&◌, ◌||◌, Option, MatchOption, find}
+use Rattle.std.specs.Prelude.{◌≡◌, ℕ, ◌<◌, Bool, true, false, not, ◌&&◌, ◌||◌, Option, MatchOption, find}
 use Rattle.std.specs.List.{range_with_len, list_all}
 
 -- of the numbers below n that pass p, b is the first of the greatest
@@ -28,3 +28,8 @@ is_first_greatest p above n b =
 -- the first of the greatest, by trial of each number below n
 unfoldable pub first_greatest : (ℕ → Bool) → (ℕ → ℕ → Bool) → ℕ → Option ℕ
 first_greatest p above n = find (is_first_greatest p above n) (range_with_len 0 n)
+
+-- `above` is an order in which some may be level
+pub record IsRanking (above : ℕ → ℕ → Bool) : Type 0 where
+  pub one_way : (x y : ℕ) → above x y ≡ true → above y x ≡ false
+  pub chain : (x y z : ℕ) → above x y ≡ false → above y z ≡ false → above x z ≡ false

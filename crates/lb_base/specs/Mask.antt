@@ -1,6 +1,6 @@
 -- A mask as a set of CPUs: whether it has a CPU, the list of its CPUs in rising order, and the set
 -- operations on masks.
-use Rattle.std.specs.Prelude.{bit_and, bit_or, ◌-◌, ◌^◌, ◌≡◌, ℕ, ◌<◌, ◌≤◌, ◌==◌, Bool, true, false, List, filter, length}
+use Rattle.std.specs.Prelude.{bit_and, bit_or, ◌-◌, ◌^◌, ◌≡◌, ℕ, ◌<◌, ◌≤◌, ◌==◌, Bool, true, false, List, filter}
 use Rattle.std.specs.Int.{bit_at}
 use Rattle.std.specs.List.{range_with_len}
 use Rattle.lb_base.specs.declared.mask.Mask.{Mask}

@@ -1,6 +1,6 @@
 -- Questions about sets of CPUs that can be computed: the least CPU, emptiness, masks without a CPU
 -- in common, and the mask of the CPUs that pass a test.
-use Rattle.std.specs.Prelude.{ℕ, ◌^◌, ◌==◌, nat_lt, Bool, true, not, ◌&&◌, ◌||◌, if◌then◌else◌, Option, is_none, List, [], ◌∷◌, find, sum_by}
+use Rattle.std.specs.Prelude.{ℕ, ◌^◌, nat_lt, Bool, true, not, ◌&&◌, if◌then◌else◌, Option, is_none, List, [], ◌∷◌, find, sum_by}
 use Rattle.std.specs.List.{range_with_len, list_all}
 use Rattle.lb_base.specs.declared.mask.Mask.{Mask}
 use Rattle.lb_base.specs.declared.mask.TheConstants.{MAX_CPUS}

@@ -5,9 +5,12 @@
 mod figure;
 mod group;
 mod items;
+pub mod laws;
 mod mask;
 mod memory;
 mod shape;
+#[cfg(test)]
+mod tests;
 mod view;
 mod weight;
 

@@ -1,0 +1,5 @@
+use Rattle.lb_base.proofs.Where.{mask_where_has}
+use Rattle.lb_base.proofs.laws.mask_of_a_test.Goals as goal
+
+pub returns : goal.returns
+returns c = mask_where_has
