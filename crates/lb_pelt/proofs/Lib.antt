@@ -1,0 +1,3 @@
+mod Decays
+mod Bounds
+mod Signals

@@ -1,0 +1,5 @@
+use Rattle.lb_pelt.proofs.Signals.{advanced_bounded}
+use Rattle.lb_pelt.proofs.laws.advanced_is_bounded.Goals as goal
+
+pub returns : goal.returns
+returns c = advanced_bounded
