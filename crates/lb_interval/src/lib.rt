@@ -1,0 +1,215 @@
+//! When a position of a CPU's domains is balanced next, and how often its balancing failed: the
+//! counters of a position (docs/rules/counters.md).
+#![tactic(auto)]
+
+ghost use Rattle.std.specs.Prelude.{◌≡◌, ◌≤◌};
+ghost use Rattle.lb_interval.specs.After.{fresh_counters, is_due, failures_after, idle_failures, interval_after, flag_after, counters_after};
+
+use lb_base::Kind;
+
+/// The balance counters of a position (docs/rules/counters.md).
+#[derive(Clone, Copy, Debug, PartialEq, Eq)]
+pub struct Counters {
+    /// When the position was last balanced, in milliseconds.
+    pub last: u64,
+    /// How long it waits from then on, in milliseconds.
+    pub interval: u64,
+    /// How many balancings in a row took nothing.
+    pub failures: u32,
+    /// The imbalance flag: the last take was hindered by affinity.
+    pub imb: bool,
+}
+
+/// What the balancing of a position came to (docs/rules/counters.md).
+#[derive(Clone, Copy, Debug, PartialEq, Eq)]
+pub enum Outcome {
+    /// Another CPU of the group is to balance it.
+    NotMine,
+    /// The first look found nothing to even out.
+    Balanced,
+    /// The last take took that many tasks, at least one.
+    Moved(u32),
+    /// Affinity hindered every task of a source, and no further source was left.
+    Pinned,
+    /// The last take took nothing.
+    Failed,
+    /// The same once too often: the source is asked to push its tasks.
+    Asking,
+}
+
+/// The counters of a new position at `now_ms`, in milliseconds; `weight` is the number of CPUs of
+/// its span.
+pub fn fresh(weight: u32, now_ms: u64) -> Counters
+    ensures { result ≡ fresh_counters weight now_ms }
+{
+    Counters {
+        last: now_ms,
+        interval: u64::from(weight),
+        failures: 0,
+        imb: false,
+    }
+}
+
+/// Whether the position is due at `now_ms`, in milliseconds. `busy` says that somebody is awake on
+/// the CPU, `cpus` is the number of the machine's CPUs (docs/rules/counters.md).
+pub fn due(c: &Counters, busy: bool, cpus: u32, now_ms: u64) -> bool
+    requires { 1 ≤ cpus }
+    ensures { result ≡ is_due c.now busy cpus now_ms }
+{
+    let plain = u128::from(c.interval);
+    let stretched = if busy {
+        (plain * 16).saturating_sub(1)
+    } else {
+        plain
+    };
+    let wait = stretched.max(1).min(100 * u128::from(cpus));
+    u128::from(c.last) + wait <= u128::from(now_ms)
+}
+
+/// The counters after an outcome at `now_ms`, in milliseconds. `imb` is what the position's last
+/// take says of the imbalance flag, None without a take; `weight` is the number of CPUs of the
+/// span, `tries` the domain's cache tries (docs/rules/counters.md).
+#[tactic(auto, unfolding(crate::specs::After::counters_after))]
+pub fn after(
+    c: &Counters,
+    kind: Kind,
+    outcome: Outcome,
+    imb: Option<bool>,
+    weight: u32,
+    tries: u32,
+    now_ms: u64,
+) -> Counters
+    ensures { result ≡ counters_after c.now kind outcome imb weight tries now_ms }
+{
+    let imb = flag(outcome, imb, c.imb);
+    match kind {
+        Kind::Idle => Counters {
+            last: c.last,
+            interval: c.interval,
+            failures: failures_at_idle(outcome, c.failures, tries),
+            imb,
+        },
+        Kind::Tick | Kind::Nohz => Counters {
+            last: now_ms,
+            interval: interval(outcome, c.interval, weight),
+            failures: failures(outcome, c.failures, tries),
+            imb,
+        },
+    }
+}
+
+fn failures(outcome: Outcome, failures: u32, tries: u32) -> u32
+    ensures { result ≡ failures_after outcome failures tries }
+{
+    match outcome {
+        Outcome::NotMine => failures,
+        Outcome::Balanced | Outcome::Moved(_) | Outcome::Pinned => 0,
+        Outcome::Failed => failures.saturating_add(1),
+        Outcome::Asking => tries.saturating_add(1),
+    }
+}
+
+fn failures_at_idle(outcome: Outcome, failed: u32, tries: u32) -> u32
+    ensures { result ≡ idle_failures outcome failed tries }
+{
+    match outcome {
+        Outcome::Failed => failed,
+        Outcome::NotMine
+        | Outcome::Balanced
+        | Outcome::Moved(_)
+        | Outcome::Pinned
+        | Outcome::Asking => failures(outcome, failed, tries),
+    }
+}
+
+fn interval(outcome: Outcome, interval: u64, weight: u32) -> u64
+    ensures { result ≡ interval_after outcome interval weight }
+{
+    let weight = u64::from(weight);
+    match outcome {
+        Outcome::NotMine => interval,
+        Outcome::Balanced => {
+            if interval < 2 * weight {
+                2 * interval
+            } else {
+                interval
+            }
+        }
+        Outcome::Pinned => {
+            if interval < 2 * weight || interval < 512 {
+                2 * interval
+            } else {
+                interval
+            }
+        }
+        Outcome::Moved(_) | Outcome::Failed | Outcome::Asking => weight,
+    }
+}
+
+fn flag(outcome: Outcome, said: Option<bool>, old: bool) -> bool
+    ensures { result ≡ flag_after outcome said old }
+{
+    match said {
+        Some(said) => said,
+        None => match outcome {
+            Outcome::Balanced => false,
+            Outcome::NotMine
+            | Outcome::Moved(_)
+            | Outcome::Pinned
+            | Outcome::Failed
+            | Outcome::Asking => old,
+        },
+    }
+}
+
+#[cfg(test)]
+mod tests {
+    use super::*;
+
+    #[test]
+    fn counts_as_the_rule_says(rt: HostRuntime) {
+        let new = fresh(2, 0);
+        let failing = Counters {
+            failures: 3,
+            ..fresh(2, 0)
+        };
+        let cases = [
+            (failing, Outcome::Failed, Some(false), 2, 8, 2, 4),
+            (failing, Outcome::Asking, Some(false), 2, 8, 2, 2),
+            (new, Outcome::Moved(1), Some(false), 2, 2, 2, 0),
+            (new, Outcome::Balanced, None, 2, 2, 4, 0),
+            (fresh(3, 0), Outcome::Pinned, Some(true), 3, 3, 6, 0),
+        ];
+        for (c, outcome, imb, weight, now_ms, interval, failures) in cases {
+            let want = Counters {
+                last: now_ms,
+                interval,
+                failures,
+                imb: imb == Some(true),
+            };
+            let got = after(&c, Kind::Tick, outcome, imb, weight, 1, now_ms);
+            assert_eq!(rt; got, want, "after {outcome:?}");
+        }
+    }
+
+    #[test]
+    fn is_due_as_the_rule_says(rt: HostRuntime) {
+        let cases = [
+            (2, false, 1, false),
+            (2, false, 2, true),
+            (2, true, 30, false),
+            (2, true, 31, true),
+            (0, true, 0, false),
+            (0, true, 1, true),
+            (64, true, 199, false),
+            (64, true, 200, true),
+        ];
+        for (weight, busy, now_ms, want) in cases {
+            assert_eq!(rt;
+                due(&fresh(weight, 0), busy, 2, now_ms),
+                want,
+                "weight {weight} at {now_ms}"
+            );
+        }
+    }
+}
