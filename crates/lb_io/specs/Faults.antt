@@ -1,0 +1,16 @@
+-- Sources and sinks count their faults. A count never falls, and stands still at its type's last
+-- value; a call answers a failure only where the count rose in that call.
+use Rattle.std.specs.Prelude.{ℕ, ◌≡◌, ◌+◌, ◌-◌, ◌^◌, ◌<◌, ◌≤◌, ◌⊎◌, min, Result, OnErr}
+
+-- the count after one fault more
+abbrev pub counted : ℕ → ℕ
+counted n = min (n + 1) (2 ^ 64 - 1)
+
+-- the count is greater than before, or stands at its last value
+abbrev pub Rose : ℕ → ℕ → Type 0
+Rose before now = (before < now) ⊎ (now ≡ 2 ^ 64 - 1)
+
+-- the count has not fallen, and an Err comes only where it rose
+pub record CountsFaults {T E : Type 0} (before now : ℕ) (result : Result T E) : Type 0 where
+  pub kept : before ≤ now
+  pub rose : OnErr result (Rose before now)
