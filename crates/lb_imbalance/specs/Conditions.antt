@@ -1,0 +1,27 @@
+-- What a decision asks of the groups of a domain: that they make up its span, and that the sums of
+-- the figures over all of them stay small.
+use Rattle.std.specs.Prelude.{ℕ, ◌≡◌, ◌<◌, ◌^◌, List, sum_by}
+use Rattle.std.specs.List.{list_any}
+use Rattle.lb_base.specs.declared.mask.Mask.{Mask}
+use Rattle.lb_base.specs.declared.figure.Fig.{Fig}
+use Rattle.lb_base.specs.declared.group.Stats.{Stats}
+use Rattle.lb_base.specs.Mask.{has}
+use Rattle.lb_base.specs.Figures.{total}
+
+-- the span has exactly the CPUs of the groups
+abbrev pub IsUnion : Mask → List Mask → Type 0
+IsUnion span groups = (k : ℕ) → has span k ≡ list_any (λ g. has g k) groups
+
+-- the sums over all groups stay below 2^40
+pub record HasSmallSumsOverAll (figs : List Fig) (groups : List Mask) : Type 0 where
+  pub nr : sum_by (total (λ fig. fig.nr) figs) groups < 2 ^ 40
+  pub load : sum_by (total (λ fig. fig.load) figs) groups < 2 ^ 40
+  pub util : sum_by (total (λ fig. fig.util) figs) groups < 2 ^ 40
+  pub runnable : sum_by (total (λ fig. fig.runnable) figs) groups < 2 ^ 40
+
+-- the statistics of a group are in these ranges
+pub record IsInRange (s : Stats) : Type 0 where
+  pub nr : s.nr < 2 ^ 40
+  pub idle : s.idle < 2 ^ 7
+  pub cap : s.cap < 2 ^ 17
+  pub avg : s.avg < 2 ^ 45

@@ -1,0 +1,6 @@
+pub mod Levels
+pub mod Destination
+pub mod Balance
+pub mod Amount
+pub mod Decision
+pub mod Conditions
