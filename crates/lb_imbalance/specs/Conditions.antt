@@ -1,11 +1,12 @@
 -- What a decision asks of the groups of a domain: that they make up its span, and that the sums of
--- the figures over all of them stay small.
+-- the figures over all of them, without the excluded CPUs, stay small. Then the statistics of each
+-- group stay in range.
 use Rattle.std.specs.Prelude.{ℕ, ◌≡◌, ◌<◌, ◌^◌, List, sum_by}
 use Rattle.std.specs.List.{list_any}
 use Rattle.lb_base.specs.declared.mask.Mask.{Mask}
 use Rattle.lb_base.specs.declared.figure.Fig.{Fig}
 use Rattle.lb_base.specs.declared.group.Stats.{Stats}
-use Rattle.lb_base.specs.Mask.{has}
+use Rattle.lb_base.specs.Mask.{has, without}
 use Rattle.lb_base.specs.Figures.{total}
 
 -- the span has exactly the CPUs of the groups
@@ -13,15 +14,15 @@ abbrev pub IsUnion : Mask → List Mask → Type 0
 IsUnion span groups = (k : ℕ) → has span k ≡ list_any (λ g. has g k) groups
 
 -- the sums over all groups stay below 2^40
-pub record HasSmallSumsOverAll (figs : List Fig) (groups : List Mask) : Type 0 where
-  pub nr : sum_by (total (λ fig. fig.nr) figs) groups < 2 ^ 40
-  pub load : sum_by (total (λ fig. fig.load) figs) groups < 2 ^ 40
-  pub util : sum_by (total (λ fig. fig.util) figs) groups < 2 ^ 40
-  pub runnable : sum_by (total (λ fig. fig.runnable) figs) groups < 2 ^ 40
+pub record HaveSmallSums (figs : List Fig) (excluded : Mask) (groups : List Mask) : Type 0 where
+  pub nr : sum_by (λ g. total (λ fig. fig.nr) figs (without g excluded)) groups < 2 ^ 40
+  pub load : sum_by (λ g. total (λ fig. fig.load) figs (without g excluded)) groups < 2 ^ 40
+  pub util : sum_by (λ g. total (λ fig. fig.util) figs (without g excluded)) groups < 2 ^ 40
+  pub runnable : sum_by (λ g. total (λ fig. fig.runnable) figs (without g excluded)) groups < 2 ^ 40
 
--- the statistics of a group are in these ranges
+-- the statistics of a group are in range
 pub record IsInRange (s : Stats) : Type 0 where
   pub nr : s.nr < 2 ^ 40
-  pub idle : s.idle < 2 ^ 7
-  pub cap : s.cap < 2 ^ 17
-  pub avg : s.avg < 2 ^ 45
+  pub avg : s.avg < 2 ^ 40
+  pub cap : s.cap < 2 ^ 20
+  pub idle : s.idle < 2 ^ 10

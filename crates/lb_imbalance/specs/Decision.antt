@@ -1,16 +1,15 @@
 -- The decision of a CPU about one of its domains, as a function of the domain's shape and groups,
 -- the figures, the CPU, the kind of turn and the excluded CPUs: it is not the CPU's to balance, or
 -- the domain is balanced, or the CPU pulls from a source queue of the busiest group.
-use Rattle.std.specs.Prelude.{ℕ, ◌≡◌, ◌*◌, ◌/◌, ◌<◌, ◌^◌, ◌==◌, Bool, if◌then◌else◌, Option, Some, None, List, map, sum_by}
-use Rattle.std.specs.List.{slice_index_or, list_any}
+use Rattle.std.specs.Prelude.{ℕ, ◌*◌, ◌/◌, ◌==◌, Bool, if◌then◌else◌, Option, Some, None, List, map, sum_by}
+use Rattle.std.specs.List.{slice_index_or}
 use Rattle.lb_base.specs.declared.mask.Mask.{Mask}
 use Rattle.lb_base.specs.declared.figure.Fig.{Fig}
 use Rattle.lb_base.specs.declared.group.Stats.{Stats}
 use Rattle.lb_base.specs.declared.shape.Shape.{Shape}
 use Rattle.lb_base.specs.declared.shape.Kind.{Kind}
-use Rattle.lb_base.specs.Mask.{has, no_cpus, without}
-use Rattle.lb_stats.specs.Statistics.{stats_of, average_of}
-use Rattle.lb_base.specs.Figures.{total}
+use Rattle.lb_base.specs.Mask.{no_cpus, without}
+use Rattle.lb_stats.specs.Statistics.{stats_of}
 use Rattle.lb_busiest.specs.Ranking.{stats_at, busiest_of}
 use Rattle.lb_busiest.specs.Sources.{source_of}
 use Rattle.lb_imbalance.specs.declared.decision.Decision.{Decision}
@@ -25,18 +24,14 @@ use Rattle.lb_imbalance.specs.Amount.{imbalance_of}
 abbrev pub group_at : List Mask → ℕ → Mask
 group_at groups i = slice_index_or groups i no_cpus
 
--- the groups without the excluded CPUs
-unfoldable pub included : Mask → List Mask → List Mask
-included excluded groups = map (λ g. without g excluded) groups
-
 -- the statistics of the groups, without the excluded CPUs
 unfoldable pub all_stats : Shape → List Mask → List Fig → Mask → List Stats
 all_stats shape groups figs excluded =
-    map (λ g. stats_of figs g shape.position (percent_of shape.name)) (included excluded groups)
+    map (λ g. stats_of figs (without g excluded) shape.position (percent_of shape.name)) groups
 
 -- the load of one CPU's capacity over the whole domain
 unfoldable pub domain_average : List Stats → ℕ
-domain_average stats = average_of (sum_by (λ s. s.load) stats) (sum_by (λ s. s.cap) stats)
+domain_average stats = sum_by (λ s. s.load) stats * 1024 / sum_by (λ s. s.cap) stats
 
 -- the pull from a source, if there is one
 abbrev pub pull_from : Imbalance → Option ℕ → Decision

@@ -1,12 +1,14 @@
 -- The destination of a decision: whether it is busy, and whether it is the CPU that balances the
 -- domain for its group.
-use Rattle.std.specs.Prelude.{ℕ, ◌==◌, nat_lt, Bool, true, false, Option, Some, None, List, find}
+use Rattle.std.specs.Prelude.{ℕ, ◌==◌, nat_lt, Bool, true, false, ◌&&◌, Option, Some, None, List, find}
+use Rattle.std.specs.List.{range_with_len}
 use Rattle.std.specs.Option.{option_or}
 use Rattle.lb_base.specs.declared.mask.Mask.{Mask}
+use Rattle.lb_base.specs.declared.mask.TheConstants.{MAX_CPUS}
 use Rattle.lb_base.specs.declared.figure.Fig.{Fig}
 use Rattle.lb_base.specs.declared.shape.Kind.{Kind}
 use Rattle.lb_base.specs.declared.shape.Kind.TheVariants.{Tick, Idle, Nohz}
-use Rattle.lb_base.specs.Mask.{members}
+use Rattle.lb_base.specs.Mask.{has}
 use Rattle.lb_base.specs.Sets.{least}
 use Rattle.lb_base.specs.Figures.{fig_at}
 use Rattle.lb_stats.specs.Statistics.{is_idle}
@@ -17,9 +19,13 @@ is_busy Tick figs cpu = nat_lt 0 (fig_at figs cpu).nr
 is_busy Idle figs cpu = false
 is_busy Nohz figs cpu = nat_lt 0 (fig_at figs cpu).nr
 
+-- the group has the CPU, which has no awake task
+unfoldable pub is_idle_in : List Fig → Mask → ℕ → Bool
+is_idle_in figs group cpu = has group cpu && is_idle (fig_at figs cpu)
+
 -- the first idle CPU of a group
 unfoldable pub first_idle : List Fig → Mask → Option ℕ
-first_idle figs group = find (λ cpu. is_idle (fig_at figs cpu)) (members group)
+first_idle figs group = find (is_idle_in figs group) (range_with_len 0 MAX_CPUS)
 
 -- the CPU that balances for a group: its first idle CPU, or its first one where none is idle
 unfoldable pub balancer_of : List Fig → Mask → Option ℕ

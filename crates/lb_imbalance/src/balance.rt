@@ -1,5 +1,6 @@
 ghost use Rattle.std.specs.Prelude.{◌≡◌, ◌<◌, ◌^◌, ◌&&◌, not};
 ghost use Rattle.lb_imbalance.specs.Balance.{is_level, is_level_as, is_level_by_idle, is_level_by_load, prefers_sibling};
+ghost use Rattle.lb_imbalance.specs.Conditions.{IsInRange};
 
 use crate::levels::{percent, siblings};
 use lb_base::{GroupType, Shape, Stats};
@@ -7,10 +8,8 @@ use lb_base::{GroupType, Shape, Stats};
 // Whether the groups are level, so that nothing is to move.
 #[tactic(auto, unfolding(crate::specs::Balance::is_level))]
 pub fn level(shape: &Shape, busy: bool, average: u64, local: &Stats, busiest: &Stats) -> bool
-    requires nr { local.now.nr < 2 ^ 40 }
-    requires idle { busiest.now.idle < 2 ^ 7 }
-    requires local { local.now.avg < 2 ^ 50 }
-    requires busiest { busiest.now.avg < 2 ^ 50 }
+    requires local { IsInRange local.now }
+    requires busiest { IsInRange busiest.now }
     ensures { result ≡ is_level shape.now busy average local.now busiest.now }
 {
     match busiest.group {
@@ -33,8 +32,8 @@ pub fn level(shape: &Shape, busy: bool, average: u64, local: &Stats, busiest: &S
 
 // Beside a local group with spare CPUs: siblings are evened out first.
 fn level_beside_spare(shape: &Shape, busy: bool, local: &Stats, busiest: &Stats) -> bool
-    requires nr { local.now.nr < 2 ^ 40 }
-    requires idle { busiest.now.idle < 2 ^ 7 }
+    requires local { IsInRange local.now }
+    requires busiest { IsInRange busiest.now }
     ensures { result ≡ (not (prefers_sibling shape.now local.now busiest.now) && is_level_by_idle busy local.now busiest.now) }
 {
     let prefers_sibling = siblings(shape.below) && busiest.nr > local.nr + 1;
@@ -42,7 +41,7 @@ fn level_beside_spare(shape: &Shape, busy: bool, local: &Stats, busiest: &Stats)
 }
 
 fn level_by_idle(busy: bool, local: &Stats, busiest: &Stats) -> bool
-    requires { busiest.now.idle < 2 ^ 7 }
+    requires { IsInRange busiest.now }
     ensures { result ≡ is_level_by_idle busy local.now busiest.now }
 {
     busy || (busiest.weight > 1 && local.idle <= busiest.idle + 1) || busiest.nr == 1
@@ -50,8 +49,8 @@ fn level_by_idle(busy: bool, local: &Stats, busiest: &Stats) -> bool
 
 fn level_by_load(percent: u64, average: u64, local: &Stats, busiest: &Stats) -> bool
     requires percent { percent < 2 ^ 10 }
-    requires local { local.now.avg < 2 ^ 50 }
-    requires busiest { busiest.now.avg < 2 ^ 50 }
+    requires local { IsInRange local.now }
+    requires busiest { IsInRange busiest.now }
     ensures { result ≡ is_level_by_load percent average local.now busiest.now }
 {
     local.avg >= busiest.avg || local.avg >= average || 100 * busiest.avg <= percent * local.avg

@@ -1,9 +1,9 @@
 ghost use Rattle.std.specs.Prelude.{◌≡◌, ◌<◌, ◌≤◌, ◌^◌, ℕ, true, false, length, sum_by, All, take};
 ghost use Rattle.lb_base.specs.Mask.{has, without};
 ghost use Rattle.lb_base.specs.Figures.{AllHaveFigures};
-ghost use Rattle.lb_stats.specs.Statistics.{average_of, HasSmallSums};
-ghost use Rattle.lb_imbalance.specs.Decision.{all_stats, decision, decision_over, domain_average, group_at, included, pull, pull_from, pull_from_group};
-ghost use Rattle.lb_imbalance.specs.Conditions.{HasSmallSumsOverAll, IsInRange, IsUnion};
+ghost use Rattle.lb_stats.specs.Statistics.{HasSmallSums};
+ghost use Rattle.lb_imbalance.specs.Decision.{all_stats, decision, decision_over, domain_average, group_at, pull, pull_from, pull_from_group};
+ghost use Rattle.lb_imbalance.specs.Conditions.{HaveSmallSums, IsInRange, IsUnion};
 
 use crate::balance::level;
 use crate::destination::{balances, busy};
@@ -37,6 +37,7 @@ pub enum Decision {
 /// The groups stand in ring order from the local one, which has `cpu`. `figs` has a figure for each
 /// CPU of the span, from CPU 0. `excluded` are CPUs of other groups from which nothing could be
 /// pulled; they count nowhere.
+#[tactic(auto, unfolding(crate::specs::Decision::decision))]
 pub fn decide(
     shape: &Shape,
     groups: &[Mask],
@@ -50,10 +51,11 @@ pub fn decide(
     requires local { has (group_at groups.now 0) cpu ≡ true }
     requires kept { (k : ℕ) → has (group_at groups.now 0) k ≡ true → has excluded k ≡ false }
     requires figures { AllHaveFigures figs.now shape.now.span }
-    requires sums { HasSmallSumsOverAll figs.now (included excluded groups.now) }
+    requires sums { HaveSmallSums figs.now excluded groups.now }
     ensures { result ≡ decision shape.now groups.now figs.now cpu kind excluded }
 {
-    if balances(kind, figs, groups[0], cpu) {
+    let local = groups[0];
+    if balances(kind, figs, local, cpu) {
         let stats = stats_of_groups(shape, groups, figs, excluded);
         decide_over(
             shape,
@@ -76,8 +78,8 @@ fn stats_of_groups(
     excluded: Mask,
 ) -> [Stats; MAX_CPUS as usize]
     requires count { length groups.now ≤ MAX_CPUS }
-    requires figures { All (AllHaveFigures figs.now) (included excluded groups.now) }
-    requires sums { All (HasSmallSums figs.now) (included excluded groups.now) }
+    requires figures { All (λ g. AllHaveFigures figs.now (without g excluded)) groups.now }
+    requires sums { All (λ g. HasSmallSums figs.now (without g excluded)) groups.now }
     ensures { take (length groups.now) result ≡ all_stats shape.now groups.now figs.now excluded }
 {
     let mut all = [Stats {
@@ -110,11 +112,11 @@ fn decide_over(
 ) -> Decision
     requires some { 0 < length groups.now }
     requires each { length stats.now ≡ length groups.now }
-    requires figures { All (AllHaveFigures figs.now) (included excluded groups.now) }
-    requires load { sum_by (λ s. s.load) stats.now < 2 ^ 40 }
-    requires cap { sum_by (λ s. s.cap) stats.now < 2 ^ 40 }
+    requires figures { All (λ g. AllHaveFigures figs.now (without g excluded)) groups.now }
     requires ranges { All IsInRange stats.now }
-    requires average { domain_average stats.now < 2 ^ 45 }
+    requires load { sum_by (λ s. s.load) stats.now < 2 ^ 40 }
+    requires some_cap { 1024 ≤ sum_by (λ s. s.cap) stats.now }
+    requires cap { sum_by (λ s. s.cap) stats.now < 2 ^ 40 }
     ensures { result ≡ decision_over shape.now groups.now figs.now busy excluded stats.now }
 {
     let Some(at) = busiest(stats) else {
@@ -132,12 +134,14 @@ fn decide_over(
 #[tactic(auto, unfolding(crate::specs::Decision::domain_average))]
 fn average(stats: &[Stats]) -> u64
     requires load { sum_by (λ s. s.load) stats.now < 2 ^ 40 }
+    requires some_cap { 1024 ≤ sum_by (λ s. s.cap) stats.now }
     requires cap { sum_by (λ s. s.cap) stats.now < 2 ^ 40 }
-    ensures { result ≡ domain_average stats.now }
+    ensures value { result ≡ domain_average stats.now }
+    ensures small { result < 2 ^ 40 }
 {
     let cap: u64 = stats.iter().map(|s| s.cap).sum();
     let load: u64 = stats.iter().map(|s| s.load).sum();
-    if cap == 0 { 0 } else { load * 1024 / cap }
+    load * 1024 / cap
 }
 
 // The pull of an imbalance from a group, if there is one.

@@ -1,6 +1,7 @@
-ghost use Rattle.std.specs.Prelude.{◌≡◌, ◌<◌, length};
+ghost use Rattle.std.specs.Prelude.{◌≡◌, ◌<◌, length, true};
+ghost use Rattle.lb_base.specs.Mask.{has};
 ghost use Rattle.lb_base.specs.Figures.{AllHaveFigures};
-ghost use Rattle.lb_imbalance.specs.Destination.{balancer_of, first_idle, is_busy, may_balance};
+ghost use Rattle.lb_imbalance.specs.Destination.{balancer_of, first_idle, is_busy, is_idle_in, may_balance};
 
 use lb_base::{Fig, Kind, MAX_CPUS, Mask};
 
@@ -16,9 +17,11 @@ pub fn busy(kind: Kind, figs: &[Fig], cpu: u32) -> bool
 }
 
 // Whether the CPU is the one that balances for its group.
+#[tactic(auto, using(crate::proofs::Groups::below_all))]
 pub fn balances(kind: Kind, figs: &[Fig], group: Mask, cpu: u32) -> bool
     requires { AllHaveFigures figs.now group }
-    ensures { result ≡ may_balance kind figs.now group cpu }
+    ensures value { result ≡ may_balance kind figs.now group cpu }
+    ensures below { has group cpu ≡ true → cpu < MAX_CPUS }
 {
     match kind {
         Kind::Idle => true,
@@ -35,20 +38,30 @@ fn balancer(figs: &[Fig], group: Mask) -> Option<u32>
     requires { AllHaveFigures figs.now group }
     ensures { result ≡ balancer_of figs.now group }
 {
-    match idle(figs, group) {
+    match first_idle(figs, group) {
         Some(cpu) => Some(cpu),
         None => group.first(),
     }
 }
 
-fn idle(figs: &[Fig], group: Mask) -> Option<u32>
+fn first_idle(figs: &[Fig], group: Mask) -> Option<u32>
     requires { AllHaveFigures figs.now group }
     ensures { result ≡ first_idle figs.now group }
 {
     for cpu in 0..MAX_CPUS {
-        if group.has(cpu) && figs[cpu as usize].nr == 0 {
+        if idle_in(figs, group, cpu) {
             return Some(cpu);
         }
     }
     None
+}
+
+// Whether the CPU is an idle one of the group.
+#[tactic(auto, unfolding(crate::specs::Destination::is_idle_in))]
+fn idle_in(figs: &[Fig], group: Mask, cpu: u32) -> bool
+    requires figures { AllHaveFigures figs.now group }
+    requires in_range { cpu < MAX_CPUS }
+    ensures { result ≡ is_idle_in figs.now group cpu }
+{
+    group.has(cpu) && figs[cpu as usize].nr == 0
 }

@@ -1,5 +1,6 @@
 ghost use Rattle.std.specs.Prelude.{◌≡◌, ◌<◌, ◌^◌};
 ghost use Rattle.lb_imbalance.specs.Amount.{half_of_tasks, imbalance_of, imbalance_as, is_pressed, load_to_average, one_task, spare_room};
+ghost use Rattle.lb_imbalance.specs.Conditions.{IsInRange};
 
 use crate::levels::{above_cache, siblings};
 use lb_base::{GroupType, MoveKind, Shape, Stats};
@@ -22,10 +23,9 @@ pub fn imbalance_between(
     local: &Stats,
     busiest: &Stats,
 ) -> Imbalance
-    requires local_cap { local.now.cap < 2 ^ 17 }
-    requires busiest_cap { busiest.now.cap < 2 ^ 17 }
-    requires busiest { busiest.now.avg < 2 ^ 45 }
-    requires average { average < 2 ^ 45 }
+    requires local { IsInRange local.now }
+    requires busiest { IsInRange busiest.now }
+    requires average { average < 2 ^ 40 }
     ensures { result ≡ imbalance_of shape.now busy average local.now busiest.now }
 {
     match busiest.group {
@@ -96,10 +96,9 @@ fn half_of_tasks(shape: &Shape, local: &Stats, busiest: &Stats) -> Imbalance
 
 // The load that brings either group to the domain's average, whichever is less.
 fn load_to_average(average: u64, local: &Stats, busiest: &Stats) -> Imbalance
-    requires local_cap { local.now.cap < 2 ^ 17 }
-    requires busiest_cap { busiest.now.cap < 2 ^ 17 }
-    requires busiest { busiest.now.avg < 2 ^ 45 }
-    requires average { average < 2 ^ 45 }
+    requires local { IsInRange local.now }
+    requires busiest { IsInRange busiest.now }
+    requires average { average < 2 ^ 40 }
     ensures { result ≡ load_to_average average local.now busiest.now }
 {
     let amount = if local.avg < busiest.avg && local.avg < average {

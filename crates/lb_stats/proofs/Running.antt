@@ -1,32 +1,12 @@
 -- What is counted over the CPUs of a group below n: at first nothing, in the end what is counted
 -- over the whole group, and with one more CPU its own part more.
-use Rattle.std.proofs.Common.{
-  ◌≡◌,
-  ℕ,
-  ◌+◌,
-  ◌<◌,
-  ◌≤◌,
-  Bool,
-  true,
-  false,
-  ◌||◌,
-  cond,
-  List,
-  [],
-  ◌∷◌,
-  ◌++◌,
-  refl,
-  sym,
-  ◌∙◌,
-  ap,
-  arith,
-}
+use Rattle.std.proofs.Common.{◌≡◌, ℕ, ◌+◌, ◌<◌, ◌≤◌, Bool, true, false, ◌||◌, cond, List, [], ◌∷◌, refl, ◌∙◌, ap}
 use Rattle.std.specs.Prelude.{sum_by, count_by}
 use Rattle.std.specs.List.{list_any}
 use Rattle.std.proofs.lemmas.List.Folds.{list_any-append}
 use Rattle.lb_base.specs.declared.mask.Mask.{Mask}
 use Rattle.lb_base.specs.declared.figure.Fig.{Fig}
-use Rattle.lb_base.specs.Mask.{has, members, members_below}
+use Rattle.lb_base.specs.Mask.{has, members_below}
 use Rattle.lb_base.specs.Figures.{fig_at, total}
 use Rattle.lb_base.proofs.Members.{sum_members_yes, sum_members_no, sum_members_fits, members_below_none, members_below_yes, members_below_no, members_all}
 use Rattle.lb_stats.specs.Statistics.{is_idle, is_marked, idle_count, any_marked}
