@@ -1,0 +1,54 @@
+//! What the turn of a CPU that becomes idle may spend (docs/rules/counters.md).
+#![tactic(auto)]
+
+ghost use Rattle.std.specs.Prelude.{◌≡◌, ◌≤◌};
+ghost use Rattle.lb_newidle.specs.Budget.{goes_on, average_after};
+
+/// Whether a newly-idle turn goes on to a level whose span has `weight` CPUs. `avg_idle` is the
+/// average time for which the CPU stays idle, `spent` what the turn has cost so far, both in
+/// nanoseconds; a level costs 1,000 ns for each CPU of its span (docs/rules/counters.md).
+pub fn next_level(avg_idle: u64, spent: u64, weight: u32) -> bool
+    ensures { result ≡ goes_on avg_idle spent weight }
+{
+    u128::from(avg_idle) >= u128::from(spent) + 1000 * u128::from(weight)
+}
+
+/// The average idle time of a CPU after it was idle for `sample`, both in nanoseconds: it goes an
+/// eighth of the way to the sample, and is at most 1,000,000 (docs/rules/counters.md).
+pub fn idle_average(avg: u64, sample: u64) -> u64
+    ensures value { result ≡ average_after avg sample }
+    ensures at_most { result ≤ 1000000 }
+{
+    let moved = if sample >= avg {
+        avg + (sample - avg) / 8
+    } else {
+        avg - (avg - sample) / 8
+    };
+    moved.min(1_000_000)
+}
+
+#[cfg(test)]
+mod tests {
+    use super::*;
+
+    #[test]
+    fn spends_and_averages_as_the_rule_says(rt: HostRuntime) {
+        for (avg_idle, spent, weight, want) in [(1999, 0, 2, false), (2000, 0, 2, true)] {
+            assert_eq!(rt;
+                next_level(avg_idle, spent, weight),
+                want,
+                "{weight} CPUs at {avg_idle}"
+            );
+        }
+        let averages = [
+            (1000000, 0, 875000),
+            (100, 93, 100),
+            (100, 92, 99),
+            (0, 15, 1),
+            (999999, 1000000000, 1000000),
+        ];
+        for (avg, sample, want) in averages {
+            assert_eq!(rt; idle_average(avg, sample), want, "{sample} at {avg}");
+        }
+    }
+}
