@@ -1,0 +1,8 @@
+use Rattle.std.proofs.Common.{◌≡◌, ℕ, nat_lt, ◌&&◌}
+use Rattle.lb_base.specs.Mask.{has}
+use Rattle.lb_base.specs.Figures.{fig_at}
+use Rattle.lb_nohz.specs.Kick.{is_tickless}
+use Rattle.lb_nohz.proofs.turns.Given as goal
+
+abbrev pub invariant-loop-cpu : goal.invariant-loop-cpu
+invariant-loop-cpu l = (k : ℕ) → has l.found k ≡ (nat_lt k l.cpu && (has l.span k && is_tickless (fig_at l.figs k)))
