@@ -1,0 +1,86 @@
+-- The scheduling domains of a CPU from scratch, from the spans of the machine alone: the spans cut
+-- to the CPU's partition mask, the levels that are kept of them, and the groups of each kept one in
+-- ring order.
+use Rattle.std.specs.Prelude.{ℕ, ◌+◌, ◌==◌, nat_lt, nat_le, Bool, false, not, ◌&&◌, if◌then◌else◌, Option, Some, None, List, [], ◌∷◌, ◌++◌, length, map, filter, find}
+use Rattle.std.specs.List.{range_with_len}
+use Rattle.lb_base.specs.declared.mask.Mask.{Mask}
+use Rattle.lb_base.specs.declared.shape.Shape.{Shape}
+use Rattle.lb_base.specs.declared.shape.LevelName.{LevelName}
+use Rattle.lb_base.specs.Mask.{has, members, only, both}
+use Rattle.lb_base.specs.Sets.{least}
+use Rattle.lb_levels.specs.declared.cpu_row.CpuRow.{CpuRow}
+use Rattle.lb_levels.specs.Spans.{levels_of, span_of}
+use Rattle.lb_domain.specs.declared.domain.Domain.{Domain}
+
+-- the partition mask that has the CPU
+abbrev pub part_of : List Mask → ℕ → Option Mask
+part_of parts cpu = find (λ part. has part cpu) parts
+
+-- the span of a CPU at a level, cut to its partition mask
+unfoldable pub cut_span : List CpuRow → List (List ℕ) → Mask → LevelName → ℕ → Mask
+cut_span cpus table part level cpu = both (span_of cpus table level cpu) part
+
+-- the least CPU of a mask, if it has one, or 0
+abbrev pub or_zero : Option ℕ → ℕ
+or_zero None = 0
+or_zero (Some k) = k
+
+abbrev pub first_of : Mask → ℕ
+first_of m = or_zero (least m)
+
+-- the CPUs of a span that come first in their groups; `group` is the group of each CPU
+unfoldable pub firsts : (ℕ → Mask) → Mask → List ℕ
+firsts group span = filter (λ k. first_of (group k) == k) (members span)
+
+-- the groups of a CPU's domain in ring order: by their first CPUs, from that of its own group on
+unfoldable pub groups_of : (ℕ → Mask) → Mask → ℕ → List Mask
+groups_of group span cpu =
+    let own = first_of (group cpu) in
+    map group (filter (nat_le own) (firsts group span) ++ filter (λ k. nat_lt k own) (firsts group span))
+
+-- the span is that of the kept domain below
+abbrev pub is_span_of : Option Shape → Mask → Bool
+is_span_of None span = false
+is_span_of (Some below) span = below.span.bits == span.bits
+
+-- a domain is kept if it has more than one CPU, and not just those of the kept domain below
+unfoldable pub is_kept : Option Shape → Mask → Bool
+is_kept below span = nat_lt 1 (length (members span)) && not (is_span_of below span)
+
+-- the name of the kept domain below
+abbrev pub name_below : Option Shape → Option LevelName
+name_below None = None
+name_below (Some below) = Some below.name
+
+-- the position above the kept domain below
+abbrev pub position_above : Option Shape → ℕ
+position_above None = 0
+position_above (Some below) = below.position + 1
+
+abbrev pub shape_above : Option Shape → LevelName → Mask → Shape
+shape_above below level span =
+    record { name = level; below = name_below below; position = position_above below; span = span }
+
+-- the domains of a CPU from a level up. `span_at` gives the span of each CPU at a level, `group` is
+-- that of the level below, and `below` is the kept domain below.
+abbrev pub domains_from : (LevelName → ℕ → Mask) → ℕ → (ℕ → Mask) → Option Shape → List LevelName → List Domain
+domains_from span_at cpu group below [] = []
+domains_from span_at cpu group below (level ∷ levels) =
+    let span = span_at level cpu in
+    let shape = shape_above below level span in
+    let kept = is_kept below span in
+    (if kept then record { shape = shape; groups = groups_of group span cpu } ∷ [] else [])
+    ++ domains_from span_at cpu (span_at level) (if kept then Some shape else below) levels
+
+-- the domains of a CPU in this partition mask; at the lowest level the groups are single CPUs
+abbrev pub domains_in : List CpuRow → List (List ℕ) → Option Mask → ℕ → List Domain
+domains_in cpus table None cpu = []
+domains_in cpus table (Some part) cpu = domains_from (cut_span cpus table part) cpu only None (levels_of table)
+
+-- the domains of a CPU, from the bottom
+unfoldable pub domains_of : List CpuRow → List (List ℕ) → List Mask → ℕ → List Domain
+domains_of cpus table parts cpu = domains_in cpus table (part_of parts cpu) cpu
+
+-- the domains of every CPU
+unfoldable pub topology_of : List CpuRow → List (List ℕ) → List Mask → List (List Domain)
+topology_of cpus table parts = map (domains_of cpus table parts) (range_with_len 0 (length cpus))
