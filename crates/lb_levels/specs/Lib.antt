@@ -1,2 +1,4 @@
 pub mod Rows
 pub mod Spans
+pub mod Faults
+pub mod Machines

@@ -1,9 +1,25 @@
 -- When the rows of CPUs and the table of distances describe a machine: which CPU cannot stand
 -- beside those before it, which row of distances cannot stand below those before it, and at which
 -- distance the nodes are not nested.
-use Rattle.std.specs.Prelude.{ℕ, ◌==◌, nat_lt, nat_le, Bool, not, ◌&&◌, ◌||◌, Option, is_none, List, [], ◌∷◌, ◌++◌, length, filter, find}
+use Rattle.std.specs.Prelude.{◌≡◌, ℕ, ◌<◌, ◌==◌, nat_lt, nat_le, Bool, not, ◌&&◌, ◌||◌, Option, is_none, List, [], ◌∷◌, ◌++◌, length, filter, find}
 use Rattle.std.specs.List.{range_with_len, slice_index_or, list_any, list_all}
 use Rattle.lb_levels.specs.declared.cpu_row.CpuRow.{CpuRow}
+
+-- the rows of a machine's CPUs, and the distances between its nodes
+pub record Layout : Type 0 where
+  pub cpus : List CpuRow
+  pub distances : List (List ℕ)
+
+abbrev pub layout_of : List CpuRow → List (List ℕ) → Layout
+layout_of cpus distances = record { cpus = cpus; distances = distances }
+
+-- stands where a CPU has no row
+abbrev pub no_row : CpuRow
+no_row = record { core = 0; cache = 0; node = 0 }
+
+-- the row of a CPU
+abbrev pub row_at : List CpuRow → ℕ → CpuRow
+row_at cpus cpu = slice_index_or cpus cpu no_row
 
 -- the two CPUs share a core and not all above it, or a cache and not the node
 abbrev pub clashes : CpuRow → CpuRow → Bool
@@ -15,9 +31,13 @@ clashes a b =
 unfoldable pub cpu_clashes : List CpuRow → CpuRow → Bool
 cpu_clashes earlier row = list_any (λ other. clashes other row) earlier
 
+-- the distances of node a
+abbrev pub distances_at : List (List ℕ) → ℕ → List ℕ
+distances_at table a = slice_index_or table a []
+
 -- the distance from node a to node b
 abbrev pub distance : List (List ℕ) → ℕ → ℕ → ℕ
-distance table a b = slice_index_or (slice_index_or table a []) b 0
+distance table a b = slice_index_or (distances_at table a) b 0
 
 -- the distance of each node from itself
 abbrev pub own_distance : List (List ℕ) → ℕ
@@ -75,3 +95,11 @@ first_not_nested table = find (λ d. not (is_nested_at table d)) (distances_of t
 -- the nodes are nested at each distance
 abbrev pub is_nested : List (List ℕ) → Bool
 is_nested table = is_none (first_not_nested table)
+
+-- each node has as many distances as there are nodes
+abbrev pub IsSquare : List (List ℕ) → Type 0
+IsSquare table = (a : ℕ) → a < length table → length (distances_at table a) ≡ length table
+
+-- each CPU is of a node that the table has
+abbrev pub AllHaveNodes : List CpuRow → List (List ℕ) → Type 0
+AllHaveNodes cpus table = (cpu : ℕ) → cpu < length cpus → (row_at cpus cpu).node < length table

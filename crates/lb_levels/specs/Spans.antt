@@ -1,25 +1,25 @@
 -- The levels of a machine from the bottom, and the span of a CPU at a level: the CPUs that share a
 -- core, a cache or a node with it, or whose nodes are within a distance of its own.
 use Rattle.std.specs.Prelude.{ℕ, ◌==◌, nat_lt, Bool, ◌&&◌, List, ◌∷◌, length, map, filter}
-use Rattle.std.specs.List.{slice_index_or}
+use Rattle.std.specs.List.{range_with_len, slice_index_or}
 use Rattle.lb_base.specs.declared.mask.Mask.{Mask}
 use Rattle.lb_base.specs.declared.shape.LevelName.{LevelName}
 use Rattle.lb_base.specs.declared.shape.LevelName.TheVariants.{Smt, Mc, Pkg, Numa}
 use Rattle.lb_base.specs.Sets.{mask_where}
 use Rattle.lb_levels.specs.declared.cpu_row.CpuRow.{CpuRow}
-use Rattle.lb_levels.specs.Rows.{own_distance, distances_of, is_within}
+use Rattle.lb_levels.specs.Rows.{row_at, own_distance, is_entry, is_within}
 
--- stands where a CPU has no row
-abbrev pub no_row : CpuRow
-no_row = record { core = 0; cache = 0; node = 0 }
+-- some node is at distance d from another
+abbrev pub is_far : List (List ℕ) → ℕ → Bool
+is_far table d = nat_lt (own_distance table) d && is_entry table d
 
--- the row of a CPU
-abbrev pub row_at : List CpuRow → ℕ → CpuRow
-row_at cpus cpu = slice_index_or cpus cpu no_row
-
--- the levels, from the bottom
+-- the levels, from the bottom; distances are below 256
 unfoldable pub levels_of : List (List ℕ) → List LevelName
-levels_of table = Smt ∷ Mc ∷ Pkg ∷ map (λ d. Numa d) (filter (nat_lt (own_distance table)) (distances_of table))
+levels_of table = Smt ∷ Mc ∷ Pkg ∷ map (λ d. Numa d) (filter (is_far table) (range_with_len 0 256))
+
+-- the level with this number, from 0 at the bottom
+abbrev pub level_at : List (List ℕ) → ℕ → LevelName
+level_at table level = slice_index_or (levels_of table) level Smt
 
 -- what the CPUs of these rows share at a level
 abbrev pub shares : List (List ℕ) → LevelName → CpuRow → CpuRow → Bool
@@ -32,3 +32,11 @@ shares table (Numa d) a b = is_within table d a.node b.node
 unfoldable pub span_of : List CpuRow → List (List ℕ) → LevelName → ℕ → Mask
 span_of cpus table level cpu =
     mask_where (λ k. nat_lt k (length cpus) && shares table level (row_at cpus cpu) (row_at cpus k))
+
+-- the spans of all CPUs at a level
+unfoldable pub spans_at : List CpuRow → List (List ℕ) → LevelName → List Mask
+spans_at cpus table level = map (span_of cpus table level) (range_with_len 0 (length cpus))
+
+-- the spans of all CPUs at every level
+unfoldable pub spans_of : List CpuRow → List (List ℕ) → List (List Mask)
+spans_of cpus table = map (spans_at cpus table) (levels_of table)

@@ -2,5 +2,13 @@
 #![tactic(auto)]
 
 mod cpu_row;
+mod faults;
+mod machine;
+mod parts;
+mod rows;
+mod span;
 
 pub use cpu_row::CpuRow;
+pub use faults::{MachineError, PartsFault};
+pub use machine::Machine;
+pub use parts::parts_fault;

@@ -1,0 +1,10 @@
+use Rattle.std.proofs.Common.{◌≡◌, ℕ, ◌<◌, is_some, false}
+use Rattle.lb_levels.specs.Faults.{first_sharing}
+use Rattle.lb_levels.proofs.Overlaps.{IsUnion}
+use Rattle.lb_levels.proofs.parts.first_overlap.Given as goal
+
+abbrev pub invariant-loop-second : goal.invariant-loop-second
+invariant-loop-second l = record {
+  none : (i : ℕ) → i < l.second → is_some (first_sharing l.parts i) ≡ false;
+  union : IsUnion l.parts l.second l.seen;
+}
