@@ -11,7 +11,7 @@ use Rattle.lb_base.specs.Mask.{has}
 use Rattle.lb_base.specs.Figures.{fig_at}
 use Rattle.lb_busiest.specs.Sources.{value_of, may_be_source, has_more, source_of}
 use Rattle.lb_base.specs.Greatest.{IsRanking, Picks}
-use Rattle.lb_base.proofs.Searches.{picks_first_greatest}
+use Rattle.lb_base.proofs.Searches.{first_greatest_picks, picks_first_greatest}
 use Rattle.lb_base.specs.declared.mask.TheConstants.{MAX_CPUS}
 use Rattle.lb_busiest.specs.Ranking.{busiest_of, may_be_busiest, rank, is_busier_within, is_busier, stats_at, is_busier_at}
 
@@ -105,6 +105,20 @@ pub busiest_of-found : (stats : List Stats) (n : ℕ) (o : Option ℕ) → n ≡
 unfolding busiest_of
 busiest_of-found stats n o e found = rw (sym e) (picks_first_greatest (may_be_busiest stats) (is_busier_at stats) n o found)
 
-pub source_of-found : (figs : List Fig) (group : Mask) (kind : MoveKind) (imbalance n : ℕ) (o : Option ℕ) → n ≡ MAX_CPUS → Picks (may_be_source figs group kind imbalance) (has_more figs kind) n o → o ≡ source_of figs group kind imbalance
+pub source_of-found : (figs : List Fig) (group : Mask) (kind : MoveKind) (imbalance : ℕ) (o : Option ℕ) → Picks (may_be_source figs group kind imbalance) (has_more figs kind) MAX_CPUS o → o ≡ source_of figs group kind imbalance
 unfolding source_of
-source_of-found figs group kind imbalance n o e found = rw (sym e) (picks_first_greatest (may_be_source figs group kind imbalance) (has_more figs kind) n o found)
+source_of-found figs group kind imbalance o found = picks_first_greatest (may_be_source figs group kind imbalance) (has_more figs kind) MAX_CPUS o found
+
+-- a CPU that is not of the group gives nothing
+pub no_source : (figs : List Fig) (group : Mask) (kind : MoveKind) (imbalance k : ℕ) → has group k ≡ false → may_be_source figs group kind imbalance k ≡ false
+unfolding may_be_source
+no_source figs group kind imbalance k away = rw away refl
+
+-- ---- what is defined is what is meant
+pub busiest_of_picks : (stats : List Stats) → Picks (may_be_busiest stats) (is_busier_at stats) (length stats) (busiest_of stats)
+unfolding busiest_of
+busiest_of_picks stats = first_greatest_picks (may_be_busiest stats) (is_busier_at stats) (length stats) (busier_ranking stats)
+
+pub source_of_picks : (figs : List Fig) (group : Mask) (kind : MoveKind) (imbalance : ℕ) → Picks (may_be_source figs group kind imbalance) (has_more figs kind) MAX_CPUS (source_of figs group kind imbalance)
+unfolding source_of
+source_of_picks figs group kind imbalance = first_greatest_picks (may_be_source figs group kind imbalance) (has_more figs kind) MAX_CPUS (more_ranking figs kind)

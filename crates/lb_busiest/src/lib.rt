@@ -4,6 +4,8 @@
 mod group;
 pub mod laws;
 mod queue;
+#[cfg(test)]
+mod tests;
 
 pub use group::busiest;
 pub use queue::source;

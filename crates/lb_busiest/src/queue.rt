@@ -15,8 +15,10 @@ pub fn source(figs: &[Fig], group: Mask, kind: MoveKind, imbalance: u64) -> Opti
     ensures first { MatchOption result (NonePasses (may_be_source figs.now group kind imbalance) MAX_CPUS) (IsSource figs.now group kind imbalance) }
 {
     let mut best = None;
-    for cpu in 0..MAX_CPUS {
+    let mut next = group.first();
+    while let Some(cpu) = next {
         best = with_cpu(figs, group, kind, imbalance, cpu, best);
+        next = group.next_after(cpu);
     }
     best
 }

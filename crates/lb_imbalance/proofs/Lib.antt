@@ -1,3 +1,4 @@
 pub mod Groups
 pub mod Statistics
 pub mod Idle
+pub mod Chosen

@@ -3,4 +3,5 @@ pub mod Destination
 pub mod Balance
 pub mod Amount
 pub mod Decision
+pub mod Choice
 pub mod Conditions

@@ -1,7 +1,7 @@
 ghost use Rattle.std.specs.Prelude.{◌≡◌, ◌<◌, length, true};
 ghost use Rattle.lb_base.specs.Mask.{has};
 ghost use Rattle.lb_base.specs.Figures.{AllHaveFigures};
-ghost use Rattle.lb_imbalance.specs.Destination.{balancer_of, first_idle, is_busy, is_idle_in, may_balance};
+ghost use Rattle.lb_imbalance.specs.Destination.{balancer_of, first_idle, is_busy, may_balance};
 
 use lb_base::{Fig, Kind, MAX_CPUS, Mask};
 
@@ -48,20 +48,12 @@ fn first_idle(figs: &[Fig], group: Mask) -> Option<u32>
     requires { AllHaveFigures figs.now group }
     ensures { result ≡ first_idle figs.now group }
 {
-    for cpu in 0..MAX_CPUS {
-        if idle_in(figs, group, cpu) {
+    let mut next = group.first();
+    while let Some(cpu) = next {
+        if figs[cpu as usize].nr == 0 {
             return Some(cpu);
         }
+        next = group.next_after(cpu);
     }
     None
-}
-
-// Whether the CPU is an idle one of the group.
-#[tactic(auto, unfolding(crate::specs::Destination::is_idle_in))]
-fn idle_in(figs: &[Fig], group: Mask, cpu: u32) -> bool
-    requires figures { AllHaveFigures figs.now group }
-    requires in_range { cpu < MAX_CPUS }
-    ensures { result ≡ is_idle_in figs.now group cpu }
-{
-    group.has(cpu) && figs[cpu as usize].nr == 0
 }

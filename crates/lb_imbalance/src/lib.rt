@@ -5,7 +5,7 @@ mod balance;
 mod decision;
 mod destination;
 mod imbalance;
+pub mod laws;
 mod levels;
 
 pub use decision::{Decision, decide};
-pub use imbalance::Imbalance;

@@ -1,2 +1,3 @@
 pub mod Flags
+pub mod Walk
 pub mod Running

@@ -2,6 +2,8 @@
 #![tactic(auto)]
 
 mod statistics;
+#[cfg(test)]
+mod tests;
 mod types;
 
 pub use statistics::group_stats;

@@ -87,7 +87,6 @@ fn marked(fig: &Fig, position: u32) -> bool
     (flags >> (7 + position)) & 1 == 1
 }
 
-#[tactic(auto, using(crate::proofs::Running::total_below_none, crate::proofs::Running::total_below_all, crate::proofs::Running::total_below_yes, crate::proofs::Running::total_below_no, crate::proofs::Running::total_below_fits, crate::proofs::Running::idle_below_none, crate::proofs::Running::idle_below_all, crate::proofs::Running::idle_below_yes, crate::proofs::Running::idle_below_no, crate::proofs::Running::marked_below_none, crate::proofs::Running::marked_below_all, crate::proofs::Running::marked_below_yes, crate::proofs::Running::marked_below_no))]
 fn sums_of(figs: &[Fig], group: Mask, position: u32) -> Sums
     requires figures { AllHaveFigures figs.now group }
     requires sums { HasSmallSums figs.now group }
@@ -106,10 +105,10 @@ fn sums_of(figs: &[Fig], group: Mask, position: u32) -> Sums
         idle: 0,
         marked: false,
     };
-    for cpu in 0..MAX_CPUS {
-        if group.has(cpu) {
-            sums.add(&figs[cpu as usize], position);
-        }
+    let mut next = group.first();
+    while let Some(cpu) = next {
+        sums.add(&figs[cpu as usize], position);
+        next = group.next_after(cpu);
     }
     sums
 }

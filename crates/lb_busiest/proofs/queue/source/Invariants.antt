@@ -1,6 +1,9 @@
-use Rattle.lb_base.specs.Greatest.{Picks}
 use Rattle.lb_busiest.specs.Sources.{may_be_source, has_more}
+use Rattle.lb_busiest.proofs.Walk.{Walks, left}
 use Rattle.lb_busiest.proofs.queue.source.Given as goal
 
-abbrev pub invariant-loop-cpu : goal.invariant-loop-cpu
-invariant-loop-cpu l = Picks (may_be_source l.figs l.group l.kind l.imbalance) (has_more l.figs l.kind) l.cpu l.best
+abbrev pub invariant-loop-next : goal.invariant-loop-next
+invariant-loop-next l = Walks (may_be_source l.figs l.group l.kind l.imbalance) (has_more l.figs l.kind) l.group l.best l.next
+
+abbrev pub decreases-loop-next : goal.decreases-loop-next
+decreases-loop-next l = left l.next

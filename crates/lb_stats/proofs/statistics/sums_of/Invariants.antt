@@ -1,14 +1,16 @@
-use Rattle.std.proofs.Common.{◌≡◌, ◌≤◌}
-use Rattle.lb_stats.proofs.Running.{total_below, idle_below, marked_below}
+use Rattle.std.proofs.Common.{◌≤◌, ◌-◌}
+use Rattle.lb_base.specs.declared.mask.TheConstants.{MAX_CPUS}
+use Rattle.lb_base.specs.Mask.{members_below}
+use Rattle.lb_stats.proofs.Walk.{passed, Stands}
+use Rattle.lb_stats.proofs.Running.{IsSumOver}
 use Rattle.lb_stats.proofs.statistics.sums_of.Given as goal
 
-abbrev pub invariant-loop-cpu : goal.invariant-loop-cpu
-invariant-loop-cpu l = record {
-  nr : l.sums.nr ≡ total_below (λ fig. fig.nr) l.figs l.group l.cpu;
-  load : l.sums.load ≡ total_below (λ fig. fig.load) l.figs l.group l.cpu;
-  util : l.sums.util ≡ total_below (λ fig. fig.util) l.figs l.group l.cpu;
-  runnable : l.sums.runnable ≡ total_below (λ fig. fig.runnable) l.figs l.group l.cpu;
-  idle : l.sums.idle ≡ idle_below l.figs l.group l.cpu;
-  marked : l.sums.marked ≡ marked_below l.position l.figs l.group l.cpu;
-  few_idle : l.sums.idle ≤ l.cpu;
+abbrev pub invariant-loop-next : goal.invariant-loop-next
+invariant-loop-next l = record {
+  at : Stands l.group l.next;
+  so_far : IsSumOver l.position l.figs (members_below l.group (passed l.next)) l.sums;
+  few_idle : l.sums.idle ≤ passed l.next;
 }
+
+abbrev pub decreases-loop-next : goal.decreases-loop-next
+decreases-loop-next l = MAX_CPUS - passed l.next
