@@ -1,0 +1,12 @@
+pub mod Words
+pub mod Reporting
+pub mod Sound
+pub mod Passing
+pub mod Choosing
+pub mod Keeping
+pub mod Uniqueness
+pub mod Legality
+pub mod Headlines
+pub mod Flows
+pub mod Placing
+pub mod Permitting
