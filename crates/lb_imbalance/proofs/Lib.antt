@@ -2,3 +2,4 @@ pub mod Groups
 pub mod Statistics
 pub mod Idle
 pub mod Chosen
+pub mod TwoGroups

@@ -7,5 +7,7 @@ mod destination;
 mod imbalance;
 pub mod laws;
 mod levels;
+#[cfg(test)]
+mod tests;
 
 pub use decision::{Decision, decide};
