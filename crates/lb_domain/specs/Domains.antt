@@ -1,12 +1,13 @@
 -- The scheduling domains of a CPU from scratch, from the spans of the machine alone: the spans cut
 -- to the CPU's partition mask, the levels that are kept of them, and the groups of each kept one in
 -- ring order.
-use Rattle.std.specs.Prelude.{ℕ, ◌+◌, ◌==◌, nat_lt, nat_le, Bool, false, not, ◌&&◌, if◌then◌else◌, Option, Some, None, List, [], ◌∷◌, ◌++◌, length, map, filter, find}
-use Rattle.std.specs.List.{range_with_len}
+use Rattle.std.specs.Prelude.{ℕ, ◌+◌, ◌==◌, nat_lt, nat_le, Bool, false, not, ◌&&◌, if◌then◌else◌, Option, Some, None, unwrap_or, List, [], ◌∷◌, ◌++◌, length, map, filter, find}
+use Rattle.std.specs.List.{range_with_len, slice_index_or, cons_option}
 use Rattle.lb_base.specs.declared.mask.Mask.{Mask}
 use Rattle.lb_base.specs.declared.shape.Shape.{Shape}
 use Rattle.lb_base.specs.declared.shape.LevelName.{LevelName}
-use Rattle.lb_base.specs.Mask.{has, members, only, both}
+use Rattle.lb_base.specs.declared.shape.LevelName.TheVariants.{Smt}
+use Rattle.lb_base.specs.Mask.{has, members, no_cpus, only, both}
 use Rattle.lb_base.specs.Sets.{least}
 use Rattle.lb_levels.specs.declared.cpu_row.CpuRow.{CpuRow}
 use Rattle.lb_levels.specs.Spans.{levels_of, span_of}
@@ -20,23 +21,24 @@ part_of parts cpu = find (λ part. has part cpu) parts
 unfoldable pub cut_span : List CpuRow → List (List ℕ) → Mask → LevelName → ℕ → Mask
 cut_span cpus table part level cpu = both (span_of cpus table level cpu) part
 
--- the least CPU of a mask, if it has one, or 0
-abbrev pub or_zero : Option ℕ → ℕ
-or_zero None = 0
-or_zero (Some k) = k
+-- the CPU is the first of the mask
+abbrev pub is_first : Option ℕ → ℕ → Bool
+is_first None cpu = false
+is_first (Some first) cpu = first == cpu
 
-abbrev pub first_of : Mask → ℕ
-first_of m = or_zero (least m)
-
--- the CPUs of a span that come first in their groups; `group` is the group of each CPU
+-- the CPUs of a span that come first in their groups; `group` gives the group of each CPU
 unfoldable pub firsts : (ℕ → Mask) → Mask → List ℕ
-firsts group span = filter (λ k. first_of (group k) == k) (members span)
+firsts group span = filter (λ k. is_first (least (group k)) k) (members span)
 
--- the groups of a CPU's domain in ring order: by their first CPUs, from that of its own group on
-unfoldable pub groups_of : (ℕ → Mask) → Mask → ℕ → List Mask
-groups_of group span cpu =
-    let own = first_of (group cpu) in
-    map group (filter (nat_le own) (firsts group span) ++ filter (λ k. nat_lt k own) (firsts group span))
+-- the groups of these first CPUs in ring order: from that of the CPU's own group on
+abbrev pub ring_of : (ℕ → Mask) → List ℕ → ℕ → List Mask
+ring_of group firsts cpu =
+    let own = unwrap_or (least (group cpu)) 0 in
+    map group (filter (nat_le own) firsts ++ filter (λ k. nat_lt k own) firsts)
+
+-- the groups of a CPU's domain with this span
+abbrev pub groups_of : (ℕ → Mask) → Mask → ℕ → List Mask
+groups_of group span cpu = ring_of group (firsts group span) cpu
 
 -- the span is that of the kept domain below
 abbrev pub is_span_of : Option Shape → Mask → Bool
@@ -61,16 +63,25 @@ abbrev pub shape_above : Option Shape → LevelName → Mask → Shape
 shape_above below level span =
     record { name = level; below = name_below below; position = position_above below; span = span }
 
--- the domains of a CPU from a level up. `span_at` gives the span of each CPU at a level, `group` is
--- that of the level below, and `below` is the kept domain below.
+-- the domain of a level, if it is kept: `group` gives the span of each CPU at the level below, and
+-- `below` is the kept domain below
+abbrev pub kept_domain : (ℕ → Mask) → ℕ → Option Shape → LevelName → Mask → Option Domain
+kept_domain group cpu below level span =
+    if is_kept below span
+    then Some (record { shape = shape_above below level span; groups = groups_of group span cpu })
+    else None
+
+-- the kept domain below the next level
+abbrev pub below_next : Option Domain → Option Shape → Option Shape
+below_next None below = below
+below_next (Some domain) below = Some domain.shape
+
+-- the domains of a CPU from a level up; `span_at` gives the span of each CPU at a level
 abbrev pub domains_from : (LevelName → ℕ → Mask) → ℕ → (ℕ → Mask) → Option Shape → List LevelName → List Domain
 domains_from span_at cpu group below [] = []
 domains_from span_at cpu group below (level ∷ levels) =
-    let span = span_at level cpu in
-    let shape = shape_above below level span in
-    let kept = is_kept below span in
-    (if kept then record { shape = shape; groups = groups_of group span cpu } ∷ [] else [])
-    ++ domains_from span_at cpu (span_at level) (if kept then Some shape else below) levels
+    let domain = kept_domain group cpu below level (span_at level cpu) in
+    cons_option domain (domains_from span_at cpu (span_at level) (below_next domain below) levels)
 
 -- the domains of a CPU in this partition mask; at the lowest level the groups are single CPUs
 abbrev pub domains_in : List CpuRow → List (List ℕ) → Option Mask → ℕ → List Domain
@@ -84,3 +95,19 @@ domains_of cpus table parts cpu = domains_in cpus table (part_of parts cpu) cpu
 -- the domains of every CPU
 unfoldable pub topology_of : List CpuRow → List (List ℕ) → List Mask → List (List Domain)
 topology_of cpus table parts = map (domains_of cpus table parts) (range_with_len 0 (length cpus))
+
+-- the domains of a CPU in such a list
+abbrev pub domains_at : List (List Domain) → ℕ → List Domain
+domains_at all cpu = slice_index_or all cpu []
+
+-- stands where there is no domain
+abbrev pub no_domain : Domain
+no_domain = record { shape = record { name = Smt; below = None; position = 0; span = no_cpus }; groups = [] }
+
+-- the domain at a position
+abbrev pub domain_at : List Domain → ℕ → Domain
+domain_at domains position = slice_index_or domains position no_domain
+
+-- the group with a number, from the CPU's own on
+abbrev pub group_at : Domain → ℕ → Mask
+group_at domain i = slice_index_or domain.groups i no_cpus

@@ -1,1 +1,4 @@
 pub mod Domains
+pub mod Steps
+pub mod Errors
+pub mod Topologies

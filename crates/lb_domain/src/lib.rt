@@ -1,6 +1,10 @@
 //! The scheduling domains of every CPU, for a machine and a list of partition masks.
 #![tactic(auto)]
 
+mod build;
 mod domain;
+mod ring;
+mod topology;
 
 pub use domain::Domain;
+pub use topology::{BuildError, Topology};

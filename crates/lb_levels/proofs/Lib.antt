@@ -5,3 +5,4 @@ pub mod FaultOrder
 pub mod SpanTables
 pub mod Overlaps
 pub mod Depth
+pub mod Together

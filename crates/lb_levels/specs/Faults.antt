@@ -1,17 +1,17 @@
 -- What keeps the rows of CPUs and the table of distances from being a machine, and what keeps masks
 -- from parting its CPUs: the first fault that there is, and where it is.
-use Rattle.std.specs.Prelude.{ℕ, ◌+◌, ◌==◌, nat_le, max, Bool, not, ◌||◌, Option, Some, None, is_some, option_and_then, List, [], ◌∷◌, length, take, find}
-use Rattle.std.specs.List.{range_with_len, slice_index_or}
+use Rattle.std.specs.Prelude.{◌≡◌, ℕ, ◌+◌, ◌<◌, ◌==◌, nat_le, max, Bool, true, false, not, ◌||◌, Option, Some, None, is_some, option_and_then, List, [], ◌∷◌, length, take, find}
+use Rattle.std.specs.List.{range_with_len, slice_index_or, list_all}
 use Rattle.std.specs.Option.{option_map}
 use Rattle.lb_base.specs.declared.mask.Mask.{Mask}
 use Rattle.lb_base.specs.Mask.{no_cpus}
-use Rattle.lb_base.specs.Sets.{is_below, are_apart}
+use Rattle.lb_base.specs.Sets.{is_below, are_apart, are_disjoint}
 use Rattle.lb_levels.specs.declared.cpu_row.CpuRow.{CpuRow}
 use Rattle.lb_levels.specs.declared.faults.MachineError.{MachineError}
 use Rattle.lb_levels.specs.declared.faults.MachineError.TheVariants.{BadCpu, BadDistance, NotNested}
 use Rattle.lb_levels.specs.declared.faults.PartsFault.{PartsFault}
 use Rattle.lb_levels.specs.declared.faults.PartsFault.TheVariants.{NoSuchCpu, Overlap}
-use Rattle.lb_levels.specs.Rows.{row_at, distances_at, cpu_clashes, is_bad_distance, first_not_nested}
+use Rattle.lb_levels.specs.Rows.{row_at, distances_at, cpu_clashes, is_bad_distance, is_nested, first_not_nested, IsSquare}
 
 -- the first of two faults, where there is one
 abbrev pub or_else : {F : Type 0} → Option F → Option F → Option F
@@ -68,3 +68,17 @@ first_overlap parts =
 -- the first fault of the masks
 unfoldable pub parts_fault_of : ℕ → List Mask → Option PartsFault
 parts_fault_of cpus parts = or_else (option_map (λ part. NoSuchCpu part) (first_past cpus parts)) (first_overlap parts)
+
+-- the rows and the table describe a machine: each line can stand after those before it, the table
+-- has a row and an entry for each node, and the nodes are nested
+pub record IsMachine (cpus : List CpuRow) (table : List (List ℕ)) : Type 0 where
+  pub cpus_stand : (k : ℕ) → k < length cpus → cpu_clashes (take k cpus) (row_at cpus k) ≡ false
+  pub rows : length table ≡ nodes_of cpus
+  pub square : IsSquare table
+  pub rows_stand : (a : ℕ) → a < length table → is_bad_distance (take a table) (distances_at table a) ≡ false
+  pub nested : is_nested table ≡ true
+
+-- the masks part a machine's CPUs: each has CPUs of the machine alone, and no two share one
+pub record ArePartition (cpus : ℕ) (parts : List Mask) : Type 0 where
+  pub below : list_all (λ part. is_below part cpus) parts ≡ true
+  pub apart : are_disjoint parts ≡ true

@@ -3,6 +3,7 @@
 
 mod cpu_row;
 mod faults;
+pub mod laws;
 mod machine;
 mod parts;
 mod rows;

@@ -1,0 +1,5 @@
+pub mod Filters
+pub mod Rings
+pub mod OneLevel
+pub mod Parts
+pub mod Sizes

@@ -1,0 +1,6 @@
+use Rattle.std.proofs.Common.{◌≡◌, drop}
+use Rattle.lb_domain.specs.Domains.{part_of}
+use Rattle.lb_domain.proofs.build.part_of.Given as goal
+
+abbrev pub invariant-loop-part : goal.invariant-loop-part
+invariant-loop-part l = part_of l.parts l.cpu ≡ part_of (drop l.part-index l.parts) l.cpu
