@@ -1,5 +1,5 @@
 -- What may be drawn at each form of the lane's course: one entry alone, but for a row or the end at rest.
-use Rattle.std.proofs.Common.{◌≡◌, ℕ, ◌+◌, max, Bool, true, false, not, ◌&&◌, ◌||◌, ◌==◌, eqb, nat_lt, ltb, ◌⊎◌, inl, inr, List, [], ◌∷◌, Option, Some, None, refl, sym, ◌∙◌, ap, subst, arith}
+use Rattle.std.proofs.Common.{◌≡◌, ℕ, ◌+◌, max, Bool, true, false, not, ◌&&◌, ◌||◌, ◌==◌, eqb, nat_lt, ◌⊎◌, inl, inr, List, Option, Some, None, refl, sym, ◌∙◌, ap, arith}
 use Rattle.std.specs.List.{slice_index_or}
 use Rattle.std.proofs.lemmas.Bool.{eqb-true}
 use Rattle.std.proofs.lemmas.Bool.Decides.{nat_tests}
@@ -21,10 +21,10 @@ use Rattle.lb.specs.declared.entry.Entry.{Entry}
 use Rattle.lb.specs.declared.places.Place.{Place}
 use Rattle.lb.specs.declared.places.Place.TheVariants.{Awake as AwakeAt, Asleep as AsleepAt, Gone as GoneAt}
 use Rattle.lb.specs.declared.state.State.{State}
-use Rattle.lb.specs.Words.{same_owner, kind_rank, same_kind, reply_rank, same_reply}
-use Rattle.lb.specs.Stage.{kind_of, is_queue, rest_allows, asked_allows, due_allows, used_allows, done_allows, form_allows, stage_allows}
+use Rattle.lb.specs.Words.{same_owner, same_kind, reply_rank, same_reply}
+use Rattle.lb.specs.Stage.{kind_of, rest_allows, asked_allows, due_allows, used_allows, done_allows, form_allows}
 use Rattle.lb.specs.Service.{service}
-use Rattle.lb.specs.Rules.{last_of, breaks_row, is_at, task_is_at, breaks_place, breaks_reply, breaks_version, breaks_counters, end_is_wrong, first_broken}
+use Rattle.lb.specs.Rules.{last_of, breaks_row, is_at, task_is_at, breaks_place, breaks_reply, breaks_version, first_broken}
 use Rattle.lb.specs.Choices.{row_entry, did_entry, use_entry, turn_entry, over_entry, end_entry}
 use Rattle.lb.proofs.Sound.{AreAtHome, IsIdleTurn, TurnFits, IsSound}
 use Rattle.lb.proofs.Passing.{Passes, passes}

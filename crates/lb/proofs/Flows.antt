@@ -1,15 +1,15 @@
 -- What a command moves: one task from one side of the queue to another, or none.
-use Rattle.std.proofs.Common.{◌≡◌, ℕ, ◌+◌, Bool, true, false, not, ◌==◌, ◌&&◌, cond, eqb, List, [], ◌∷◌, ◌++◌, reverse, Option, Some, None, refl, sym, ◌∙◌, ap, subst, inl, inr, ◌⊎◌, arith}
+use Rattle.std.proofs.Common.{◌≡◌, ℕ, ◌+◌, Bool, true, false, not, ◌&&◌, cond, List, [], ◌∷◌, ◌++◌, reverse, Option, Some, None, refl, sym, ◌∙◌, ap, subst, inl, inr, ◌⊎◌, arith}
 use Rattle.std.specs.List.{count_by}
 use Rattle.std.proofs.lemmas.List.Sums.{sum_by-cons, sum_by-append}
-use Rattle.std.proofs.lemmas.List.{reverse-append, reverse-reverse}
+use Rattle.std.proofs.lemmas.List.{reverse-append}
 use Rattle.lb_queue.specs.declared.types.TaskRecord.{TaskRecord}
 use Rattle.lb_trace.specs.declared.trace.Command.{Command}
 use Rattle.lb_trace.specs.declared.trace.Command.TheVariants.{Wake, Sleep, Exit}
 use Rattle.lb_trace.specs.Accepted.{task_of_command}
 use Rattle.lb_queue.specs.declared.types.Awake.{Awake}
 use Rattle.lb_queue.specs.declared.types.Reply.{Reply}
-use Rattle.lb_queue.specs.declared.types.Reply.TheVariants.{Done, Already, NotHere, Gone}
+use Rattle.lb_queue.specs.declared.types.Reply.TheVariants.{Done}
 use Rattle.lb_queue.specs.declared.types.StopRequest.TheVariants.{Free}
 use Rattle.lb_queue.specs.Queue.{QueueState, is_awake, is_asleep, is_gone}
 use Rattle.lb_queue.specs.Commands.{refused, woken, slept, exited, exited_asleep, wake, sleep, exit}

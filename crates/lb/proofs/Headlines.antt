@@ -1,7 +1,6 @@
 -- Where the work is done, what was written is the text of the trace's one history.
-use Rattle.std.proofs.Common.{◌≡◌, ℕ, zero, suc, List, [], ◌∷◌, take, Option, Some, None, Ok, refl, sym, subst, rules}
-use Rattle.std.specs.Prelude.{IfSome}
-use Rattle.std.specs.Io.KnownBytes.{Appends, IsAtEnd}
+use Rattle.std.proofs.Common.{◌≡◌, ℕ, zero, suc, List, [], ◌∷◌, take, Option, Some, None, Ok, refl}
+use Rattle.std.specs.Io.KnownBytes.{Appends}
 use Rattle.lb_trace.specs.declared.trace.Trace.{Trace}
 use Rattle.lb_trace.specs.Grammar.{reading_of}
 use Rattle.lb_trace.specs.Accepted.{IsTrace}
@@ -13,7 +12,7 @@ use Rattle.lb.specs.After.{after}
 use Rattle.lb.specs.Legal.{start, MayFollow}
 use Rattle.lb.specs.Serial.{serial}
 use Rattle.lb.specs.Text.{history_text}
-use Rattle.lb.specs.Answers.{Ends, OfTrace, answer_text, Works, Answers, IsTheHistory, Headline}
+use Rattle.lb.specs.Answers.{Ends, OfTrace, answer_text, Answers, IsTheHistory, Headline}
 use Rattle.lb.proofs.Uniqueness.{one_history}
 use Rattle.lb.proofs.Legality.{serial_is_history}
 use Rattle.lb.proofs.Placing.{placed_always}

@@ -1,6 +1,5 @@
 -- A state of one CPU and one lane stays one, whatever entry is drawn that breaks no rule.
-use Rattle.std.proofs.Common.{◌≡◌, ℕ, zero, suc, Bool, true, false, ◌==◌, List, [], ◌∷◌, length, set, replicate, Option, Some, None, arith, ◌≤◌, refl, sym, ◌∙◌, ap, subst, inl, inr, ◌⊎◌}
-use Rattle.std.specs.List.{slice_index_or}
+use Rattle.std.proofs.Common.{◌≡◌, ℕ, zero, suc, Bool, true, false, List, [], ◌∷◌, set, replicate, Option, Some, None, arith, ◌≤◌, refl, sym, subst, inl, inr}
 use Rattle.lb_trace.specs.declared.trace.Command.{Command}
 use Rattle.lb_trace.specs.declared.trace.Command.TheVariants.{Wake, Sleep, Exit}
 use Rattle.lb_trace.specs.declared.trace.Header.{Header}

@@ -1,41 +1,40 @@
 -- The serial history is legal, and holds the rows of its trace.
-use Rattle.std.proofs.Common.{◌≡◌, ℕ, suc, ◌+◌, ◌<◌, ◌≤◌, max, Bool, true, false, not, ◌&&◌, ◌||◌, ◌==◌, eqb, nat_lt, ltb, ◌⊎◌, inl, inr, List, [], ◌∷◌, ◌++◌, fold, length, set, length-set, All, Option, Some, None, is_some, refl, sym, ◌∙◌, ap, subst, arith, append_assoc}
+use Rattle.std.proofs.Common.{◌≡◌, ℕ, suc, ◌+◌, ◌<◌, ◌≤◌, max, Bool, true, false, not, ◌||◌, ◌==◌, nat_lt, ◌⊎◌, inl, inr, List, [], ◌∷◌, ◌++◌, fold, length, length-set, All, Option, Some, None, is_some, refl, sym, ◌∙◌, ap, subst, arith, append_assoc}
 use Rattle.std.proofs.lemmas.List.{append-nil, length-replicate}
 use Rattle.std.proofs.lemmas.Bool.{eq-eqb, lt-ltb}
 use Rattle.std.proofs.lemmas.Bool.Decides.{nat_tests}
 use Rattle.lb_trace.specs.declared.trace.Command.{Command}
-use Rattle.lb_trace.specs.Accepted.{task_of_command, IsRow, IsTrace}
+use Rattle.lb_trace.specs.Accepted.{task_of_command, IsRow}
 use Rattle.lb_trace.specs.declared.trace.Command.TheVariants.{Wake, Sleep, Exit}
 use Rattle.lb_trace.specs.declared.trace.Row.{Row}
 use Rattle.lb_trace.specs.declared.trace.TaskRow.{TaskRow}
 use Rattle.lb_trace.specs.declared.trace.Header.{Header}
-use Rattle.lb_trace.specs.declared.trace.Trace.{Trace}
 use Rattle.lb_queue.specs.declared.types.Reply.{Reply}
 use Rattle.lb_queue.specs.declared.types.Reply.TheVariants.{Done as DoneReply, Already, NotHere, Gone, BadMask}
 use Rattle.lb_queue.specs.declared.types.TaskRecord.{TaskRecord}
 use Rattle.lb_queue.specs.declared.types.Awake.{Awake}
 use Rattle.lb_queue.specs.declared.types.OpenTurn.{OpenTurn}
 use Rattle.lb_queue.specs.Queue.{QueueState, empty_queue, is_awake, is_asleep, is_gone, declared}
-use Rattle.lb_queue.specs.Tasks.{has_id, taken, let_go}
+use Rattle.lb_queue.specs.Tasks.{has_id, taken}
 use Rattle.lb_queue.specs.Commands.{refused, woken, slept, exited, exited_asleep, wake, sleep, exit}
 use Rattle.lb_queue.specs.Turns.{turn, end_turn}
 use Rattle.lb.specs.declared.course.Course.{Course}
 use Rattle.lb.specs.declared.course.Form.{Form}
-use Rattle.lb.specs.declared.course.Form.TheVariants.{Rest, Asked, Due, Used, Done, Ended}
+use Rattle.lb.specs.declared.course.Form.TheVariants.{Rest, Asked, Due, Used, Done}
 use Rattle.lb.specs.declared.entry.Owner.TheVariants.{Queue}
 use Rattle.lb.specs.declared.entry.What.TheVariants.{Did}
 use Rattle.lb.specs.declared.entry.Entry.{Entry}
 use Rattle.lb.specs.declared.places.Place.{Place}
 use Rattle.lb.specs.declared.state.State.{State}
 use Rattle.lb.specs.Words.{reply_rank}
-use Rattle.lb.specs.Service.{command_step, in_service, service, turned}
+use Rattle.lb.specs.Service.{in_service, service, turned}
 use Rattle.lb.specs.Rules.{task_is_at, first_broken}
 use Rattle.lb.specs.After.{leaves_idle, answered, places_after, after}
-use Rattle.lb.specs.Legal.{with_tasks, start, run, MayFollow, row_of, rows_of, IsHistoryOf}
+use Rattle.lb.specs.Legal.{with_tasks, start, run, MayFollow, row_of, rows_of}
 use Rattle.lb.specs.Choices.{row_entry, did_entry, use_entry, turn_entry, over_entry, end_entry}
 use Rattle.lb.specs.Serial.{Front, adds, followed, served, serial, SerialIsHistory}
 use Rattle.lb.proofs.Sound.{AreAtHome, IsIdleTurn, IsSound}
-use Rattle.lb.proofs.Passing.{Passes, unbroken}
+use Rattle.lb.proofs.Passing.{unbroken}
 use Rattle.lb.proofs.Keeping.{kept, start_sound}
 
 -- ---- the commands leave the turn and the active request alone

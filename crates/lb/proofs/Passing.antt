@@ -1,11 +1,11 @@
 -- An entry breaks no rule exactly where it passes each test.
-use Rattle.std.proofs.Common.{◌≡◌, ℕ, ◌==◌, Bool, true, false, not, ◌||◌, cond, List, [], ◌∷◌, Option, Some, None, refl, sym, ◌∙◌, ap}
+use Rattle.std.proofs.Common.{◌≡◌, ◌==◌, Bool, true, false, not, ◌||◌, cond, Option, Some, None, refl}
 use Rattle.lb.specs.declared.entry.Entry.{Entry}
 use Rattle.lb.specs.declared.entry.Rule.{Rule}
 use Rattle.lb.specs.declared.entry.Rule.TheVariants.{Prev, Stage, Row, Place, Reply, Version, Counters, End}
 use Rattle.lb.specs.declared.state.State.{State}
 use Rattle.lb.specs.Stage.{stage_allows}
-use Rattle.lb.specs.Rules.{last_of, breaks_row, breaks_place, breaks_reply, breaks_version, breaks_counters, end_is_wrong, tests_of, first_of_tests, first_broken}
+use Rattle.lb.specs.Rules.{last_of, breaks_row, breaks_place, breaks_reply, breaks_version, breaks_counters, end_is_wrong, tests_of, first_broken}
 
 pub record Passes (m : State) (e : Entry) : Type 0 where
   pub prev : not (e.prev == last_of m e.lane) ≡ false

@@ -1,5 +1,5 @@
 -- No task comes to a queue whose mask lacks its CPU, and no command changes that.
-use Rattle.std.proofs.Common.{◌≡◌, ℕ, zero, suc, ◌+◌, ◌<◌, ◌≤◌, Bool, true, false, not, ◌&&◌, ◌||◌, cond, List, [], ◌∷◌, ◌++◌, length, get_or, All, Option, Some, None, refl, sym, ◌∙◌, ap, subst, inl, inr, ◌⊎◌, arith}
+use Rattle.std.proofs.Common.{◌≡◌, ℕ, zero, suc, ◌+◌, Bool, true, false, not, ◌&&◌, ◌||◌, List, [], ◌∷◌, get_or, All, Option, Some, None, refl, sym, ◌∙◌, ap, subst, inl, inr, arith}
 use Rattle.std.specs.List.{count_by}
 use Rattle.lb_base.specs.declared.mask.Mask.{Mask}
 use Rattle.lb_base.specs.Mask.{has, only}
@@ -22,12 +22,11 @@ use Rattle.lb.specs.Service.{command_step, in_service, service, turned}
 use Rattle.lb.specs.Rules.{first_broken}
 use Rattle.lb.specs.After.{after}
 use Rattle.lb.specs.Legal.{with_tasks, start, run, MayFollow}
-use Rattle.lb.specs.Placing.{is_asked, is_permitted, Permitted, PermittedAlways}
-use Rattle.lb.specs.Choices.{row_entry, did_entry, use_entry, turn_entry, over_entry, end_entry}
+use Rattle.lb.specs.Placing.{is_asked, PermittedAlways}
 use Rattle.lb.proofs.Sound.{IsSound}
 use Rattle.lb.proofs.Choosing.{Chosen, chosen}
 use Rattle.lb.proofs.Keeping.{kept, start_sound}
-use Rattle.lb.proofs.Flows.{Side, Up, Down, Out, same_side, bit, count_at, count_cons, count_push, Flow, side_to, Effect, effect, same_counts, side_refl}
+use Rattle.lb.proofs.Flows.{Side, Up, Down, Out, same_side, bit, count_at, count_cons, count_push, side_to, Effect, effect, same_counts, side_refl}
 
 lacks : TaskRecord → Bool
 lacks t = not (has t.mask 0)

@@ -1,21 +1,20 @@
 -- Each declared task stands once, at its place in the map, after every legal front.
-use Rattle.std.proofs.Common.{◌≡◌, ℕ, zero, suc, ◌+◌, ◌<◌, ◌≤◌, Bool, true, false, not, ◌==◌, ◌&&◌, cond, eqb, nat_lt, ltb, List, [], ◌∷◌, ◌++◌, length, set, length-set, length-append, replicate, get_or, Option, Some, None, refl, sym, ◌∙◌, ap, subst, inl, inr, ◌⊎◌, arith}
+use Rattle.std.proofs.Common.{◌≡◌, ℕ, zero, suc, ◌+◌, ◌<◌, ◌≤◌, Bool, true, false, not, ◌==◌, ◌&&◌, cond, eqb, nat_lt, List, [], ◌∷◌, length, set, length-set, replicate, Option, Some, None, refl, sym, ◌∙◌, ap, subst, inl, inr, arith}
 use Rattle.std.specs.List.{slice_index_or, count_by}
 use Rattle.std.proofs.lemmas.List.{get_or-set_same, get_or-set_other, length-replicate}
 use Rattle.std.proofs.lemmas.Bool.Decides.{nat_tests}
-use Rattle.std.proofs.lemmas.Bool.{eqb-true, eqb-false, eq-eqb, ne_eqb, ltb-true}
+use Rattle.std.proofs.lemmas.Bool.{eqb-true, eqb-false, ne_eqb, ltb-true}
 use Rattle.lb_trace.specs.declared.trace.Command.{Command}
 use Rattle.lb_trace.specs.declared.trace.Command.TheVariants.{Wake, Sleep, Exit}
 use Rattle.lb_trace.specs.Accepted.{task_of_command}
 use Rattle.lb_trace.specs.declared.trace.TaskRow.{TaskRow}
 use Rattle.lb_trace.specs.declared.trace.Header.{Header}
 use Rattle.lb_queue.specs.declared.types.TaskRecord.{TaskRecord}
-use Rattle.lb_queue.specs.declared.types.Awake.{Awake}
 use Rattle.lb_queue.specs.declared.types.Reply.{Reply}
 use Rattle.lb_queue.specs.declared.types.Reply.TheVariants.{Done as DoneReply, Already, NotHere, Gone, BadMask}
 use Rattle.lb_queue.specs.declared.types.OpenTurn.{OpenTurn}
 use Rattle.lb_queue.specs.Queue.{QueueState, empty_queue, declared}
-use Rattle.lb_queue.specs.Tasks.{has_id, has_awake_id}
+use Rattle.lb_queue.specs.Tasks.{has_id}
 use Rattle.lb_queue.specs.Turns.{turn, end_turn}
 use Rattle.lb_queue.specs.Turns as turns
 use Rattle.lb.specs.declared.course.Form.{Form}
@@ -33,9 +32,9 @@ use Rattle.lb.specs.Service.{command_step, in_service, service, turned}
 use Rattle.lb.specs.Rules.{is_at, first_broken}
 use Rattle.lb.specs.After.{moved, places_after, after}
 use Rattle.lb.specs.Legal.{with_tasks, start, run, MayFollow}
-use Rattle.lb.specs.Placing.{times, is_its_place, Placed, PlacedAlways}
+use Rattle.lb.specs.Placing.{times, is_its_place, PlacedAlways}
 use Rattle.lb.specs.Choices.{row_entry, did_entry, use_entry, turn_entry, over_entry, end_entry}
-use Rattle.lb.proofs.Sound.{AreAtHome, IsSound}
+use Rattle.lb.proofs.Sound.{IsSound}
 use Rattle.lb.proofs.Choosing.{Chosen, chosen, both_true}
 use Rattle.lb.proofs.Keeping.{kept, start_sound}
 use Rattle.lb.proofs.Flows.{Side, Up, Down, Out, same_side, bit, side_refl, count_at, count_push, Flow, side_to, Effect, effect}

@@ -1,6 +1,6 @@
 -- What holds at every state of a machine of one CPU and one lane: one version is published and named, each task
 -- is at home on CPU 0, and a turn that is due, taken up or over is an idle turn of CPU 0.
-use Rattle.std.specs.Prelude.{ℕ, ◌≡◌, ◌≤◌, Bool, true, false, Some, None, List, is_some}
+use Rattle.std.specs.Prelude.{ℕ, ◌≡◌, ◌≤◌, true, Some, List, is_some}
 use Rattle.std.specs.List.{slice_index_or}
 use Rattle.lb_base.specs.declared.shape.Kind.TheVariants.{Idle}
 use Rattle.lb.specs.declared.course.Course.{Course}

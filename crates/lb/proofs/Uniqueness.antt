@@ -1,7 +1,6 @@
 -- A trace has at most one legal history: at each state the rules and the rows leave one entry.
-use Rattle.std.proofs.Common.{◌≡◌, Bool, true, false, ◌||◌, List, [], ◌∷◌, ◌++◌, None, refl, sym, ◌∙◌, ap, subst, inl, inr, ◌⊎◌}
+use Rattle.std.proofs.Common.{◌≡◌, true, false, List, [], ◌∷◌, ◌++◌, refl, sym, ◌∙◌, ap, subst, inl, inr}
 use Rattle.lb_trace.specs.declared.trace.Row.{Row}
-use Rattle.lb_trace.specs.declared.trace.Trace.{Trace}
 use Rattle.lb.specs.declared.course.Form.{Form}
 use Rattle.lb.specs.declared.course.Form.TheVariants.{Rest, Asked, Due, Used, Done, Ended}
 use Rattle.lb.specs.declared.entry.What.{What}
@@ -9,7 +8,7 @@ use Rattle.lb.specs.declared.entry.What.TheVariants.{Row as RowEntry, Adopt, End
 use Rattle.lb.specs.declared.entry.Entry.{Entry}
 use Rattle.lb.specs.declared.state.State.{State}
 use Rattle.lb.specs.After.{after}
-use Rattle.lb.specs.Legal.{start, run, MayFollow, row_of, rows_of, IsHistoryOf, OneHistory}
+use Rattle.lb.specs.Legal.{start, run, MayFollow, row_of, rows_of, OneHistory}
 use Rattle.lb.specs.Choices.{row_entry, end_entry}
 use Rattle.lb.proofs.Sound.{IsSound}
 use Rattle.lb.proofs.Passing.{passes}

@@ -1,18 +1,17 @@
 -- The state that an entry leaves: the queue, the lane's course, and the place of each task.
-use Rattle.std.specs.Prelude.{ℕ, ◌+◌, Bool, true, false, not, ◌&&◌, ◌||◌, Some, None, List, [], ◌∷◌, slice_set}
+use Rattle.std.specs.Prelude.{ℕ, ◌+◌, Bool, true, false, not, ◌&&◌, Some, None, List, [], ◌∷◌, slice_set}
 use Rattle.std.specs.declared.option.Option.{Option}
 use Rattle.lb_base.specs.declared.shape.Kind.TheVariants.{Idle}
 use Rattle.lb_trace.specs.declared.trace.Command.{Command}
 use Rattle.lb_trace.specs.declared.trace.Command.TheVariants.{Wake, Sleep, Exit}
 use Rattle.lb_queue.specs.declared.types.Awake.{Awake}
-use Rattle.lb_queue.specs.declared.types.Reply.{Reply}
 use Rattle.lb_queue.specs.declared.types.Reply.TheVariants.{Done as DoneReply}
 use Rattle.lb_queue.specs.Queue.{QueueState}
 use Rattle.lb_queue.specs.Turns.{end_turn}
 use Rattle.lb.specs.declared.course.Course.{Course}
 use Rattle.lb.specs.declared.course.Form.TheVariants.{Rest, Asked, Due, Used, Done, Ended}
 use Rattle.lb.specs.declared.entry.Owner.{Owner}
-use Rattle.lb.specs.declared.entry.Owner.TheVariants.{Lane, Queue}
+use Rattle.lb.specs.declared.entry.Owner.TheVariants.{Queue}
 use Rattle.lb.specs.declared.entry.What.{What}
 use Rattle.lb.specs.declared.entry.What.TheVariants.{Row, Adopt, End, Did, Turn, Over}
 use Rattle.lb.specs.declared.entry.Entry.{Entry}

@@ -1,6 +1,6 @@
 -- Legal fronts and histories: each entry breaks no rule where it stands, and the last one of a
 -- history is `end`. And the history of a trace: a legal one with the trace's rows, each once, in order.
-use Rattle.std.specs.Prelude.{ℕ, ◌≡◌, ◌+◌, Bool, true, false, None, List, [], ◌∷◌, ◌++◌, length, replicate}
+use Rattle.std.specs.Prelude.{ℕ, ◌≡◌, ◌+◌, true, false, None, List, [], ◌∷◌, ◌++◌, length, replicate}
 use Rattle.lb_trace.specs.declared.trace.Row.{Row}
 use Rattle.lb_trace.specs.declared.trace.TaskRow.{TaskRow}
 use Rattle.lb_trace.specs.declared.trace.Header.{Header}

@@ -1,5 +1,5 @@
 -- Which rules an entry breaks at a state of the machine, and the first of them.
-use Rattle.std.specs.Prelude.{ℕ, ◌+◌, max, ◌==◌, nat_lt, Bool, true, false, not, ◌&&◌, ◌||◌, if◌then◌else◌, Some, None, List, [], ◌∷◌, length, is_some}
+use Rattle.std.specs.Prelude.{ℕ, ◌+◌, max, ◌==◌, nat_lt, Bool, true, false, not, ◌||◌, if◌then◌else◌, Some, None, List, [], ◌∷◌, length, is_some}
 use Rattle.std.specs.declared.option.Option.{Option}
 use Rattle.std.specs.List.{slice_index_or}
 use Rattle.lb_trace.specs.declared.trace.Command.{Command}
@@ -7,9 +7,9 @@ use Rattle.lb_trace.specs.Accepted.{task_of_command}
 use Rattle.lb_queue.specs.declared.types.TurnReply.{TurnReply}
 use Rattle.lb_queue.specs.declared.types.TurnReply.TheVariants.{Opened, TurnOpen}
 use Rattle.lb.specs.declared.entry.Owner.{Owner}
-use Rattle.lb.specs.declared.entry.Owner.TheVariants.{Lane, Queue}
+use Rattle.lb.specs.declared.entry.Owner.TheVariants.{Queue}
 use Rattle.lb.specs.declared.entry.What.{What}
-use Rattle.lb.specs.declared.entry.What.TheVariants.{Row as RowEntry, Adopt, End as EndEntry, Did, Turn, Over}
+use Rattle.lb.specs.declared.entry.What.TheVariants.{Row as RowEntry, Adopt, End as EndEntry, Did, Turn}
 use Rattle.lb.specs.declared.entry.Entry.{Entry}
 use Rattle.lb.specs.declared.entry.Rule.{Rule}
 use Rattle.lb.specs.declared.entry.Rule.TheVariants.{Prev, Stage, Row, Place as PlaceRule, Reply as ReplyRule, Version, Counters, End}

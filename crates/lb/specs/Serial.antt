@@ -1,11 +1,10 @@
 -- The serial history: the rows in file order, each with all that follows it up to rest, and the end.
-use Rattle.std.specs.Prelude.{ℕ, ◌+◌, List, [], ◌∷◌, ◌++◌, fold}
+use Rattle.std.specs.Prelude.{List, [], ◌∷◌, ◌++◌, fold}
 use Rattle.lb_trace.specs.declared.trace.Row.{Row}
-use Rattle.lb_trace.specs.declared.trace.Header.{Header}
 use Rattle.lb_trace.specs.declared.trace.Trace.{Trace}
 use Rattle.lb_trace.specs.Accepted.{IsTrace}
 use Rattle.lb.specs.declared.course.Form.{Form}
-use Rattle.lb.specs.declared.course.Form.TheVariants.{Rest, Asked, Due, Used, Done, Ended}
+use Rattle.lb.specs.declared.course.Form.TheVariants.{Due}
 use Rattle.lb.specs.declared.entry.Entry.{Entry}
 use Rattle.lb.specs.declared.state.State.{State}
 use Rattle.lb.specs.Choices.{row_entry, did_entry, use_entry, turn_entry, over_entry, end_entry}

@@ -1,5 +1,5 @@
 -- What the course of a lane lets it draw next: the kind of the entry, and whose it is.
-use Rattle.std.specs.Prelude.{ℕ, ◌==◌, Bool, true, false, ◌&&◌, Some, None, unwrap_or}
+use Rattle.std.specs.Prelude.{ℕ, ◌==◌, Bool, true, false, ◌&&◌, unwrap_or}
 use Rattle.lb_base.specs.declared.shape.Kind.{Kind}
 use Rattle.lb_base.specs.declared.shape.Kind.TheVariants.{Tick}
 use Rattle.lb.specs.declared.course.Course.{Course}

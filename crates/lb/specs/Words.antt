@@ -1,5 +1,5 @@
 -- When two of an entry's parts are the same: owners, kinds, replies and places.
-use Rattle.std.specs.Prelude.{ℕ, ◌==◌, Bool, true, false}
+use Rattle.std.specs.Prelude.{ℕ, ◌==◌, Bool, false}
 use Rattle.lb_base.specs.declared.shape.Kind.{Kind}
 use Rattle.lb_base.specs.declared.shape.Kind.TheVariants.{Tick, Idle, Nohz}
 use Rattle.lb_queue.specs.declared.types.Reply.{Reply}
