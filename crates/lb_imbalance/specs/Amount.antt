@@ -28,8 +28,8 @@ spare_room busy local =
     if room == 0 && not busy then one_task else record { kind = Util; amount = room }
 
 -- half of the difference in tasks, or in idle CPUs
-abbrev pub half_of_tasks : Shape → Stats → Stats → Imbalance
-half_of_tasks shape local busiest = record {
+abbrev pub half_of_difference : Shape → Stats → Stats → Imbalance
+half_of_difference shape local busiest = record {
   kind = Tasks;
   amount = if busiest.weight == 1 || has_siblings shape.below then (busiest.nr - local.nr) / 2 else (local.idle - busiest.idle) / 2;
 }
@@ -48,7 +48,7 @@ load_to_average average local busiest = record {
 abbrev pub imbalance_as : GroupType → GroupType → Shape → Bool → ℕ → Stats → Stats → Imbalance
 imbalance_as Imbalanced g shape busy average local busiest = one_task
 imbalance_as b HasSpare shape busy average local busiest =
-    if is_pressed b && is_above_cache shape.name then spare_room busy local else half_of_tasks shape local busiest
+    if is_pressed b && is_above_cache shape.name then spare_room busy local else half_of_difference shape local busiest
 imbalance_as b g shape busy average local busiest = load_to_average average local busiest
 
 -- the imbalance

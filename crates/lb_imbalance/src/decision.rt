@@ -34,9 +34,10 @@ pub enum Decision {
 /// The decision of `cpu` about one of its domains, of the given shape and groups
 /// (docs/rules/decision.md).
 ///
-/// The groups stand in ring order from the local one, which has `cpu`. `figs` has a figure for each
-/// CPU of the span, from CPU 0. `excluded` are CPUs of other groups from which nothing could be
-/// pulled; they count nowhere.
+/// The groups, at most 64, make up the span, and stand in ring order from the local one, which has
+/// `cpu`. `figs` has a figure for each CPU of the span, from CPU 0; their sums over all groups are
+/// below 2^40. `excluded` are CPUs of other groups from which nothing could be pulled: they count
+/// nowhere.
 #[tactic(auto, unfolding(crate::specs::Decision::decision))]
 pub fn decide(
     shape: &Shape,

@@ -1,5 +1,5 @@
 ghost use Rattle.std.specs.Prelude.{◌≡◌, ◌<◌, ◌^◌};
-ghost use Rattle.lb_imbalance.specs.Amount.{half_of_tasks, imbalance_of, imbalance_as, is_pressed, load_to_average, one_task, spare_room};
+ghost use Rattle.lb_imbalance.specs.Amount.{half_of_difference, imbalance_of, imbalance_as, is_pressed, load_to_average, one_task, spare_room};
 ghost use Rattle.lb_imbalance.specs.Conditions.{IsInRange};
 
 use crate::levels::{above_cache, siblings};
@@ -35,7 +35,7 @@ pub fn imbalance_between(
                 if pressed(busiest.group) && above_cache(shape.name) {
                     spare_room(busy, local)
                 } else {
-                    half_of_tasks(shape, local, busiest)
+                    half_of_difference(shape, local, busiest)
                 }
             }
             GroupType::FullyBusy | GroupType::Imbalanced | GroupType::Overloaded => {
@@ -80,8 +80,8 @@ fn spare_room(busy: bool, local: &Stats) -> Imbalance
 }
 
 // Half of the difference in tasks or in idle CPUs.
-fn half_of_tasks(shape: &Shape, local: &Stats, busiest: &Stats) -> Imbalance
-    ensures { result ≡ half_of_tasks shape.now local.now busiest.now }
+fn half_of_difference(shape: &Shape, local: &Stats, busiest: &Stats) -> Imbalance
+    ensures { result ≡ half_of_difference shape.now local.now busiest.now }
 {
     let amount = if busiest.weight == 1 || siblings(shape.below) {
         busiest.nr.saturating_sub(local.nr) / 2

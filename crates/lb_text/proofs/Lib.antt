@@ -1,0 +1,10 @@
+pub mod Digits
+pub mod Leading
+pub mod Prefix
+pub mod Places
+pub mod Items
+pub mod Taken
+pub mod Cut
+pub mod RunFacts
+pub mod RoundTrip
+pub mod NiceFacts

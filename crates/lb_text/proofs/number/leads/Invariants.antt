@@ -1,0 +1,8 @@
+use Rattle.lb_text.proofs.Leading.{IsCut}
+use Rattle.lb_text.proofs.number.leads.Given as goal
+
+abbrev pub invariant-loop-least : goal.invariant-loop-least
+invariant-loop-least l = IsCut l.fn.least l.fn.most l.value l.least l.most
+
+abbrev pub decreases-loop-least : goal.decreases-loop-least
+decreases-loop-least l = l.least

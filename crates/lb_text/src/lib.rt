@@ -1,0 +1,19 @@
+//! How numbers and lists of CPUs are spelled in traces and histories: read exactly, with the first
+//! byte that is wrong, and written in one spelling.
+#![tactic(auto)]
+
+mod bad_text;
+pub mod laws;
+mod list;
+mod number;
+mod parts;
+mod put;
+
+pub use bad_text::BadText;
+pub use list::list_of;
+pub use number::{nice_of, number_of, number_within};
+pub use parts::Parts;
+pub use put::{put_list, put_number};
+
+#[cfg(test)]
+mod tests;
