@@ -1,0 +1,5 @@
+use Rattle.lb_detach.proofs.Pinned.{tells}
+use Rattle.lb_detach.proofs.laws.flags_tell_pinned.Goals as goal
+
+pub returns : goal.returns
+returns c = tells

@@ -1,0 +1,5 @@
+use Rattle.lb_detach.proofs.Rearranged.{rearranged}
+use Rattle.lb_detach.proofs.laws.picked_and_kept_are_the_list.Goals as goal
+
+pub returns : goal.returns
+returns c = rearranged

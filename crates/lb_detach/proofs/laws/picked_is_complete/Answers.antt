@@ -1,0 +1,5 @@
+use Rattle.lb_detach.proofs.Complete.{complete}
+use Rattle.lb_detach.proofs.laws.picked_is_complete.Goals as goal
+
+pub returns : goal.returns
+returns c = complete

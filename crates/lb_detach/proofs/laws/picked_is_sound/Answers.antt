@@ -1,0 +1,5 @@
+use Rattle.lb_detach.proofs.Sound.{sound}
+use Rattle.lb_detach.proofs.laws.picked_is_sound.Goals as goal
+
+pub returns : goal.returns
+returns c = sound
