@@ -1,0 +1,17 @@
+pub mod Counts
+pub mod Search
+pub mod Turned
+pub mod Ids
+pub mod Weights
+pub mod Every
+pub mod Counting
+pub mod Sound
+pub mod Keeping
+pub mod Mapped
+pub mod Replies
+pub mod Positions
+pub mod Opening
+pub mod Leaving
+pub mod Masks
+pub mod Landing
+pub mod Ticking

@@ -1,0 +1,11 @@
+pub mod Tasks
+pub mod Queue
+pub mod Kept
+pub mod Lists
+pub mod Commands
+pub mod Requests
+pub mod Values
+pub mod Inside
+pub mod Hands
+pub mod Turns
+pub mod Figures
