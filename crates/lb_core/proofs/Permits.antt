@@ -1,0 +1,214 @@
+-- Each step of the machine keeps its tasks allowed, and the law Permitted.
+use Rattle.std.proofs.Common.{◌≡◌, ℕ, zero, suc, ◌+◌, ◌<◌, Bool, true, false, not, cond, ◌==◌, ◌||◌, eqb, List, [], ◌∷◌, length, get_or, All, Option, Some, None, refl, sym, ◌∙◌, ap, arith, subst, inl, inr}
+use Rattle.std.specs.List.{list_all}
+use Rattle.std.proofs.lemmas.Bool.{or_parts, and_parts, and_from, eqb-true, cases_eq}
+use Rattle.std.proofs.lemmas.List.{length-set}
+use Rattle.std.proofs.lemmas.List.FromFn.{length-map-range_with_len}
+use Rattle.lb_base.specs.Sets.{is_empty}
+use Rattle.lb_runqueue.specs.declared.record.TaskRecord.{TaskRecord}
+use Rattle.lb_runqueue.specs.declared.answers.Reply.{Reply}
+use Rattle.lb_runqueue.specs.declared.answers.Reply.TheVariants.{NotHere}
+use Rattle.lb_runqueue.specs.declared.answers.OutCause.{OutCause}
+use Rattle.lb_runqueue.specs.Queue.{QueueState, new_task}
+use Rattle.lb_runqueue.specs.Requests.{ask_active, kick}
+use Rattle.lb_runqueue.specs.Turns.{close_look}
+use Rattle.lb_core.specs.declared.trace.Header.{Header}
+use Rattle.lb_core.specs.declared.trace.TaskRow.{TaskRow}
+use Rattle.lb_core.specs.declared.course.Course.{Course}
+use Rattle.lb_core.specs.declared.course.Form.{Form}
+use Rattle.lb_core.specs.declared.course.Form.TheVariants.{Flight}
+use Rattle.lb_core.specs.declared.rule.Rule.TheVariants.{Reply as ReplyRule, Pick}
+use Rattle.lb_core.specs.declared.entry.Owner.{Owner}
+use Rattle.lb_core.specs.declared.entry.Owner.TheVariants.{Publisher, Lane, Queue}
+use Rattle.lb_core.specs.declared.entry.What.{What}
+use Rattle.lb_core.specs.declared.entry.What.TheVariants.{Did, Out, Landed, Turn, Shut, Close, Ask, Kick, Over}
+use Rattle.lb_core.specs.declared.entry.Entry.{Entry}
+use Rattle.lb_core.specs.Same.{same_reply}
+use Rattle.lb_core.specs.Sight.{Sight}
+use Rattle.lb_core.specs.Stage.{draws, is_queue, queue_due}
+use Rattle.lb_core.specs.Leaving.{Leaving, leaving, out_by}
+use Rattle.lb_core.specs.Rules.{leaves_instead}
+use Rattle.lb_core.specs.QueueAfter.{queue_after, queue_by, cause_of, rest_of}
+use Rattle.lb_core.specs.CourseAfter.{course_after, takes_off, drew}
+use Rattle.lb_core.specs.Machine.{Machine, queue_at, course_at, sight, tasks_at, opening_queue, start}
+use Rattle.lb_core.specs.Step.{after, queues_after}
+use Rattle.lb_core.specs.Legal.{MayBeAdded, run, MayFollow}
+use Rattle.lb_core.specs.Permitted.{may_stand, IsPermitted, PermittedAlways}
+use Rattle.lb_core.proofs.Allowed.{may_be_here, may_go_to, may_run, IsAllowed}
+use Rattle.lb_core.proofs.Staying.{Stays, same_stays, land_stays}
+use Rattle.lb_core.proofs.Flows.{OnAwake}
+use Rattle.lb_core.proofs.Unbroken.{unbroken_here}
+use Rattle.lb_core.proofs.Places.{IsChanged, course_same, course_other}
+use Rattle.lb_core.proofs.Placing.{Kept, entry, single, queue_changed, course_hand, leaving_is, lane_there, cpu_there, form_lets, step_kept, owner_wrong, no_queue_changes, quiet_facts, still_facts, is_still, is_quiet, is_no_queue}
+use Rattle.lb_core.proofs.Opening.{opening_at, opening_hand, start_kept, homes_declared}
+use Rattle.lb_core.proofs.Permitting.{answer_stays, out_sends}
+
+pub record Permit (m : Machine) : Type 0 where
+  pub cpus : (cpu : ℕ) → cpu < length m.queues → (queue_at m.queues cpu).cpu ≡ cpu
+  pub queues : (cpu : ℕ) → IsAllowed (queue_at m.queues cpu)
+  pub hands : (lane : ℕ) → list_all (may_go_to (course_at m.courses lane).to) (course_at m.courses lane).hand ≡ true
+
+permit_step : (m m' : Machine) (cpu lane : ℕ) (q : QueueState) (c : Course) → IsChanged m m' cpu lane q c → length m'.queues ≡ length m.queues → Permit m → Stays (queue_at m.queues cpu) q → list_all (may_go_to c.to) c.hand ≡ true → Permit m'
+permit_step m m' cpu lane q c h n p s g = record {
+  cpus = λ u lt. elim (cases_eq u cpu) [
+    | inl e ↦ ap (λ (x : QueueState). x.cpu) (ap (queue_at m'.queues) e ∙ h.this_queue) ∙ s.cpu ∙ ap (λ (x : ℕ). (queue_at m.queues x).cpu) (sym e) ∙ p.cpus u (omega arith)
+    | inr z ↦ ap (λ (x : QueueState). x.cpu) (h.other_queue u z) ∙ p.cpus u (omega arith)
+  ];
+  queues = λ u. elim (cases_eq u cpu) [
+    | inl e ↦ subst IsAllowed (sym (ap (queue_at m'.queues) e ∙ h.this_queue)) s.allowed
+    | inr z ↦ subst IsAllowed (sym (h.other_queue u z)) (p.queues u)
+  ];
+  hands = λ l. elim (cases_eq l lane) [
+    | inl e ↦ let k : course_at m'.courses l ≡ c = ap (course_at m'.courses) e ∙ course_same m m' cpu lane q c h in rw k g
+    | inr z ↦ let k = course_other m m' cpu lane q c h l z in rw k (p.hands l)
+  ];
+}
+
+none_goes : (c : Course) → c.hand ≡ [] → list_all (may_go_to c.to) c.hand ≡ true
+none_goes c e = rw e refl
+
+queues_long : (o : Owner) (q : QueueState) (qs : List QueueState) → length (queues_after o q qs) ≡ length qs
+queues_long (Queue cpu) q qs = length-set qs cpu q
+queues_long (Lane l) q qs = refl
+queues_long Publisher q qs = refl
+
+-- ---- answers
+did_permits : (m : Machine) (cpu lane prev : ℕ) (r : Reply) → Kept m → Permit m → MayBeAdded m (entry (Queue cpu) lane prev (Did r)) → Permit (after m (entry (Queue cpu) lane prev (Did r)))
+unfolding after sight queue_after
+did_permits m cpu lane prev r k p h =
+    let e = entry (Queue cpu) lane prev (Did r) in
+    let c = course_at m.courses lane in
+    let q = queue_at m.queues cpu in
+    let said = or_parts _ _ (or_parts (leaves_instead c.command q || same_reply r NotHere) _ (unbroken_here m e h ReplyRule)).0 in
+    permit_step m (after m e) cpu lane _ _ (queue_changed m cpu lane prev (Did r) h) (queues_long (Queue cpu) _ m.queues) p
+    (answer_stays c.command c.at q said.0 (p.queues cpu)) (none_goes (course_after (sight m e) e) (course_hand m e k h refl))
+
+-- ---- landings
+lands_there : (f : Form) (hd : Header) (c : Course) (q : QueueState) (lane cpu : ℕ) (ts : List ℕ) → is_queue (Queue cpu) (queue_due f c) ≡ true → draws f hd c q lane (Landed ts) ≡ true → eqb cpu c.to ≡ true
+unfolding draws
+lands_there Flight hd c q lane cpu ts o h = o
+lands_there f hd c q lane cpu ts o h = absurd (let k : ⊥ = cc in k)
+
+landed_permits : (m : Machine) (cpu lane prev : ℕ) (ts : List ℕ) → Kept m → Permit m → MayBeAdded m (entry (Queue cpu) lane prev (Landed ts)) → Permit (after m (entry (Queue cpu) lane prev (Landed ts)))
+unfolding after sight queue_after
+landed_permits m cpu lane prev ts k p h =
+    let e = entry (Queue cpu) lane prev (Landed ts) in
+    let c = course_at m.courses lane in
+    let q = queue_at m.queues cpu in
+    let to : cpu ≡ c.to = eqb-true cpu c.to (lands_there c.form m.header c q lane cpu ts (form_lets m e h).0 (form_lets m e h).1) in
+    let own : q.cpu ≡ c.to = p.cpus cpu (cpu_there m cpu lane prev (Landed ts) h) ∙ to in
+    permit_step m (after m e) cpu lane _ _ (queue_changed m cpu lane prev (Landed ts) h) (queues_long (Queue cpu) _ m.queues) p
+    (land_stays c.at (cause_of c) c.moment c.hand q (subst (λ (x : ℕ). list_all (may_go_to x) c.hand ≡ true) (sym own) (p.hands lane)) (p.queues cpu))
+    (none_goes (course_after (sight m e) e) (course_hand m e k h refl))
+
+-- ---- tasks that leave
+sent_off : (o : Option Leaving) (c : Course) (cpu n : ℕ) (l : Leaving) → o ≡ Some l → list_all (may_go_to l.to) l.hand ≡ true → list_all (may_go_to (drew (Queue cpu) n (takes_off o c)).to) (drew (Queue cpu) n (takes_off o c)).hand ≡ true
+sent_off None c cpu n l h g = absurd (let k : ⊥ = cc in k)
+sent_off (Some x) c cpu n l h g = let k : l ≡ x = cc in subst (λ (y : Leaving). list_all (may_go_to y.to) y.hand ≡ true) k g
+
+out_permits : (m : Machine) (cpu lane prev : ℕ) (cause : OutCause) (to : ℕ) (ts : List ℕ) → Kept m → Permit m → MayBeAdded m (entry (Queue cpu) lane prev (Out cause to ts)) → Permit (after m (entry (Queue cpu) lane prev (Out cause to ts)))
+unfolding after sight queue_after course_after leaving
+out_permits m cpu lane prev cause to ts k p h =
+    let e = entry (Queue cpu) lane prev (Out cause to ts) in
+    let c = course_at m.courses lane in
+    let q = queue_at m.queues cpu in
+    let o = out_by c.form m.header c q in
+    let found = leaving_is o cause to ts (unbroken_here m e h Pick) in
+    let l : Leaving = found.0 in
+    let is : o ≡ Some l = found.1 in
+    let s = out_sends c.form m.header c q l is (single m cpu lane k.placed OnAwake) (p.queues cpu) in
+    let rest : rest_of o q ≡ l.rest = ap (λ (x : Option Leaving). rest_of x q) is in
+    permit_step m (after m e) cpu lane _ _ (queue_changed m cpu lane prev (Out cause to ts) h) (queues_long (Queue cpu) _ m.queues) p
+    (subst (λ (x : QueueState). Stays q x) (sym rest) s.stays)
+    (sent_off o c cpu ((sight m e).count + 1) l is s.sent)
+
+-- ---- other entries
+still_stays : (w : What) (s : Sight) (lane : ℕ) → is_still w ≡ true → IsAllowed s.queue → Stays s.queue (queue_by w s lane)
+unfolding close_look ask_active kick
+still_stays (Turn ps) s lane n h = same_stays _ _ refl refl refl h
+still_stays Shut s lane n h = same_stays _ _ refl refl refl h
+still_stays (Close p w i f) s lane n h = same_stays _ _ refl refl refl h
+still_stays (Ask r) s lane n h = same_stays _ _ refl refl refl h
+still_stays (Kick r) s lane n h = same_stays _ _ refl refl refl h
+still_stays Over s lane n h = same_stays _ _ refl refl refl h
+still_stays w s lane n h = absurd (let k : ⊥ = cc in k)
+
+still_permits : (m : Machine) (cpu lane prev : ℕ) (w : What) → is_still w ≡ true → Kept m → Permit m → MayBeAdded m (entry (Queue cpu) lane prev w) → Permit (after m (entry (Queue cpu) lane prev w))
+unfolding after sight queue_after
+still_permits m cpu lane prev w n k p h =
+    let e = entry (Queue cpu) lane prev w in
+    permit_step m (after m e) cpu lane _ _ (queue_changed m cpu lane prev w h) (queues_long (Queue cpu) _ m.queues) p
+    (still_stays w (sight m e) lane n (p.queues cpu)) (none_goes (course_after (sight m e) e) (course_hand m e k h (still_facts w n).1))
+
+quiet_permits : (m : Machine) (o : Owner) (lane prev : ℕ) (w : What) → is_no_queue o ≡ true → is_quiet w ≡ true → Kept m → Permit m → MayBeAdded m (entry o lane prev w) → Permit (after m (entry o lane prev w))
+unfolding after sight
+quiet_permits m o lane prev w b n k p h =
+    let e = entry o lane prev w in
+    let qs = no_queue_changes o (queue_after (sight m e) e) m.queues b in
+    permit_step m (after m e) 0 lane (queue_at m.queues 0) (course_after (sight m e) e)
+    (record { this_queue = ap (λ (x : List QueueState). queue_at x 0) qs; other_queue = λ u z. ap (λ (x : List QueueState). queue_at x u) qs; lane_there = lane_there m e h; header = refl; courses = refl })
+    (queues_long o _ m.queues) p (same_stays _ _ refl refl refl (p.queues 0)) (none_goes (course_after (sight m e) e) (course_hand m e k h (quiet_facts w n).1))
+
+step_permits : (m : Machine) (o : Owner) (lane prev : ℕ) (w : What) → Kept m → Permit m → MayBeAdded m (entry o lane prev w) → Permit (after m (entry o lane prev w))
+step_permits m (Queue cpu) lane prev (Did r) k p h = did_permits m cpu lane prev r k p h
+step_permits m o lane prev (Did r) k p h = absurd (owner_wrong m o lane prev (Did r) (λ _. refl) h)
+step_permits m (Queue cpu) lane prev (Out cause to ts) k p h = out_permits m cpu lane prev cause to ts k p h
+step_permits m o lane prev (Out cause to ts) k p h = absurd (owner_wrong m o lane prev (Out cause to ts) (λ _. refl) h)
+step_permits m (Queue cpu) lane prev (Landed ts) k p h = landed_permits m cpu lane prev ts k p h
+step_permits m o lane prev (Landed ts) k p h = absurd (owner_wrong m o lane prev (Landed ts) (λ _. refl) h)
+step_permits m (Queue cpu) lane prev (Turn ps) k p h = still_permits m cpu lane prev (Turn ps) refl k p h
+step_permits m (Queue cpu) lane prev Shut k p h = still_permits m cpu lane prev Shut refl k p h
+step_permits m (Queue cpu) lane prev (Close a w i f) k p h = still_permits m cpu lane prev (Close a w i f) refl k p h
+step_permits m (Queue cpu) lane prev (Ask r) k p h = still_permits m cpu lane prev (Ask r) refl k p h
+step_permits m (Queue cpu) lane prev (Kick r) k p h = still_permits m cpu lane prev (Kick r) refl k p h
+step_permits m (Queue cpu) lane prev Over k p h = still_permits m cpu lane prev Over refl k p h
+step_permits m (Queue cpu) lane prev w k p h = absurd (owner_wrong m (Queue cpu) lane prev w (λ _. refl) h)
+step_permits m o lane prev w k p h = quiet_permits m o lane prev w refl refl k p h
+
+run_permits : (es : List Entry) (m : Machine) → Kept m → Permit m → MayFollow es m → Permit (run es m)
+run_permits [] m k p h = p
+run_permits (e ∷ es) m k p h = run_permits es (after m e) (step_kept m e.owner e.lane e.prev e.what k h.0) (step_permits m e.owner e.lane e.prev e.what k p h.0) h.1
+
+-- ---- the opening state
+cond_run : (b : Bool) (t : TaskRecord) (ts : List TaskRecord) → may_run t ≡ true → list_all may_run ts ≡ true → list_all may_run (cond b (t ∷ ts) ts) ≡ true
+cond_run true t ts h k = and_from (may_run t) _ h k
+cond_run false t ts h k = k
+
+home_runs : (cpu id : ℕ) (rows : List TaskRow) → All (λ row. is_empty row.mask ≡ false) rows → list_all may_run (tasks_at cpu id rows) ≡ true
+home_runs cpu id [] all = refl
+home_runs cpu id (row ∷ rows) all =
+    let m : not (is_empty row.mask) ≡ true = let e : is_empty row.mask ≡ false = all 0 row (omega arith) in rw e refl in
+    cond_run (row.home == cpu) (new_task id row.nice row.mask) (tasks_at cpu (id + 1) rows) m (home_runs cpu (id + 1) rows (λ k d l. all (suc k) d (omega arith)))
+
+queues_start : (h : Header) → length (start h).queues ≡ length h.cpus
+unfolding start
+queues_start h = length-map-range_with_len (opening_queue h) 0 (length h.cpus)
+
+start_permits : (h : Header) → All (λ row. is_empty row.mask ≡ false) h.tasks → Permit (start h)
+unfolding opening_queue
+start_permits h masks = record {
+  cpus = λ cpu lt. elim (opening_at h cpu) [
+    | inl a ↦ ap (λ (x : QueueState). x.cpu) a.0
+    | inr b ↦ absurd (let n = queues_start h in let ge = b.1 in omega arith)
+  ];
+  queues = λ cpu. elim (opening_at h cpu) [
+    | inl a ↦ subst IsAllowed (sym a.0) (record { awake = refl; asleep = home_runs cpu 0 h.tasks masks })
+    | inr b ↦ subst IsAllowed (sym b.0) (record { awake = refl; asleep = refl })
+  ];
+  hands = λ lane. none_goes (course_at (start h).courses lane) (opening_hand h lane);
+}
+
+all_index : {X : Type 0} (p : X → Bool) (xs : List X) → list_all p xs ≡ true → All (λ x. p x ≡ true) xs
+all_index p [] h k d lt = absurd (omega arith)
+all_index p (x ∷ xs) h zero d lt = (and_parts (p x) _ h).0
+all_index p (x ∷ xs) h (suc k) d lt = all_index p xs ((and_parts (p x) _ h).1) k d (omega arith)
+
+permitted : (m : Machine) → Permit m → IsPermitted m
+permitted m p = record {
+  on_queues = λ cpu lt k d i. let h = (and_parts _ _ (all_index (may_be_here (queue_at m.queues cpu).cpu) _ (p.queues cpu).awake k d i)).0 in subst (λ (x : ℕ). may_stand x (get_or (queue_at m.queues cpu).awake k d) ≡ true) (p.cpus cpu lt) h;
+  in_hands = λ lane k d i. (and_parts _ _ (all_index (may_go_to (course_at m.courses lane).to) _ (p.hands lane) k d i)).0;
+}
+
+pub permitted_always : PermittedAlways
+permitted_always h es accepted legal =
+    permitted (run es (start h)) (run_permits es (start h) (start_kept h (homes_declared h accepted)) (start_permits h (λ k d lt. (accepted.tasks k d lt).mask_given)) legal)

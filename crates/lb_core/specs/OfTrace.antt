@@ -1,0 +1,45 @@
+-- When a history is one of a trace: it is legal, has the trace's header, and holds each lane's rows
+-- once, in file order, with the lane's next entry as the reply to each.
+use Rattle.std.specs.Prelude.{ℕ, ◌≡◌, ◌==◌, if◌then◌else◌, Option, Some, None, List, [], ◌∷◌, ◌++◌, filter}
+use Rattle.lb_core.specs.declared.trace.Row.{Row}
+use Rattle.lb_core.specs.declared.trace.Trace.{Trace}
+use Rattle.lb_core.specs.declared.entry.Entry.{Entry}
+use Rattle.lb_core.specs.declared.entry.What.{What}
+use Rattle.lb_core.specs.declared.entry.What.TheVariants.{Row as RowEntry}
+use Rattle.lb_core.specs.declared.history.History.{History}
+use Rattle.lb_core.specs.Legal.{IsLegalHistory}
+
+-- the row that an entry takes up
+abbrev pub row_of : What → ℕ → List Row
+row_of (RowEntry n at command) lane = record { lane = lane; at = at; command = command } ∷ []
+row_of w lane = []
+
+-- the rows that the entries take up, in the order of their tickets
+abbrev pub rows_drawn : List Entry → List Row
+rows_drawn [] = []
+rows_drawn (e ∷ es) = row_of e.what e.lane ++ rows_drawn es
+
+-- the rows of one lane
+abbrev pub of_lane : ℕ → List Row → List Row
+of_lane lane rows = filter (λ row. row.lane == lane) rows
+
+-- the history is of the trace; the rule `row` numbers each lane's rows from 1
+pub record IsHistoryOf (t : Trace) (history : History) : Type 0 where
+  pub header : history.header ≡ t.header
+  pub legal : IsLegalHistory history.header history.entries
+  pub rows : (lane : ℕ) → of_lane lane (rows_drawn history.entries) ≡ of_lane lane t.rows
+
+-- ---- replies
+-- the next entry of a lane
+abbrev pub next_of : ℕ → List Entry → Option Entry
+next_of lane [] = None
+next_of lane (e ∷ es) = if e.lane == lane then Some e else next_of lane es
+
+abbrev pub reply_to : What → ℕ → List Entry → List (Option Entry)
+reply_to (RowEntry n at command) lane later = next_of lane later ∷ []
+reply_to w lane later = []
+
+-- the reply to each row, in the order of the rows' tickets
+abbrev pub replies : List Entry → List (Option Entry)
+replies [] = []
+replies (e ∷ es) = reply_to e.what e.lane es ++ replies es

@@ -1,0 +1,35 @@
+-- The law Placed: after every legal front each declared task stands at exactly one place, once: in
+-- one list of one queue or in one hand, and that is its place in the map.
+use Rattle.std.specs.Prelude.{ℕ, ◌≡◌, nat_lt, Bool, ◌&&◌, if◌then◌else◌, List, length}
+use Rattle.lb_runqueue.specs.Tasks.{ids, awake_ids, occurs}
+use Rattle.lb_core.specs.declared.trace.Header.{Header}
+use Rattle.lb_core.specs.declared.entry.Entry.{Entry}
+use Rattle.lb_core.specs.declared.place.Place.{Place}
+use Rattle.lb_core.specs.declared.place.Place.TheVariants.{Awake as AwakeAt, Asleep as AsleepAt, Gone as GoneAt, Hand as HandOf}
+use Rattle.lb_core.specs.Same.{same_place}
+use Rattle.lb_core.specs.Machine.{Machine, queue_at, course_at, place_at, start}
+use Rattle.lb_core.specs.Legal.{run, IsLegalFront}
+use Rattle.lb_core.specs.Accepted.{IsAccepted}
+
+-- who stands at a place
+abbrev pub standing : Machine → Place → List ℕ
+standing m (AwakeAt cpu) = awake_ids (queue_at m.queues cpu).awake
+standing m (AsleepAt cpu) = ids (queue_at m.queues cpu).asleep
+standing m (GoneAt cpu) = ids (queue_at m.queues cpu).gone
+standing m (HandOf lane) = ids (course_at m.courses lane).hand
+
+-- how often a task stands at a place
+abbrev pub times : Machine → Place → ℕ → ℕ
+times m place t = occurs t (standing m place)
+
+-- it is a declared task, and the map has it at that place
+abbrev pub is_its_place : Machine → Place → ℕ → Bool
+is_its_place m place t = nat_lt t (length m.places) && same_place place (place_at m t)
+
+-- each task of the header has a place, and each number stands once at its place and nowhere else
+pub record IsPlaced (m : Machine) : Type 0 where
+  pub mapped : length m.places ≡ length m.header.tasks
+  pub once : (place : Place) (t : ℕ) → times m place t ≡ (if is_its_place m place t then 1 else 0)
+
+abbrev pub PlacedAlways : Type 0
+PlacedAlways = (h : Header) (es : List Entry) → IsAccepted h → IsLegalFront h es → IsPlaced (run es (start h))
