@@ -6,8 +6,8 @@ use Rattle.std.specs.Io.KnownBytes.{Appends, IsAtEnd}
 use Rattle.lb_io.specs.Faults.{Rose}
 use Rattle.lb_io.specs.Moved.{AppendsFront}
 use Rattle.lb_trace.specs.declared.trace.Code.{Code}
-use Rattle.lb_trace.specs.declared.trace.Code.TheVariants as codes_of
 use Rattle.lb_trace.specs.declared.trace.Trace.{Trace}
+use Rattle.lb_trace.specs.Codes.{code_word}
 use Rattle.lb_trace.specs.Grammar.{reading_of}
 use Rattle.lb.specs.declared.status.Status.{Status}
 use Rattle.lb.specs.declared.status.Status.TheVariants as status
@@ -17,16 +17,21 @@ use Rattle.lb.specs.Placing.{Placed, Permitted}
 use Rattle.lb.specs.Serial.{serial}
 use Rattle.lb.specs.Text.{history_text}
 
-abbrev pub code_text : Code → List ℕ
-code_text codes_of.TooLong = codes "too-long"
-code_text codes_of.Later = codes "later"
+-- the exit status
+abbrev pub status_number : Status → ℕ
+status_number status.Done = 0
+status_number status.ReadFault = 1
+status_number status.Usage = 2
+status_number (status.Refused line code) = 3
+status_number status.WriteFault = 4
+status_number status.NoMemory = 5
 
 -- what is written to the error sink
 abbrev pub status_text : Status → List ℕ
 status_text status.Done = []
 status_text status.ReadFault = codes "lb: read fault\n"
 status_text status.Usage = codes "lb: usage\n"
-status_text (status.Refused line code) = codes "lb: line " ++ (decimal line ++ (codes ": " ++ (code_text code ++ 10 ∷ [])))
+status_text (status.Refused line code) = codes "lb: line " ++ (decimal line ++ (codes ": " ++ (code_word code ++ 10 ∷ [])))
 status_text status.WriteFault = codes "lb: write fault\n"
 status_text status.NoMemory = codes "lb: no memory\n"
 

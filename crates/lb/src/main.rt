@@ -12,44 +12,39 @@ mod status;
 mod text;
 mod top;
 
-use lb_io::{Gate, Point, ReadSource, WriteSink};
-use status::Status;
-use std::env;
+use lb_io::{OpenGate, ReadSource, WriteSink};
+use status::{Status, report};
 use std::process::ExitCode;
+use std::{env, io};
 use top::top;
 
-// The program's lanes pass at once.
-struct Open;
-
-impl Gate for Open {
-    fn pass_here(&self, _lane: u32, _point: Point) {}
-}
-
-fn words_of(rt: &HostRuntime) -> Option<Vec<String>> {
+// The words after the program's name. Words that are not UTF-8 are no command.
+fn words_of(rt: &HostRuntime) -> Result<Vec<String>, Status> {
     let mut words = Vec::new(rt.alloc());
-    for word in env::args(rt).ok()?.skip(1) {
-        words.push(word).ok()?;
+    match env::args(rt) {
+        Ok(args) => {
+            for word in args.skip(1) {
+                if words.push(word).is_err() {
+                    return Err(Status::NoMemory);
+                }
+            }
+            Ok(words)
+        }
+        Err(error) if error.kind() == io::ErrorKind::OutOfMemory => Err(Status::NoMemory),
+        Err(_) => Err(Status::Usage),
     }
-    Some(words)
 }
 
 fn main(rt: HostRuntime) -> ExitCode {
-    let words = match words_of(&rt) {
-        Some(words) => words,
-        None => Vec::new(rt.alloc()),
-    };
     let mut src = ReadSource::new(rt.stdin());
     let mut out = WriteSink::new(rt.stdout());
     let mut err = WriteSink::new(rt.stderr());
-    let status = top(&rt, rt.alloc(), &words, &mut src, &mut out, &mut err, &Open);
-    ExitCode::from(match status {
-        Status::Done => 0,
-        Status::ReadFault => 1,
-        Status::Usage => 2,
-        Status::Refused { .. } => 3,
-        Status::WriteFault => 4,
-        Status::NoMemory => 5,
-    })
+    let alloc = rt.alloc();
+    let status = match words_of(&rt) {
+        Ok(words) => top(&rt, alloc, &words, &mut src, &mut out, &mut err, &OpenGate),
+        Err(status) => report(alloc, status, &mut err),
+    };
+    ExitCode::from(status.number())
 }
 
 #[cfg(test)]
