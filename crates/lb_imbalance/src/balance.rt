@@ -5,7 +5,7 @@ ghost use Rattle.lb_imbalance.specs.Conditions.{IsInRange};
 use crate::levels::{percent, siblings};
 use lb_base::{GroupType, Shape, Stats};
 
-// Whether the groups are level, so that nothing is to move.
+/// Whether the groups are level, so that nothing is to move.
 #[tactic(auto, unfolding(crate::specs::Balance::is_level))]
 pub fn level(shape: &Shape, busy: bool, average: u64, local: &Stats, busiest: &Stats) -> bool
     requires local { IsInRange local.now }

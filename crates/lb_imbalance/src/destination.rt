@@ -5,7 +5,7 @@ ghost use Rattle.lb_imbalance.specs.Destination.{balancer_of, first_idle, is_bus
 
 use lb_base::{Fig, Kind, MAX_CPUS, Mask};
 
-// Whether the destination has tasks, and did not become idle just now.
+/// Whether the destination has tasks, and did not become idle just now.
 pub fn busy(kind: Kind, figs: &[Fig], cpu: u32) -> bool
     requires { cpu < length figs.now }
     ensures { result ≡ is_busy kind figs.now cpu }
@@ -16,7 +16,7 @@ pub fn busy(kind: Kind, figs: &[Fig], cpu: u32) -> bool
     }
 }
 
-// Whether the CPU is the one that balances for its group.
+/// Whether the CPU is the one that balances for its group.
 #[tactic(auto, using(crate::proofs::Groups::below_all))]
 pub fn balances(kind: Kind, figs: &[Fig], group: Mask, cpu: u32) -> bool
     requires { AllHaveFigures figs.now group }

@@ -14,7 +14,7 @@ pub struct Imbalance {
     pub amount: u64,
 }
 
-// The imbalance between two groups that are not level.
+/// The imbalance between two groups that are not level.
 #[tactic(auto, unfolding(crate::specs::Amount::imbalance_of))]
 pub fn imbalance_between(
     shape: &Shape,

@@ -3,7 +3,7 @@ ghost use Rattle.lb_imbalance.specs.Levels.{has_siblings, is_above_cache, percen
 
 use lb_base::LevelName;
 
-// The imbalance percentage of a level.
+/// The imbalance percentage of a level.
 pub fn percent(name: LevelName) -> u64
     ensures { result ≡ percent_of name }
 {
@@ -13,7 +13,7 @@ pub fn percent(name: LevelName) -> u64
     }
 }
 
-// Whether the level is above the one whose CPUs share a cache.
+/// Whether the level is above the one whose CPUs share a cache.
 pub fn above_cache(name: LevelName) -> bool
     ensures { result ≡ is_above_cache name }
 {
@@ -23,7 +23,7 @@ pub fn above_cache(name: LevelName) -> bool
     }
 }
 
-// Whether there is a kept domain below that is not a NUMA one.
+/// Whether there is a kept domain below that is not a NUMA one.
 pub fn siblings(below: Option<LevelName>) -> bool
     ensures { result ≡ has_siblings below }
 {

@@ -1,13 +1,12 @@
 -- The faults in their order, and what a machine without a fault has.
-use Rattle.std.proofs.Common.{◌≡◌, ℕ, zero, suc, ◌<◌, ◌≤◌, max, true, not, List, [], ◌∷◌, length, take, Option, Some, None, refl, sym, ◌∙◌, ap, arith, inl, inr}
+use Rattle.std.proofs.Common.{◌≡◌, ℕ, zero, suc, ◌<◌, ◌≤◌, max, ltb, true, not, List, [], ◌∷◌, length, take, Option, Some, None, refl, sym, ◌∙◌, ap, arith, inl, inr}
 use Rattle.std.specs.Prelude.{is_none}
 use Rattle.std.specs.Option.{option_map}
-use Rattle.std.specs.List.{All}
-use Rattle.std.proofs.lemmas.Bool.{cases_lt, or_parts, or_from, not-false, eqb-true, eq-eqb, lt-leb, both_ways}
+use Rattle.std.proofs.lemmas.Bool.{cases_lt, and_parts, ltb-true, or_parts, or_from, not-false, eqb-true, eq-eqb, lt-leb, both_ways}
 use Rattle.std.proofs.lemmas.List.{get_or_past}
 use Rattle.lb_levels.specs.declared.cpu_row.CpuRow.{CpuRow}
 use Rattle.lb_levels.specs.declared.faults.MachineError.TheVariants.{BadCpu, BadDistance, NotNested}
-use Rattle.lb_levels.specs.Rows.{row_at, distances_at, cpu_clashes, is_bad_distance, first_not_nested, IsSquare, AllHaveNodes}
+use Rattle.lb_levels.specs.Rows.{nodes_in_range, row_at, distances_at, cpu_clashes, is_bad_distance, first_not_nested, IsSquare, AllHaveNodes}
 use Rattle.lb_levels.specs.Faults.{or_else, nodes_of, first_clash, is_misfit, first_misfit, first_bad_row, fault_of, IsMachine}
 use Rattle.lb_levels.proofs.Finding.{nothing_found, not_found}
 use Rattle.lb_levels.proofs.Tables.{past_is_misfit}
@@ -60,10 +59,11 @@ pub some_nodes : (cpus : List CpuRow) → 0 < length cpus → 0 < nodes_of cpus
 some_nodes [] some = absurd (omega (arith, some))
 some_nodes (row ∷ rows) some = omega arith
 
-pub few_nodes : (cpus : List CpuRow) → All (λ row. row.node < 16) cpus → nodes_of cpus ≤ 16
+pub few_nodes : (cpus : List CpuRow) → nodes_in_range cpus ≡ true → nodes_of cpus ≤ 16
 few_nodes [] each = omega arith
 few_nodes (row ∷ rows) each =
-    omega (arith, each 0 row (omega arith), few_nodes rows (λ k d lt. each (suc k) d (omega (arith, lt))))
+    let parts = and_parts (ltb row.node 16) (nodes_in_range rows) each in
+    omega (arith, ltb-true row.node 16 parts.0, few_nodes rows parts.1)
 
 node_below : (cpus : List CpuRow) (cpu : ℕ) → cpu < length cpus → (row_at cpus cpu).node < nodes_of cpus
 node_below [] cpu lt = absurd (omega (arith, lt))

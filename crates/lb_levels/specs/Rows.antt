@@ -13,6 +13,14 @@ pub record Layout : Type 0 where
 abbrev pub layout_of : List CpuRow → List (List ℕ) → Layout
 layout_of cpus distances = record { cpus = cpus; distances = distances }
 
+-- nodes are numbered below 16
+abbrev pub nodes_in_range : List CpuRow → Bool
+nodes_in_range cpus = list_all (λ row. nat_lt row.node 16) cpus
+
+-- distances are below 256
+abbrev pub distances_in_range : List (List ℕ) → Bool
+distances_in_range table = list_all (λ row. list_all (λ d. nat_lt d 256) row) table
+
 -- stands where a CPU has no row
 abbrev pub no_row : CpuRow
 no_row = record { core = 0; cache = 0; node = 0 }

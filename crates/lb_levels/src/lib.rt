@@ -8,6 +8,8 @@ mod machine;
 mod parts;
 mod rows;
 mod span;
+#[cfg(test)]
+mod tests;
 
 pub use cpu_row::CpuRow;
 pub use faults::{MachineError, PartsFault};

@@ -1,5 +1,5 @@
-ghost use Rattle.std.specs.Prelude.{◌≡◌, ◌<◌, ◌≤◌, ◌⊎◌, All, IfOk, IfErr, OnOk, length};
-ghost use Rattle.lb_levels.specs.Rows.{layout_of};
+ghost use Rattle.std.specs.Prelude.{◌≡◌, ◌<◌, ◌≤◌, ◌⊎◌, true, IfOk, IfErr, OnOk, length};
+ghost use Rattle.lb_levels.specs.Rows.{layout_of, nodes_in_range, distances_in_range};
 ghost use Rattle.lb_levels.specs.Faults.{fault_of};
 ghost use Rattle.lb_levels.specs.Spans.{levels_of, level_at, span_of};
 
@@ -44,8 +44,8 @@ impl Machine {
     ) -> Result<Machine, MachineError>
         requires some { 0 < length cpus.now }
         requires few { length cpus.now ≤ 64 }
-        requires nodes { All (λ row. row.node < 16) cpus.now }
-        requires distances { All (λ row. All (λ d. d < 256) row) distances.now }
+        requires nodes { nodes_in_range cpus.now ≡ true }
+        requires distances { distances_in_range distances.now ≡ true }
 
         ensures value { IfOk result (λ machine. machine ≡ layout_of cpus.now distances.now) }
         ensures good { OnOk result (fault_of cpus.now distances.now ≡ None) }
@@ -119,7 +119,7 @@ impl Machine {
 fn fault_of(cpus: &[CpuRow], distances: &[Items<u32>]) -> Option<MachineError>
     requires some { 0 < length cpus.now }
     requires few { length cpus.now ≤ 64 }
-    requires nodes { All (λ row. row.node < 16) cpus.now }
+    requires nodes { nodes_in_range cpus.now ≡ true }
     ensures { result ≡ fault_of cpus.now distances.now }
 {
     if let Some(cpu) = first_clash(cpus) {

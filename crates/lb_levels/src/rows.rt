@@ -1,8 +1,8 @@
 //! The tests of the rows of CPUs and of the table of distances, each with the first place that
 //! fails it.
-ghost use Rattle.std.specs.Prelude.{◌≡◌, ◌<◌, ◌≤◌, ◌==◌, ◌&&◌, ◌||◌, not, All, length, take};
+ghost use Rattle.std.specs.Prelude.{◌≡◌, ◌<◌, ◌≤◌, ◌==◌, ◌&&◌, ◌||◌, not, true, length, take};
 ghost use Rattle.std.specs.List.{range_with_len, list_any, list_all};
-ghost use Rattle.lb_levels.specs.Rows.{clashes, cpu_clashes, distance, distances_at, is_bad_entry, is_bad_distance, is_entry, is_within, is_inside, is_apart, are_nested, is_nested_at, first_not_nested, IsSquare};
+ghost use Rattle.lb_levels.specs.Rows.{nodes_in_range, clashes, cpu_clashes, distance, distances_at, is_bad_entry, is_bad_distance, is_entry, is_within, is_inside, is_apart, are_nested, is_nested_at, first_not_nested, IsSquare};
 ghost use Rattle.lb_levels.specs.Faults.{nodes_of, first_clash, is_misfit, first_misfit, first_bad_row};
 
 use crate::cpu_row::CpuRow;
@@ -37,7 +37,7 @@ pub(crate) fn first_clash(cpus: &[CpuRow]) -> Option<u32>
 
 // How many nodes there are.
 pub(crate) fn nodes_of(cpus: &[CpuRow]) -> u32
-    requires { All (λ row. row.node < 16) cpus.now }
+    requires { nodes_in_range cpus.now ≡ true }
     ensures count { result ≡ nodes_of cpus.now }
     ensures few { result ≤ 16 }
 {
