@@ -45,7 +45,7 @@ own_part_at n parts cpu lt =
     let none : Option Mask = None in
     get_or-map-range_with_len (part_of parts) 0 n cpu cpu none lt (omega arith)
 
-part_has : (parts : List Mask) (cpu : ℕ) (part : Mask) → part_of parts cpu ≡ Some part → has part cpu ≡ true
+pub part_has : (parts : List Mask) (cpu : ℕ) (part : Mask) → part_of parts cpu ≡ Some part → has part cpu ≡ true
 part_has [] cpu part is = absurd (cc)
 part_has (m ∷ ms) cpu part is =
     elim (cases_Bool (has m cpu)) [

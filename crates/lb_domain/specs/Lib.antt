@@ -1,4 +1,5 @@
 pub mod Domains
+pub mod Parted
 pub mod Steps
 pub mod Errors
 pub mod Topologies

@@ -76,6 +76,7 @@ impl Topology {
     /// of its own. A CPU in no mask has no domains.
     pub fn build(alloc: Global, machine: &Machine, parts: &[Mask]) -> Result<Topology, BuildError>
         ensures value { IfOk result (λ topology. topology ≡ topology_of machine.now.cpus machine.now.distances parts.now) }
+        ensures all { IfOk result (λ topology. length topology ≡ length machine.now.cpus) }
         ensures good { OnOk result (parts_fault_of (length machine.now.cpus) parts.now ≡ None) }
         ensures refused { IfErr result (λ e. (e ≡ BuildError.NoMemory) ⊎ (option_map as_error (parts_fault_of (length machine.now.cpus) parts.now) ≡ Some e)) }
     {

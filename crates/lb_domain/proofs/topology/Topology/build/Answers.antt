@@ -1,0 +1,7 @@
+use Rattle.std.proofs.Common.{length, ◌∙◌, ap}
+use Rattle.lb_domain.proofs.Sizes.{length-topology_of}
+use Rattle.lb_domain.proofs.topology.Topology.build.Goals as goal
+
+pub returns-clause-all : goal.returns-clause-all
+returns-clause-all c =
+    ap length c.in_ok-topology_of.ensures.value ∙ length-topology_of c.args.machine.now.cpus c.args.machine.now.distances c.args.parts.now
