@@ -1,0 +1,16 @@
+-- A text as the parts between its marks: lines between line feeds, fields between commas. There is
+-- one part more than there are marks. A line is plain where each of its bytes may stand in a trace.
+use Rattle.std.specs.Prelude.{ℕ, Bool, List, ◌||◌, ◌==◌}
+use Rattle.std.specs.Char.{is_ascii_digit, is_ascii_lowercase}
+use Rattle.std.specs.List.{list_all, slice_split}
+
+-- the parts of a text between the bytes that are this mark
+abbrev pub parts : ℕ → List ℕ → List (List ℕ)
+parts mark text = slice_split (λ byte. byte == mark) text
+
+-- a digit, a letter from `a` to `z`, a comma, `;` or `-`
+abbrev pub is_plain_byte : ℕ → Bool
+is_plain_byte byte = is_ascii_digit byte || is_ascii_lowercase byte || byte == 44 || byte == 59 || byte == 45
+
+abbrev pub is_plain : List ℕ → Bool
+is_plain line = list_all is_plain_byte line
