@@ -1,128 +1,105 @@
--- The text of a trace of one CPU and one lane: which line may stand where, and which trace the whole
--- text is. Any other text is refused as a whole.
-use Rattle.std.specs.Prelude.{◌≡◌, ℕ, Bool, true, false, List, [], ◌∷◌, ◌++◌, length, codes, ◌==◌, nat_lt, nat_le, if◌then◌else◌, Some, None, Result, Ok, Err, is_some}
-use Rattle.std.specs.declared.option.Option.{Option}
-use Rattle.std.specs.Str.{bytes_eq}
-use Rattle.lb_base.specs.Mask.{only}
-use Rattle.lb_trace.specs.declared.trace.TheConstants.{MAX_BYTES, MAX_TASKS, MAX_ROWS, MAX_MOMENT}
+-- The text of a trace, line after line: what was read with a line more, and which trace the whole text
+-- is, or its first bad line and that line's code.
+use Rattle.std.specs.Prelude.{◌≡◌, ℕ, ◌+◌, ◌==◌, nat_le, Bool, true, false, List, [], ◌∷◌, ◌++◌, length, if◌then◌else◌, Option, Some, None, is_some, unwrap_or, Result, Ok, Err}
+use Rattle.lb_base.specs.Mask.{first_cpus}
+use Rattle.lb_fields.specs.Parts.{parts}
+use Rattle.lb_trace.specs.declared.trace.TheConstants.{MAX_BYTES}
 use Rattle.lb_trace.specs.declared.trace.Code.{Code}
-use Rattle.lb_trace.specs.declared.trace.Code.TheVariants.{TooLong, Later}
-use Rattle.lb_trace.specs.declared.trace.Command.{Command}
-use Rattle.lb_trace.specs.declared.trace.Command.TheVariants.{Wake, Sleep, Exit}
-use Rattle.lb_trace.specs.declared.trace.Row.{Row}
-use Rattle.lb_trace.specs.declared.trace.TaskRow.{TaskRow}
+use Rattle.lb_trace.specs.declared.trace.Code.TheVariants as bad
 use Rattle.lb_trace.specs.declared.trace.Trace.{Trace}
 use Rattle.lb_trace.specs.declared.trace.TraceError.{TraceError}
 use Rattle.lb_trace.specs.declared.trace.TraceError.TheVariants as errors
-use Rattle.lb_trace.specs.declared.reading.Stage.{Stage}
-use Rattle.lb_trace.specs.declared.reading.Stage.TheVariants as stages
+use Rattle.lb_trace.specs.declared.kind.LineKind.{LineKind}
+use Rattle.lb_trace.specs.declared.kind.LineKind.TheVariants as kinds
 use Rattle.lb_trace.specs.declared.reading.Reading.{Reading}
-use Rattle.lb_trace.specs.Pieces.{pieces}
-use Rattle.lb_trace.specs.Fields.{◌>>=◌, word_in, number_in, nice_in, end_in}
+use Rattle.lb_trace.specs.Kinds.{kind_of}
+use Rattle.lb_trace.specs.Values.{number, lanes_in, cpu_of, distances_in, masks_from, task_of, row_of}
+use Rattle.lb_trace.specs.Tests.{unless_bad, value_tests, line_tests, end_tests}
 
--- the distance of the one node to itself
-unfoldable pub distance_of : List (List ℕ) → Option ℕ
-distance_of fields = do
-  rest ← word_in (codes "dist") fields
-  distance ← number_in 255 rest
-  ended ← end_in distance.1
-  if distance.0 == 0 then None else Some distance.0
+-- go on with what was read
+infixl 10 ◌>>=◌
+abbrev pub ◌>>=◌ : {A B E : Type 0} → Result A E → (A → Result B E) → Result B E
+Ok a >>= f = f a
+Err e >>= f = Err e
 
--- the task that a line declares, whose id is the next
-unfoldable pub task_of : ℕ → List (List ℕ) → Option TaskRow
-task_of next fields = do
-  rest ← word_in (codes "task") fields
-  id ← number_in MAX_TASKS rest
-  nice ← nice_in id.1
-  home ← word_in (codes "0") nice.1
-  mask ← word_in (codes "0") home
-  ended ← end_in mask
-  if id.0 == next then Some (record { nice = nice.0; home = 0; mask = only 0 }) else None
+-- ---- one line
+-- what a good line of a kind adds
+abbrev pub with_line : Reading → LineKind → List (List ℕ) → Reading
+with_line r kinds.Version fields = r
+with_line r kinds.Cpu fields = record r { cpus = r.cpus ++ cpu_of fields ∷ [] }
+with_line r kinds.Dist fields = record r { distances = r.distances ++ distances_in fields ∷ [] }
+with_line r kinds.Parts fields = record r { parts = Some (masks_from 1 fields) }
+with_line r kinds.Lanes fields = record r { lanes = Some (number (lanes_in fields)) }
+with_line r kinds.Task fields = record r { tasks = r.tasks ++ task_of fields ∷ [] }
+with_line r (kinds.Row kind) fields = record r { rows = r.rows ++ row_of kind fields ∷ [] }
 
--- the command that a kind of row gives a task
-unfoldable pub command_of : List ℕ → ℕ → Option Command
-command_of kind task =
-    if bytes_eq kind (codes "wake") then Some (Wake task)
-    else (if bytes_eq kind (codes "sleep") then Some (Sleep task)
-    else (if bytes_eq kind (codes "exit") then Some (Exit task) else None))
+-- what was read with it, at the line after it
+abbrev pub after : Reading → LineKind → List (List ℕ) → Reading
+after r kind fields = record (with_line r kind fields) { line = r.line + 1 }
 
--- the row that a line is, where so many tasks are declared
-unfoldable pub row_of : ℕ → List (List ℕ) → Option Row
-row_of tasks [] = None
-row_of tasks (kind ∷ fields) = do
-  lane ← word_in (codes "0") fields
-  at ← number_in MAX_MOMENT lane
-  task ← number_in MAX_TASKS at.1
-  ended ← end_in task.1
-  command ← command_of kind task.0
-  if nat_lt task.0 tasks then Some (record { lane = 0; at = at.0; command = command }) else None
+abbrev pub after_line : Reading → Option LineKind → List (List ℕ) → Reading
+after_line r None fields = r
+after_line r (Some kind) fields = after r kind fields
 
--- what was read before the first line
+-- what was read with a line more, or the line's first code
+unfoldable pub line_at : Reading → Bool → List ℕ → Result Reading Code
+line_at r cut line = unless_bad (line_tests r cut line) (after_line r (kind_of (parts 44 line)) (parts 44 line))
+
+-- the text ends here
+unfoldable pub ended : Reading → Result Reading Code
+ended r = unless_bad (end_tests r) r
+
+-- ---- all lines
+-- a code with the number of its line
+abbrev pub on_line : {A : Type 0} → ℕ → Result A Code → Result A (ℕ × Code)
+on_line n (Ok a) = Ok a
+on_line n (Err code) = Err (n, code)
+
+-- what was read with all lines; the last of them is what stands after the last line feed
+unfoldable pub lines_from : Reading → List (List ℕ) → Result Reading (ℕ × Code)
+lines_from r [] = Ok r
+lines_from r (last ∷ []) = on_line r.line (if length last == 0 then ended r else line_at r true last)
+lines_from r (line ∷ next ∷ more) = on_line r.line (line_at r false line) >>= λ s. lines_from s (next ∷ more)
+
+-- before the first line
 abbrev pub nothing_read : Reading
-nothing_read = record { stage = stages.Version; distance = 0; tasks = []; rows = [] }
+nothing_read = record { line = 1; cpus = []; distances = []; parts = None; lanes = None; tasks = []; rows = [] }
 
--- what was read with a task line more
-unfoldable pub task_line : Reading → List ℕ → Option Reading
-task_line r line =
-    if nat_lt (length r.tasks) MAX_TASKS then (task_of (length r.tasks) (pieces 44 line) >>= λ task. Some (record r { tasks = r.tasks ++ task ∷ [] }))
-    else None
-
--- what was read with a row more
-unfoldable pub row_line : Reading → List ℕ → Option Reading
-row_line r line =
-    if nat_lt (length r.rows) MAX_ROWS then (row_of (length r.tasks) (pieces 44 line) >>= λ row. Some (record r { stage = stages.Rows; rows = r.rows ++ row ∷ [] }))
-    else None
-
--- what was read with one line more, where that line may stand there
-unfoldable pub line_at : Stage → Reading → List ℕ → Option Reading
-line_at stages.Version r line = if bytes_eq line (codes "lbtrace,1") then Some (record r { stage = stages.Cpu }) else None
-line_at stages.Cpu r line = if bytes_eq line (codes "cpu,0,0,0,0") then Some (record r { stage = stages.Dist }) else None
-line_at stages.Dist r line = distance_of (pieces 44 line) >>= λ distance. Some (record r { stage = stages.Lanes; distance = distance })
-line_at stages.Lanes r line = if bytes_eq line (codes "lanes,1") then Some (record r { stage = stages.Tasks }) else None
-line_at stages.Tasks r line = if is_some (word_in (codes "task") (pieces 44 line)) then task_line r line else row_line r line
-line_at stages.Rows r line = row_line r line
-
--- what was read with all the lines; the last of them is what stands after the last line feed
-unfoldable pub lines_from : Reading → List (List ℕ) → Option Reading
-lines_from r [] = None
-lines_from r (line ∷ []) = if length line == 0 then Some r else None
-lines_from r (line ∷ next ∷ lines) = line_at r.stage r line >>= λ after. lines_from after (next ∷ lines)
-
--- the header lines are all there
-abbrev pub has_header : Stage → Bool
-has_header stages.Tasks = true
-has_header stages.Rows = true
-has_header _ = false
-
--- a trace of one CPU and one lane
-abbrev pub trace_with : ℕ → List TaskRow → List Row → Trace
-trace_with distance tasks rows =
+-- the trace that was read; without a line `parts` it has one mask of all CPUs
+unfoldable pub trace_of : Reading → Trace
+trace_of r =
     record {
       header = record {
-        cpus = record { core = 0; cache = 0; node = 0 } ∷ [];
-        distances = (distance ∷ []) ∷ [];
-        parts = only 0 ∷ [];
-        lanes = 1;
-        tasks = tasks;
+        cpus = r.cpus;
+        distances = r.distances;
+        parts = unwrap_or r.parts (first_cpus (length r.cpus) ∷ []);
+        lanes = unwrap_or r.lanes 0;
+        tasks = r.tasks;
       };
-      rows = rows;
+      rows = r.rows;
+      has_parts = is_some r.parts;
     }
 
--- the trace that a text is
-unfoldable pub trace_of : List ℕ → Option Trace
-trace_of text =
-    lines_from nothing_read (pieces 10 text) >>= λ r. if has_header r.stage then Some (trace_with r.distance r.tasks r.rows) else None
-
-abbrev pub or_later : Option Trace → Result Trace (ℕ × Code)
-or_later None = Err (0, Later)
-or_later (Some t) = Ok t
-
--- the trace that a text is, or the line and the code of its refusal
+-- the trace that a text is, or its first bad line and that line's first code; line 0 stands for the text
+-- as a whole
 unfoldable pub reading_of : List ℕ → Result Trace (ℕ × Code)
-reading_of text = if nat_le (length text) MAX_BYTES then or_later (trace_of text) else Err (0, TooLong)
+reading_of text =
+    if nat_le (length text) MAX_BYTES
+    then (lines_from nothing_read (parts 10 text) >>= λ r. Ok (trace_of r))
+    else Err (0, bad.TooLong)
 
+-- ---- answers of the code
 -- the answer is what the reading gives; want of memory says nothing of it
-abbrev pub Gives : Result Trace TraceError → Result Trace (ℕ × Code) → Type 0
-Gives (Ok t) reading = reading ≡ Ok t
-Gives (Err (errors.Refused line code)) reading = reading ≡ Err (line, code)
-Gives (Err errors.NoMemory) reading = Unit {0}
+abbrev pub Gives : {A : Type 0} → Result A TraceError → Result A (ℕ × Code) → Type 0
+Gives (Ok a) given = given ≡ Ok a
+Gives (Err (errors.Refused line code)) given = given ≡ Err (line, code)
+Gives (Err errors.NoMemory) given = Unit {0}
+
+-- what a step did: nothing was bad, and this was read, or the code of a bad line
+abbrev pub Steps : Option Code → Reading → Result Reading Code → Type 0
+Steps None new given = given ≡ Ok new
+Steps (Some code) new given = given ≡ Err code
+
+-- what a step did with the fields of a line of this kind, which may stand here
+abbrev pub TakesLine : LineKind → List (List ℕ) → Reading → Reading → Option Code → Type 0
+TakesLine kind fields old new code = Steps code new (unless_bad (value_tests old kind fields) (after old kind fields))

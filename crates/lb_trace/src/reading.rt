@@ -1,266 +1,275 @@
-ghost use Rattle.std.specs.Prelude.{◌≡◌, ◌≤◌, ℕ, length, IfOk, IfSome, Some, None, codes, MatchBool, is_some, nat_le, option_map};
-ghost use Rattle.lb_trace.specs.Fields.{word_in};
-ghost use Rattle.lb_trace.specs.Pieces.{pieces};
-ghost use Rattle.lb_trace.specs.Grammar.{task_of, row_of, command_of, distance_of, row_line, task_line, line_at, lines_from, nothing_read, trace_of, trace_with, reading_of, Gives, has_header};
-ghost use Rattle.lb_trace.specs.Accepted.{IsTrace};
+//! What was read so far, and the line after it.
+ghost use Rattle.std.specs.Prelude.{◌≡◌, ◌<◌, ◌^◌, ◌-◌, ◌∷◌, ◌++◌, ◌==◌, if◌then◌else◌, ℕ, List, true, false, None, length, IfOk, IfNone, IfSome, IsSome, Ok, Err};
+ghost use Rattle.csv.specs.Records.{fields_of};
+ghost use Rattle.lb_fields.specs.Parts.{is_plain};
+ghost use Rattle.lb_fields.specs.Standing.{Stands};
+ghost use Rattle.lb_trace.specs.declared.kind.LineKind.TheVariants as kinds;
+ghost use Rattle.lb_trace.specs.declared.reading.Reading.{Reading as Read};
+ghost use Rattle.lb_trace.specs.Kinds.{kind_of};
+ghost use Rattle.lb_trace.specs.Places.{has_machine, can_stand, is_past_rows, row_has_fields, has_fields};
+ghost use Rattle.lb_trace.specs.Tests.{Tests, unless_bad, byte_tests, kind_tests};
+ghost use Rattle.lb_trace.specs.Grammar.{after_line, line_at, ended, nothing_read, Steps, TakesLine};
+ghost use Rattle.lb_trace.specs.Sound.{IsSound};
+ghost use Rattle.lb_trace.specs.Ticked.{AreTicked, KeepsTicked};
 
-use crate::pieces::Pieces;
-use crate::trace::{
-    Code, Command, Header, MAX_BYTES, MAX_MOMENT, MAX_ROWS, MAX_TASKS, Row, Rows, TaskRow,
-    TaskRows, Trace, TraceError,
-};
-use lb_base::{Items, Mask, NoMemory};
-use lb_levels::CpuRow;
+use crate::kind::{LineKind, RowKind, kind_of};
+use crate::machine::nodes_of;
+use crate::trace::{Code, CpuRows, Distances, MAX_ROWS, MAX_TASKS, Masks, Rows, TaskRows};
+use csv::{ByteRecord, Reader};
+use lb_base::{Items, MAX_CPUS, NoMemory};
+use lb_fields::{is_plain, next_fields};
 use std::alloc::Global;
 
-/// Which line comes next.
-#[derive(Clone, Copy, Debug, PartialEq, Eq)]
-pub enum Stage {
-    Version,
-    Cpu,
-    Dist,
-    Lanes,
-    Tasks,
-    Rows,
-}
-
-/// What was read so far.
+/// What the lines so far say, and the number of the next line, from 1.
 #[derive(Drop)]
 pub struct Reading {
-    pub stage: Stage,
-    pub distance: u32,
+    pub line: u64,
+    pub cpus: CpuRows,
+    pub distances: Distances,
+    pub parts: Option<Masks>,
+    pub lanes: Option<u32>,
     pub tasks: TaskRows,
     pub rows: Rows,
 }
 
-#[tactic(auto, unfolding(crate::specs::Grammar::distance_of))]
-fn distance_of(fields: &mut Pieces) -> Option<u32>
-    ensures { result ≡ distance_of fields.old }
+// A row of this kind has so many fields.
+fn row_has_fields(kind: RowKind, count: usize) -> bool
+    ensures { result ≡ row_has_fields kind count }
 {
-    fields.take_word(b"dist")?;
-    let distance = fields.take_number(255)?;
-    fields.take_end()?;
-    if distance == 0 {
-        None
-    } else {
-        Some(distance as u32)
-    }
-}
-
-#[tactic(auto, unfolding(crate::specs::Grammar::task_of))]
-fn task_of(fields: &mut Pieces, next: u64) -> Option<TaskRow>
-    ensures { result ≡ task_of next fields.old }
-{
-    fields.take_word(b"task")?;
-    let id = fields.take_number(MAX_TASKS)?;
-    let nice = fields.take_nice()?;
-    fields.take_word(b"0")?;
-    fields.take_word(b"0")?;
-    fields.take_end()?;
-    if id == next {
-        Some(TaskRow {
-            nice,
-            home: 0,
-            mask: Mask::one(0),
-        })
-    } else {
-        None
-    }
-}
-
-#[tactic(auto, unfolding(crate::specs::Grammar::command_of))]
-fn command_of(kind: &[u8], task: u32) -> Option<Command>
-    ensures { result ≡ command_of kind.now task }
-{
-    if kind == b"wake".as_slice() {
-        Some(Command::Wake { task })
-    } else if kind == b"sleep".as_slice() {
-        Some(Command::Sleep { task })
-    } else if kind == b"exit".as_slice() {
-        Some(Command::Exit { task })
-    } else {
-        None
-    }
-}
-
-#[tactic(auto, unfolding(crate::specs::Grammar::row_of))]
-fn row_of(fields: &mut Pieces, tasks: u64) -> Option<Row>
-    ensures { result ≡ row_of tasks fields.old }
-{
-    let kind = fields.take_piece()?;
-    fields.take_word(b"0")?;
-    let at = fields.take_number(MAX_MOMENT)?;
-    let task = fields.take_number(MAX_TASKS)?;
-    fields.take_end()?;
-    let command = command_of(kind, task as u32)?;
-    if task < tasks {
-        Some(Row {
-            lane: 0,
-            at,
-            command,
-        })
-    } else {
-        None
+    match kind {
+        RowKind::Mask | RowKind::Nice => count == 5,
+        RowKind::Rebuild => count >= 4,
+        RowKind::Wake | RowKind::Sleep | RowKind::Exit | RowKind::Tick => count == 4,
     }
 }
 
 impl Reading {
-    #[tactic(auto, unfolding(crate::specs::Grammar::task_line))]
-    fn task_line(&mut self, line: &[u8]) -> Result<bool, NoMemory>
-        ensures { IfOk result (λ took. MatchBool took (task_line self.old line.now ≡ Some self.new) (task_line self.old line.now ≡ None)) }
+    /// Before the first line.
+    pub fn new(alloc: Global) -> Reading
+        ensures { result ≡ nothing_read }
     {
-        let next = self.tasks.len() as u64;
-        if next >= MAX_TASKS {
-            return Ok(false);
+        Reading {
+            line: 1,
+            cpus: Items::new(alloc),
+            distances: Items::new(alloc),
+            parts: None,
+            lanes: None,
+            tasks: Items::new(alloc),
+            rows: Items::new(alloc),
         }
-        let Some(task) = task_of(&mut Pieces::new(line, b','), next) else {
-            return Ok(false);
+    }
+
+    // There are CPUs, and a row of distances for each of their nodes.
+    fn has_machine(&self) -> bool
+        ensures { result ≡ has_machine self.now }
+    {
+        !self.cpus.is_empty() && self.distances.len() == nodes_of(self.cpus.as_slice())
+    }
+
+    // A line of this kind can stand here.
+    fn can_stand(&self, kind: LineKind) -> bool
+        ensures { result ≡ can_stand self.now kind }
+    {
+        match kind {
+            LineKind::Version => self.line == 1,
+            LineKind::Cpu => self.distances.is_empty() && self.cpus.len() < MAX_CPUS as usize,
+            LineKind::Dist => self.distances.len() < nodes_of(self.cpus.as_slice()),
+            LineKind::Parts => {
+                self.has_machine() && self.lanes.is_none() && self.parts.is_none()
+            }
+            LineKind::Lanes => self.has_machine() && self.lanes.is_none(),
+            LineKind::Task => {
+                self.lanes.is_some()
+                    && self.rows.is_empty()
+                    && (self.tasks.len() as u64) < MAX_TASKS
+            }
+            LineKind::Row(_) => self.lanes.is_some(),
+        }
+    }
+
+    // It is a row, and the most rows were read.
+    fn is_past_rows(&self, kind: LineKind) -> bool
+        ensures { result ≡ is_past_rows self.now kind }
+    {
+        match kind {
+            LineKind::Row(_) => self.rows.len() as u64 >= MAX_ROWS,
+            _ => false,
+        }
+    }
+
+    // A line of this kind has so many fields.
+    fn has_fields(&self, kind: LineKind, count: usize) -> bool
+        ensures { result ≡ has_fields self.now kind count }
+    {
+        match kind {
+            LineKind::Version | LineKind::Lanes => count == 2,
+            LineKind::Cpu | LineKind::Task => count == 5,
+            LineKind::Dist => count > 0 && count - 1 == nodes_of(self.cpus.as_slice()),
+            LineKind::Parts => count >= 2,
+            LineKind::Row(kind) => row_has_fields(kind, count),
+        }
+    }
+
+    // Takes a row, whose place and number of fields are right.
+    fn row_line(
+        &mut self,
+        alloc: Global,
+        kind: RowKind,
+        fields: &ByteRecord,
+        ticked: &mut [Option<u64>],
+    ) -> Result<Option<Code>, NoMemory>
+        requires line { self.old.line < 2 ^ 64 - 1 }
+        requires sound { IsSound self.old }
+        requires lanes { length ticked.old ≡ MAX_CPUS }
+        requires ticked { AreTicked self.old.rows ticked.old }
+        ensures step { IfOk result (TakesLine (kinds.Row kind) (fields_of fields.now) self.old self.new) }
+        ensures ticked { IfOk result (λ code. KeepsTicked code self.new ticked.new) }
+    {
+        match kind {
+            RowKind::Wake => self.wake_line(fields),
+            RowKind::Sleep => self.sleep_line(fields),
+            RowKind::Exit => self.exit_line(fields),
+            RowKind::Mask => self.mask_line(fields),
+            RowKind::Nice => self.nice_line(fields),
+            RowKind::Tick => self.tick_line(fields, ticked),
+            RowKind::Rebuild => self.rebuild_line(alloc, fields),
+        }
+    }
+
+    // Takes a line by its kind, whose place and number of fields are right.
+    fn line_of(
+        &mut self,
+        alloc: Global,
+        kind: LineKind,
+        fields: &ByteRecord,
+        ticked: &mut [Option<u64>],
+    ) -> Result<Option<Code>, NoMemory>
+        requires line { self.old.line < 2 ^ 64 - 1 }
+        requires sound { IsSound self.old }
+        requires place { can_stand self.old kind ≡ true }
+        requires count { has_fields self.old kind (length (fields_of fields.now)) ≡ true }
+        requires lanes { length ticked.old ≡ MAX_CPUS }
+        requires ticked { AreTicked self.old.rows ticked.old }
+        ensures step { IfOk result (TakesLine kind (fields_of fields.now) self.old self.new) }
+        ensures ticked { IfOk result (λ code. KeepsTicked code self.new ticked.new) }
+    {
+        match kind {
+            LineKind::Version => {
+                self.line += 1;
+                Ok(None)
+            }
+            LineKind::Cpu => self.cpu_line(fields),
+            LineKind::Dist => self.dist_line(alloc, fields),
+            LineKind::Parts => self.parts_line(alloc, fields),
+            LineKind::Lanes => Ok(self.lanes_line(fields)),
+            LineKind::Task => self.task_line(fields),
+            LineKind::Row(kind) => self.row_line(alloc, kind, fields, ticked),
+        }
+    }
+
+    // Takes a line by its fields.
+    #[tactic(auto, unfolding(crate::specs::Tests::kind_tests, crate::specs::Tests::place_tests))]
+    fn kind_line(
+        &mut self,
+        alloc: Global,
+        fields: &ByteRecord,
+        ticked: &mut [Option<u64>],
+    ) -> Result<Option<Code>, NoMemory>
+        requires line { self.old.line < 2 ^ 64 - 1 }
+        requires sound { IsSound self.old }
+        requires lanes { length ticked.old ≡ MAX_CPUS }
+        requires ticked { AreTicked self.old.rows ticked.old }
+        ensures step { IfOk result (λ code. Steps code self.new (unless_bad (kind_tests self.old (kind_of (fields_of fields.now)) (fields_of fields.now))
+            (after_line self.old (kind_of (fields_of fields.now)) (fields_of fields.now)))) }
+        ensures ticked { IfOk result (λ code. KeepsTicked code self.new ticked.new) }
+    {
+        let Some(kind) = kind_of(fields) else {
+            return Ok(Some(Code::Kind));
         };
-        self.tasks.push(task)?;
-        Ok(true)
+        if !self.can_stand(kind) {
+            return Ok(Some(Code::Order));
+        }
+        if self.is_past_rows(kind) {
+            return Ok(Some(Code::Many));
+        }
+        if !self.has_fields(kind, fields.len()) {
+            return Ok(Some(Code::Fields));
+        }
+        self.line_of(alloc, kind, fields, ticked)
     }
 
-    #[tactic(auto, unfolding(crate::specs::Grammar::row_line))]
-    fn row_line(&mut self, line: &[u8]) -> Result<bool, NoMemory>
-        ensures { IfOk result (λ took. MatchBool took (row_line self.old line.now ≡ Some self.new) (row_line self.old line.now ≡ None)) }
+    // The code of a line by its bytes alone.
+    #[tactic(auto, unfolding(crate::specs::Tests::byte_tests))]
+    fn byte_code(&self, cut: bool, line: &[u8]) -> Option<Code>
+        ensures good { IfNone result ((ts : Tests) → (read : Read) → unless_bad (byte_tests self.now cut line.now ++ ts) read ≡ unless_bad ts read) }
+        ensures bad { IfSome result (λ code. (ts : Tests) → (read : Read) → unless_bad (byte_tests self.now cut line.now ++ ts) read ≡ Err code) }
+        ensures plain { IfNone result (is_plain line.now ≡ true) }
+        ensures cut { cut ≡ true → IsSome result }
     {
-        if self.rows.len() as u64 >= MAX_ROWS {
-            return Ok(false);
+        if !is_plain(line) {
+            return Some(Code::Byte);
         }
-        let tasks = self.tasks.len() as u64;
-        let Some(row) = row_of(&mut Pieces::new(line, b','), tasks) else {
-            return Ok(false);
-        };
-        self.rows.push(row)?;
-        self.stage = Stage::Rows;
-        Ok(true)
+        if cut {
+            return Some(Code::Cut);
+        }
+        if self.line == 1 && line != b"lbtrace,1".as_slice() {
+            return Some(Code::Header);
+        }
+        None
     }
 
-    // Takes a line where it may stand here.
-    #[tactic(auto, unfolding(crate::specs::Grammar::line_at))]
-    fn take_line(&mut self, line: &[u8]) -> Result<bool, NoMemory>
-        ensures { IfOk result (λ took. MatchBool took (line_at self.old.stage self.old line.now ≡ Some self.new) (line_at self.old.stage self.old line.now ≡ None)) }
+    // The code of a text that ends here.
+    #[tactic(auto, unfolding(crate::specs::Grammar::ended, crate::specs::Tests::end_tests))]
+    fn end_code(&self) -> Option<Code>
+        ensures { Steps result self.now (ended self.now) }
     {
-        match self.stage {
-            Stage::Version => {
-                self.stage = Stage::Cpu;
-                Ok(line == b"lbtrace,1".as_slice())
-            }
-            Stage::Cpu => {
-                self.stage = Stage::Dist;
-                Ok(line == b"cpu,0,0,0,0".as_slice())
-            }
-            Stage::Dist => {
-                let Some(distance) = distance_of(&mut Pieces::new(line, b',')) else {
-                    return Ok(false);
-                };
-                self.distance = distance;
-                self.stage = Stage::Lanes;
-                Ok(true)
-            }
-            Stage::Lanes => {
-                self.stage = Stage::Tasks;
-                Ok(line == b"lanes,1".as_slice())
-            }
-            Stage::Tasks => {
-                if Pieces::new(line, b',').take_word(b"task").is_some() {
-                    self.task_line(line)
-                } else {
-                    self.row_line(line)
-                }
-            }
-            Stage::Rows => self.row_line(line),
+        if self.line == 1 {
+            Some(Code::Header)
+        } else if self.lanes.is_none() {
+            Some(Code::Order)
+        } else {
+            None
         }
     }
-}
 
-// Reads all the lines of a text, after what was read before.
-#[tactic(auto, unfolding(crate::specs::Grammar::lines_from))]
-fn lines_from(mut reading: Reading, bytes: &[u8]) -> Result<Option<Reading>, NoMemory>
-    ensures { IfOk result (λ r. r ≡ lines_from reading (pieces 10 bytes.now)) }
-{
-    let mut lines = Pieces::new(bytes, b'\n');
-    let Some(mut line) = lines.take_piece() else {
-        return Ok(None);
-    };
-    while let Some(next) = lines.take_piece() {
-        if !reading.take_line(line)? {
-            return Ok(None);
-        }
-        line = next;
-    }
-    if line.is_empty() {
-        Ok(Some(reading))
-    } else {
-        Ok(None)
-    }
-}
-
-// A trace of one CPU and one lane.
-fn trace_with(alloc: Global, distance: u32, tasks: TaskRows, rows: Rows) -> Result<Trace, NoMemory>
-    ensures { IfOk result (λ t. t ≡ trace_with distance tasks rows) }
-{
-    let cpu = CpuRow {
-        core: 0,
-        cache: 0,
-        node: 0,
-    };
-    let mut distances = Items::new(alloc);
-    distances.push(Items::from_slice(alloc, &[distance])?)?;
-    let header = Header {
-        cpus: Items::from_slice(alloc, &[cpu])?,
-        distances,
-        parts: Items::from_slice(alloc, &[Mask::one(0)])?,
-        lanes: 1,
-        tasks,
-    };
-    Ok(Trace { header, rows })
-}
-
-#[tactic(auto, unfolding(crate::specs::Grammar::trace_of))]
-fn trace_of(alloc: Global, bytes: &[u8]) -> Result<Option<Trace>, NoMemory>
-    ensures { IfOk result (λ t. t ≡ trace_of bytes.now) }
-{
-    let nothing_read = Reading {
-        stage: Stage::Version,
-        distance: 0,
-        tasks: Items::new(alloc),
-        rows: Items::new(alloc),
-    };
-    let Some(reading) = lines_from(nothing_read, bytes)? else {
-        return Ok(None);
-    };
-    let Reading {
-        stage,
-        distance,
-        tasks,
-        rows,
-    } = reading;
-    match stage {
-        Stage::Tasks | Stage::Rows => Ok(Some(trace_with(alloc, distance, tasks, rows)?)),
-        Stage::Version | Stage::Cpu | Stage::Dist | Stage::Lanes => Ok(None),
-    }
-}
-
-impl Trace {
-    /// The trace that a text is, or its refusal (docs/rules/trace.md).
-    #[tactic(auto, using(crate::proofs::AcceptedFacts::text_is_trace), unfolding(crate::specs::Grammar::reading_of))]
-    pub fn read(alloc: Global, bytes: &[u8]) -> Result<Trace, TraceError>
-        ensures reading { Gives result (reading_of bytes.now) }
-        ensures accepted { IfOk result IsTrace }
+    /// The code of what stands after the last line feed: the end of the text, or a line that is cut
+    /// off.
+    #[tactic(auto, unfolding(crate::specs::Grammar::line_at, crate::specs::Tests::line_tests))]
+    pub fn last_code(&self, last: &[u8]) -> Option<Code>
+        ensures { Steps result self.now (if length last.now == 0 then ended self.now else line_at self.now true last.now) }
     {
-        if bytes.len() as u64 > MAX_BYTES {
-            return Err(TraceError::Refused {
-                line: 0,
-                code: Code::TooLong,
-            });
+        if last.is_empty() {
+            self.end_code()
+        } else {
+            self.byte_code(true, last)
         }
-        match trace_of(alloc, bytes)? {
-            Some(trace) => Ok(trace),
-            None => Err(TraceError::Refused {
-                line: 0,
-                code: Code::Later,
-            }),
+    }
+
+    /// Takes the next line, before which the reader of fields stands.
+    #[tactic(auto, unfolding(crate::specs::Grammar::line_at, crate::specs::Tests::line_tests))]
+    pub fn take_line(
+        &mut self,
+        alloc: Global,
+        line: &[u8],
+        reader: &mut Reader<&[u8]>,
+        fields: &mut ByteRecord,
+        ticked: &mut [Option<u64>],
+    ) -> Result<Option<Code>, NoMemory>
+        requires line { self.old.line < 2 ^ 64 - 1 }
+        requires sound { IsSound self.old }
+        requires lanes { length ticked.old ≡ MAX_CPUS }
+        requires ticked { AreTicked self.old.rows ticked.old }
+        ensures step { (tail : List ℕ) → (is_plain line.now ≡ true → Stands reader.old (line.now ++ 10 ∷ tail))
+            → IfOk result (λ code. Steps code self.new (line_at self.old false line.now) × (code ≡ None → Stands reader.new tail)) }
+        ensures ticked { IfOk result (λ code. KeepsTicked code self.new ticked.new) }
+    {
+        if let Some(code) = self.byte_code(false, line) {
+            return Ok(Some(code));
         }
+        if line.is_empty() {
+            return Ok(Some(Code::Kind));
+        }
+        next_fields(reader, line, fields)?;
+        self.kind_line(alloc, fields, ticked)
     }
 }

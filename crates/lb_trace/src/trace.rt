@@ -8,7 +8,16 @@ use std::fmt;
 /// The length of the longest text that is read, in bytes: 32 MiB.
 pub const MAX_BYTES: u64 = 33_554_432;
 
-/// The most tasks of a trace.
+/// The most nodes of a machine. Nodes are numbered below this.
+pub const MAX_NODES: u64 = 16;
+
+/// The greatest distance between nodes.
+pub const MAX_DISTANCE: u64 = 255;
+
+/// The most lanes of a trace. Lanes are numbered below this.
+pub const MAX_LANES: u64 = 16;
+
+/// The most tasks of a trace. Tasks are numbered below this.
 pub const MAX_TASKS: u64 = 4_096;
 
 /// The most rows of a trace.
@@ -33,7 +42,7 @@ pub type TaskRows = Items<TaskRow>;
 pub type Rows = Items<Row>;
 
 /// What a row asks for (docs/rules/trace.md).
-#[derive(Clone, Copy, Debug, PartialEq, Eq)]
+#[derive(Debug, Drop)]
 pub enum Command {
     /// The task wakes.
     Wake {
@@ -50,14 +59,38 @@ pub enum Command {
         /// The task.
         task: u32,
     },
+    /// The task gets another affinity mask.
+    SetMask {
+        /// The task.
+        task: u32,
+        /// The CPUs where it may run from then on. It may be empty, or have CPUs past the machine.
+        mask: Mask,
+    },
+    /// The task gets another nice value.
+    Nice {
+        /// The task.
+        task: u32,
+        /// The nice value, -20 to 19.
+        nice: i32,
+    },
+    /// The scheduler's tick of a CPU.
+    Tick {
+        /// The CPU.
+        cpu: u32,
+    },
+    /// The domains are built anew, over another partition.
+    Rebuild {
+        /// The partition masks, at least one: disjoint masks of CPUs of the machine.
+        parts: Masks,
+    },
 }
 
 /// One row of a trace: what its lane is to do, and when.
-#[derive(Clone, Copy, Debug, PartialEq, Eq)]
+#[derive(Debug, Drop)]
 pub struct Row {
-    /// The lane that serves the row.
+    /// The lane that serves the row, 0 to 15.
     pub lane: u32,
-    /// The moment, in nanoseconds.
+    /// The moment, in nanoseconds, at most `MAX_MOMENT`.
     pub at: u64,
     /// What is asked for.
     pub command: Command,
@@ -70,22 +103,22 @@ pub struct TaskRow {
     pub nice: i32,
     /// The CPU at whose queue it begins, asleep.
     pub home: u32,
-    /// The CPUs where it may run.
+    /// The CPUs where it may run, at least one.
     pub mask: Mask,
 }
 
 /// What a trace says of the machine, before its rows.
 #[derive(Debug, Drop)]
 pub struct Header {
-    /// The CPUs.
+    /// The CPUs, 1 to 64.
     pub cpus: CpuRows,
-    /// The distances of the nodes.
+    /// The distances of the nodes, 1 to 255.
     pub distances: Distances,
-    /// The partition masks.
+    /// The partition masks, at least one.
     pub parts: Masks,
-    /// The number of lanes.
+    /// The number of lanes, 1 to 16.
     pub lanes: u32,
-    /// The tasks.
+    /// The tasks, at most `MAX_TASKS`.
     pub tasks: TaskRows,
 }
 
@@ -94,16 +127,54 @@ pub struct Header {
 pub struct Trace {
     /// The machine and its tasks.
     pub header: Header,
-    /// What happens, in file order.
+    /// What happens, in file order: at most `MAX_ROWS` rows.
     pub rows: Rows,
+    /// Whether the text has a line `parts`. Without it the header has one mask of all CPUs.
+    pub has_parts: bool,
 }
 
-/// Why a text is refused (docs/rules/trace.md).
+/// Why a line is refused (docs/rules/trace.md has the whole table).
 #[derive(Clone, Copy, Debug, PartialEq, Eq)]
 pub enum Code {
-    /// It is longer than `MAX_BYTES`.
+    /// The text is longer than the limit.
     TooLong,
-    /// It is no text of the grammar that is read today.
+    /// A byte that no line may have.
+    Byte,
+    /// The last line has no line feed.
+    Cut,
+    /// The first line is not the version, or there is none.
+    Header,
+    /// The first field names no kind of line.
+    Kind,
+    /// A line of this kind cannot stand here, or the text ends too early.
+    Order,
+    /// One row more than `MAX_ROWS`.
+    Many,
+    /// The number of fields is wrong.
+    Fields,
+    /// A number is misspelt or out of range.
+    Number,
+    /// A list of CPUs is misspelt.
+    List,
+    /// An id is not the next, or a field names what is not declared.
+    Id,
+    /// The CPU shares a core or a cache with an earlier one, and not what lies above it.
+    Cpu,
+    /// The distances cannot stand below those before them.
+    Dist,
+    /// The nodes are not nested.
+    Nested,
+    /// A partition mask has an undeclared CPU.
+    NoCpu,
+    /// Two partition masks share a CPU.
+    Overlap,
+    /// A task's mask is empty or has an undeclared CPU.
+    Mask,
+    /// The CPU was ticked earlier by another lane.
+    Ticks,
+    /// The line is none of a history at its place.
+    BadLine,
+    /// The line is one that a later version serves.
     Later,
 }
 
@@ -116,6 +187,24 @@ impl Code {
     {
         match self {
             Code::TooLong => "too-long",
+            Code::Byte => "byte",
+            Code::Cut => "cut",
+            Code::Header => "header",
+            Code::Kind => "kind",
+            Code::Order => "order",
+            Code::Many => "many",
+            Code::Fields => "fields",
+            Code::Number => "number",
+            Code::List => "list",
+            Code::Id => "id",
+            Code::Cpu => "cpu",
+            Code::Dist => "dist",
+            Code::Nested => "nested",
+            Code::NoCpu => "nocpu",
+            Code::Overlap => "overlap",
+            Code::Mask => "mask",
+            Code::Ticks => "ticks",
+            Code::BadLine => "bad-line",
             Code::Later => "later",
         }
     }
@@ -135,7 +224,7 @@ impl fmt::Display for Code {
 /// Why a text gave no trace.
 #[derive(Clone, Copy, Debug, PartialEq, Eq)]
 pub enum TraceError {
-    /// The text is refused.
+    /// The text is refused at its first bad line, by the first code that holds of it.
     Refused {
         /// The line, from 1; 0 for the text as a whole.
         line: u64,

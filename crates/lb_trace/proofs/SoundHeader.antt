@@ -1,0 +1,122 @@
+-- What was read stays sound with one of the other lines of the header: partition masks, the number of
+-- lanes, or a task.
+use Rattle.std.proofs.Common.{◌≡◌, ℕ, ◌+◌, ◌<◌, ◌≤◌, ◌^◌, true, false, not, List, length, Option, Some, None, refl, ap, arith}
+use Rattle.std.specs.Prelude.{is_some, is_none}
+use Rattle.std.proofs.lemmas.Bool.{and_parts, and_from, or_parts, lt-ltb, le-leb, ltb-true, leb-true, eqb-true, not-false, both_ways, not_from_false}
+use Rattle.std.proofs.lemmas.List.{length_push, nil_from_length}
+use Rattle.lb_base.specs.Sets.{are_disjoint}
+use Rattle.lb_levels.proofs.Overlaps.{no_fault_from}
+use Rattle.lb_trace.specs.declared.trace.TheConstants.{MAX_BYTES}
+use Rattle.lb_trace.specs.declared.kind.LineKind.TheVariants as kinds
+use Rattle.lb_trace.specs.declared.reading.Reading.{Reading}
+use Rattle.lb_trace.specs.Values.{masks_from, task_of}
+use Rattle.lb_trace.specs.Naming.{has_no_cpu}
+use Rattle.lb_trace.specs.Grammar.{after, trace_of}
+use Rattle.lb_trace.specs.Accepted.{is_partition, is_task, is_row}
+use Rattle.lb_trace.specs.Sound.{AreLanes, AreParts, IsSound}
+use Rattle.lb_trace.proofs.GoodLine.{IsGood}
+use Rattle.lb_trace.proofs.SoundLists.{all_push, all_none, if_some}
+use Rattle.lb_trace.proofs.SoundValues.{number_in, nice_in, list_in, masks_in, length-masks_from}
+
+none_there : {X : Type 0} (o : Option X) → is_none o ≡ true → is_some o ≡ false
+none_there None e = refl
+none_there (Some x) e = absurd (cc)
+
+-- a line with few enough bytes has few enough fields
+abbrev pub max_fields : ℕ
+max_fields = MAX_BYTES + 1
+
+-- ---- partition masks
+pub partition_in : (r : Reading) (i : ℕ) (fields : List (List ℕ)) → i < length fields → length fields ≤ max_fields
+    → has_no_cpu r (masks_from i fields) ≡ false → not (are_disjoint (masks_from i fields)) ≡ false → is_partition (length r.cpus) (masks_from i fields) ≡ true
+partition_in r i fields some few below apart =
+    let masks = masks_from i fields in
+    let long = length-masks_from i fields in
+    let fine = no_fault_from (length r.cpus) masks (record { below = not-false _ below; apart = not-false _ apart }) in
+    and_from _ _
+    (and_from _ _ (and_from _ _ (le-leb 1 (length masks) (omega (arith, long, some))) (lt-ltb (length masks) (2 ^ 32) (omega (arith, long, few)))) (masks_in i fields))
+    (ap is_none fine)
+
+pub sound_parts : (r : Reading) (fields : List (List ℕ)) → length fields ≤ max_fields → IsSound r → IsGood r kinds.Parts fields → IsSound (after r kinds.Parts fields)
+sound_parts r fields few h good =
+    let place = and_parts _ _ (and_parts _ _ good.stands).0 in
+    let lanes = none_there r.lanes place.1 in
+    let some = leb-true _ _ good.size in
+    record {
+      most_cpus = h.most_cpus;
+      cpus = h.cpus;
+      cpus_stand = h.cpus_stand;
+      most_distances = h.most_distances;
+      sizes = h.sizes;
+      distances = h.distances;
+      rows_stand = h.rows_stand;
+      nested = h.nested;
+      parts = record { partition = partition_in r 1 fields (omega (arith, some)) few good.cpus good.apart; machine = place.0 };
+      lanes = if_some (AreLanes r) _ r.lanes h.lanes (λ lanes are. record { some = are.some; most = are.most; machine = are.machine });
+      no_tasks = h.no_tasks;
+      most_tasks = h.most_tasks;
+      tasks = h.tasks;
+      no_rows = h.no_rows;
+      most_rows = h.most_rows;
+      rows = all_none (is_row (trace_of (after r kinds.Parts fields)).header) r.rows (h.no_rows lanes);
+      ticks = h.ticks;
+    }
+
+-- ---- the number of lanes
+pub sound_lanes : (r : Reading) (fields : List (List ℕ)) → IsSound r → IsGood r kinds.Lanes fields → IsSound (after r kinds.Lanes fields)
+sound_lanes r fields h good =
+    let place = and_parts _ _ good.stands in
+    let lanes = none_there r.lanes place.1 in
+    let range = number_in 1 1 16 fields good.numbers in
+    record {
+      most_cpus = h.most_cpus;
+      cpus = h.cpus;
+      cpus_stand = h.cpus_stand;
+      most_distances = h.most_distances;
+      sizes = h.sizes;
+      distances = h.distances;
+      rows_stand = h.rows_stand;
+      nested = h.nested;
+      parts = if_some (AreParts r) _ r.parts h.parts (λ parts are. record { partition = are.partition; machine = are.machine });
+      lanes = record { some = range.0; most = range.1; machine = place.0 };
+      no_tasks = λ none. absurd (cc);
+      most_tasks = h.most_tasks;
+      tasks = h.tasks;
+      no_rows = λ none. absurd (cc);
+      most_rows = h.most_rows;
+      rows = all_none (is_row (trace_of (after r kinds.Lanes fields)).header) r.rows (h.no_rows lanes);
+      ticks = h.ticks;
+    }
+
+-- ---- a task
+task_in : (r : Reading) (fields : List (List ℕ)) → IsGood r kinds.Task fields → is_task (length r.cpus) (task_of fields) ≡ true
+task_in r fields good =
+    let mask = or_parts _ _ good.mask in
+    and_from _ _
+    (and_from _ _ (and_from _ _ (and_from _ _ (nice_in 2 fields) (not-false _ (or_parts _ _ good.names).1)) (not_from_false _ mask.0)) (not-false _ mask.1))
+    (list_in 4 fields)
+
+pub sound_task : (r : Reading) (fields : List (List ℕ)) → IsSound r → IsGood r kinds.Task fields → IsSound (after r kinds.Task fields)
+sound_task r fields h good =
+    let room = and_parts _ _ good.stands in
+    let place = and_parts _ _ room.0 in
+    let longer = length_push r.tasks (task_of fields) in
+    record {
+      most_cpus = h.most_cpus;
+      cpus = h.cpus;
+      cpus_stand = h.cpus_stand;
+      most_distances = h.most_distances;
+      sizes = h.sizes;
+      distances = h.distances;
+      rows_stand = h.rows_stand;
+      nested = h.nested;
+      parts = if_some (AreParts r) _ r.parts h.parts (λ parts are. record { partition = are.partition; machine = are.machine });
+      lanes = if_some (AreLanes r) _ r.lanes h.lanes (λ lanes are. record { some = are.some; most = are.most; machine = are.machine });
+      no_tasks = λ none. absurd (both_ways _ none place.0);
+      most_tasks = omega (arith, longer, ltb-true _ _ room.1);
+      tasks = all_push (is_task (length r.cpus)) r.tasks (task_of fields) h.tasks (task_in r fields good);
+      no_rows = h.no_rows;
+      most_rows = h.most_rows;
+      rows = all_none (is_row (trace_of (after r kinds.Task fields)).header) r.rows (nil_from_length r.rows (eqb-true _ _ place.1));
+      ticks = h.ticks;
+    }

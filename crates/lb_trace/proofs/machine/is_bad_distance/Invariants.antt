@@ -1,0 +1,6 @@
+use Rattle.std.proofs.Common.{◌≡◌, ℕ, ◌<◌, false}
+use Rattle.lb_levels.specs.Rows.{is_bad_entry}
+use Rattle.lb_trace.proofs.machine.is_bad_distance.Given as goal
+
+abbrev pub invariant-loop-b : goal.invariant-loop-b
+invariant-loop-b l = (k : ℕ) → k < l.b → is_bad_entry l.distances l.a k ≡ false

@@ -1,0 +1,6 @@
+use Rattle.std.proofs.Common.{◌≡◌, take}
+use Rattle.lb_levels.specs.Faults.{nodes_of}
+use Rattle.lb_trace.proofs.machine.nodes_of.Given as goal
+
+abbrev pub invariant-loop-row : goal.invariant-loop-row
+invariant-loop-row l = l.nodes ≡ nodes_of (take l.row-index l.cpus)

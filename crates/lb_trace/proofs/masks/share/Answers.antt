@@ -1,0 +1,6 @@
+use Rattle.std.proofs.Common.{◌∙◌}
+use Rattle.lb_levels.proofs.MaskTests.{apart_is}
+use Rattle.lb_trace.proofs.masks.share.Goals as goal
+
+pub returns : goal.returns
+returns c = c.is_some.ensures ∙ apart_is c.args.a c.args.b c.and.result c.first.result c.and.ensures.cpus c.first.ensures.cpus

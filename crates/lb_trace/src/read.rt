@@ -1,0 +1,103 @@
+//! Reading a whole text.
+ghost use Rattle.std.specs.Prelude.{◌≤◌, [], length, IfOk, ◌≡◌};
+ghost use Rattle.lb_fields.specs.Parts.{parts};
+ghost use Rattle.lb_trace.specs.Grammar.{lines_from, nothing_read, trace_of, reading_of, Gives};
+ghost use Rattle.lb_trace.specs.Ticked.{AreTicked};
+
+use crate::reading::Reading;
+use crate::trace::{Code, Header, MAX_BYTES, Trace, TraceError};
+use csv::ByteRecord;
+use lb_base::{Items, MAX_CPUS, Mask, NoMemory};
+use lb_fields::{Parts, start};
+use std::alloc::Global;
+
+// No CPU has ticked yet.
+fn none_ticked() -> [Option<u64>; MAX_CPUS as usize]
+    ensures { AreTicked [] result }
+{
+    [None; MAX_CPUS as usize]
+}
+
+// Reads all lines of a text.
+#[tactic(auto, unfolding(crate::specs::Grammar::lines_from))]
+fn lines_from(alloc: Global, text: &[u8]) -> Result<Reading, TraceError>
+    requires { length text.now ≤ MAX_BYTES }
+    ensures reading { Gives result (lines_from nothing_read (parts 10 text.now)) }
+    ensures few { IfOk result (λ read. length read.cpus ≤ MAX_CPUS) }
+{
+    let mut reading = Reading::new(alloc);
+    let mut reader = start(alloc, text);
+    let mut fields = ByteRecord::new(alloc);
+    let mut ticked = none_ticked();
+    let mut lines = Parts::new(text, b'\n');
+    let Some(mut line) = lines.next_part() else {
+        return Ok(reading);
+    };
+    while let Some(next) = lines.next_part() {
+        let number = reading.line;
+        match reading.take_line(alloc, line, &mut reader, &mut fields, &mut ticked) {
+            Ok(None) => line = next,
+            Ok(Some(code)) => return Err(TraceError::Refused { line: number, code }),
+            Err(NoMemory) => return Err(TraceError::NoMemory),
+        }
+    }
+    match reading.last_code(line) {
+        Some(code) => Err(TraceError::Refused {
+            line: reading.line,
+            code,
+        }),
+        None => Ok(reading),
+    }
+}
+
+// The trace that was read.
+#[tactic(auto, unfolding(crate::specs::Grammar::trace_of))]
+fn trace_of(alloc: Global, reading: Reading) -> Result<Trace, NoMemory>
+    requires { length reading.cpus ≤ MAX_CPUS }
+    ensures { IfOk result (λ trace. trace ≡ trace_of reading) }
+{
+    let Reading {
+        line: _,
+        cpus,
+        distances,
+        parts,
+        lanes,
+        tasks,
+        rows,
+    } = reading;
+    let has_parts = parts.is_some();
+    let parts = match parts {
+        Some(parts) => parts,
+        None => Items::from_slice(alloc, &[Mask::all(cpus.len() as u32)])?,
+    };
+    let header = Header {
+        cpus,
+        distances,
+        parts,
+        lanes: lanes.unwrap_or(0),
+        tasks,
+    };
+    Ok(Trace {
+        header,
+        rows,
+        has_parts,
+    })
+}
+
+impl Trace {
+    /// The trace that a text is, or its first bad line with that line's first code
+    /// (docs/rules/trace.md).
+    #[tactic(auto, unfolding(crate::specs::Grammar::reading_of))]
+    pub fn read(alloc: Global, bytes: &[u8]) -> Result<Trace, TraceError>
+        ensures { Gives result (reading_of bytes.now) }
+    {
+        if bytes.len() as u64 > MAX_BYTES {
+            return Err(TraceError::Refused {
+                line: 0,
+                code: Code::TooLong,
+            });
+        }
+        let reading = lines_from(alloc, bytes)?;
+        Ok(trace_of(alloc, reading)?)
+    }
+}
