@@ -1,0 +1,11 @@
+//! The text of a trace's topologies: over which domains and groups each CPU is balanced, version by
+//! version.
+#![tactic(auto)]
+
+mod build;
+mod lines;
+#[cfg(test)]
+mod tests;
+mod text;
+
+pub use text::topology_text;
