@@ -1,5 +1,15 @@
 pub mod Tasks
 pub mod Queue
-pub mod Commands
-pub mod Turns
 pub mod Kept
+pub mod Lists
+pub mod Commands
+pub mod Requests
+pub mod Values
+pub mod Inside
+pub mod Hands
+pub mod Turns
+pub mod Figures
+pub mod Sums
+pub mod Pulls
+pub mod Calls
+pub mod Laws

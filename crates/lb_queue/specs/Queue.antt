@@ -1,16 +1,20 @@
--- The state of a run queue: its awake tasks from the front to the back, the running one and the stop
--- requests among their records, those asleep and those gone; its active request, flags, clock, idle
--- time, version with the balance counters of its domains, and the turn that is open there.
-use Rattle.std.specs.Prelude.{ℕ, max, Bool, false, if◌then◌else◌, Option, Some, None, List, [], ◌∷◌, ◌++◌, find}
-use Rattle.std.specs.List.{list_any}
+-- The state of a CPU's run queue: its tasks, what is asked of it, its clock, its idle time, its
+-- counters and its open turn. Then what is read off a state at once: where a task stands, the clock
+-- that a call sets, and the average idle time after a sample.
+use Rattle.std.specs.Prelude.{ℕ, ℤ, ◌-◌, ◌/◌, max, Bool, true, false, ◌||◌, if◌then◌else◌, Option, Some, None, is_some, List, [], ◌∷◌, ◌++◌}
+use Rattle.lb_base.specs.declared.mask.Mask.{Mask}
 use Rattle.lb_base.specs.Mask.{has}
 use Rattle.lb_base.specs.Sets.{least}
+use Rattle.lb_pelt.specs.Signal.{zero_signal}
+use Rattle.lb_newidle.specs.Budget.{average_after}
 use Rattle.lb_interval.specs.declared.Counters.{Counters}
-use Rattle.lb_queue.specs.declared.types.TaskRecord.{TaskRecord}
-use Rattle.lb_queue.specs.declared.types.Awake.{Awake}
-use Rattle.lb_queue.specs.declared.types.OpenTurn.{OpenTurn}
-use Rattle.lb_queue.specs.Tasks.{has_id, has_awake_id}
+use Rattle.lb_queue.specs.declared.record.TaskRecord.{TaskRecord}
+use Rattle.lb_queue.specs.declared.awake.Awake.{Awake}
+use Rattle.lb_queue.specs.declared.answers.OpenTurn.{OpenTurn}
+use Rattle.lb_queue.specs.Tasks.{task_with, awake_with}
 
+-- the awake tasks run from the front to the back; those that fell asleep or ended last stand last;
+-- `active` is where an active request goes; there are no counters before the first turn
 pub record QueueState : Type 0 where
   pub cpu : ℕ
   pub cpus : ℕ
@@ -25,9 +29,13 @@ pub record QueueState : Type 0 where
   pub avg_idle : ℕ
   pub version : ℕ
   pub counters : Option (List Counters)
-  pub turn : Option OpenTurn
+  pub open_turn : Option OpenTurn
 
--- no task is known yet
+-- a queue as contracts see it: its state, and how many landings are booked there
+pub record BookedQueue : Type 0 where
+  pub state : QueueState
+  pub booked : ℕ
+
 abbrev pub empty_queue : ℕ → ℕ → QueueState
 empty_queue cpu cpus =
     record {
@@ -44,30 +52,63 @@ empty_queue cpu cpus =
       avg_idle = 1000000;
       version = 1;
       counters = None;
-      turn = None;
+      open_turn = None;
     }
 
--- a declared task sleeps
-abbrev pub declared : QueueState → TaskRecord → QueueState
-declared q t = record q { asleep = q.asleep ++ t ∷ [] }
+-- a task as it is declared: it never was awake
+abbrev pub new_task : ℕ → ℤ → Mask → TaskRecord
+new_task id nice mask = record { id = id; nice = nice; mask = mask; signal = zero_signal; put_down = None }
 
+-- a declared task sleeps
+abbrev pub declared : TaskRecord → QueueState → QueueState
+declared t q = record q { asleep = q.asleep ++ t ∷ [] }
+
+-- ---- what is known
 abbrev pub is_awake : QueueState → ℕ → Bool
-is_awake q id = list_any (has_awake_id id) q.awake
+is_awake q id = is_some (awake_with id q.awake)
 
 abbrev pub is_asleep : QueueState → ℕ → Bool
-is_asleep q id = list_any (has_id id) q.asleep
+is_asleep q id = is_some (task_with id q.asleep)
 
 abbrev pub is_gone : QueueState → ℕ → Bool
-is_gone q id = list_any (has_id id) q.gone
+is_gone q id = is_some (task_with id q.gone)
 
--- the clock never falls
+abbrev pub knows : QueueState → ℕ → Bool
+knows q id = is_awake q id || is_asleep q id || is_gone q id
+
+abbrev pub nobody : List Awake → Bool
+nobody [] = true
+nobody (a ∷ rest) = false
+
+-- ---- the clock
+-- it never falls
+abbrev pub clock_at : QueueState → ℕ → ℕ
+clock_at q at = max q.clock at
+
 abbrev pub at_moment : QueueState → ℕ → QueueState
-at_moment q at = record q { clock = max q.clock at }
+at_moment q at = record q { clock = clock_at q at }
 
-abbrev pub away_of : ℕ → Option TaskRecord → Option ℕ
-away_of cpu None = None
-away_of cpu (Some t) = if has t.mask cpu then None else least t.mask
+abbrev pub milliseconds : ℕ → ℕ
+milliseconds clock = clock / 1000000
 
--- where a sleeping task has to wake, where its mask lacks this CPU
+-- ---- idle time
+abbrev pub average_with : Option ℕ → ℕ → ℕ → ℕ
+average_with None clock avg = avg
+average_with (Some since) clock avg = average_after avg (clock - since)
+
+-- the average idle time as a task comes: a sample is taken where nobody was awake
+abbrev pub sampled : QueueState → ℕ
+sampled q = if nobody q.awake then average_with q.idle_since q.clock q.avg_idle else q.avg_idle
+
+-- the moment since when it is idle, after an awake task fell asleep or ended
+abbrev pub idle_from : QueueState → List Awake → Option ℕ
+idle_from q awake = if nobody awake then Some q.clock else q.idle_since
+
+-- ---- where a sleeping task has to wake
+abbrev pub away_of : QueueState → Option TaskRecord → Option ℕ
+away_of q None = None
+away_of q (Some t) = if has t.mask q.cpu then None else least t.mask
+
+-- the least CPU of the mask of a task that sleeps here, where the mask lacks this CPU
 unfoldable pub away : QueueState → ℕ → Option ℕ
-away q id = away_of q.cpu (find (has_id id) q.asleep)
+away q id = away_of q (task_with id q.asleep)

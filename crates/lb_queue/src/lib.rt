@@ -1,12 +1,25 @@
-//! A CPU's run queue: its awake, sleeping and gone tasks, its clock, and the commands that change
-//! them.
+//! The run queue of a CPU: its tasks, its clock, what is asked of it, and the turns that balance it
+//! (docs/rules/queue.md). Tasks go from queue to queue in hands, and none is lost.
 #![tactic(auto)]
 
+mod answers;
+mod asked;
+mod awake;
+mod by_id;
+mod hand;
+pub mod laws;
 mod lists;
+mod pulls;
 mod queue;
+mod record;
+mod sums;
 mod task;
-mod types;
+#[cfg(test)]
+mod tests;
 
+pub use answers::{AskReply, OpenTurn, OutCause, Reply, Stop, Taken, TurnReply};
+pub use awake::{Awake, StopRequest};
+pub use hand::Hand;
 pub use queue::Queue;
+pub use record::TaskRecord;
 pub use task::Task;
-pub use types::{Awake, OpenTurn, Reply, StopRequest, TaskRecord, TurnReply};

@@ -1,23 +1,38 @@
-ghost use Rattle.std.specs.Prelude.{◌≡◌, ◌<◌, ◌≤◌, ◌+◌, ◌^◌, [], length, vec_len, vec_capacity, IfOk, OnOk, OnErr};
-ghost use Rattle.lb_queue.specs.Queue.{QueueState, empty_queue, declared, away};
-ghost use Rattle.lb_queue.specs.Commands.{wake, sleep, exit};
-ghost use Rattle.lb_queue.specs.Turns.{turn, end_turn};
+//! The run queue.
+ghost use Rattle.std.specs.Prelude.{◌≡◌, ◌==◌, ◌+◌, ◌-◌, ◌^◌, length, true, ◌<◌, ◌≤◌, ◌≤ℤ◌, ℕ, negsuc, pos, false, None, max, IfOk, OnOk, OnErr, if◌then◌else◌};
+ghost use Rattle.lb_queue.specs.Queue.{average_with};
 
-use crate::lists::{find_task, has_awake, has_task, join, let_go, take_task};
+use crate::answers::{OpenTurn, Reply};
+use crate::lists::TaskLists;
 use crate::task::Task;
-use crate::types::{Awake, OpenTurn, Reply, TaskRecord, TurnReply};
-use lb_base::{Items, Kind, MAX_CPUS, Mask, NoMemory, Shape};
+use lb_active::stop_target;
+use lb_base::{MAX_CPUS, Mask, NoMemory};
 use lb_interval::Counters;
+use lb_newidle::idle_average;
+use lb_pelt::Run;
 use std::alloc::Global;
 use std::marker::Model;
 
-/// The run queue of a CPU. Contracts see it as its state (docs/rules/queue.md).
+mod commands;
+mod hands;
+mod requests;
+mod turns;
+mod values;
+
+/// At most this many levels of domains are kept.
+const MAX_LEVELS: usize = 20;
+
+const NANOSECONDS_PER_MILLISECOND: u64 = 1_000_000;
+
+/// The run queue of a CPU (docs/rules/queue.md). Contracts see its state, and how many landings are
+/// booked there.
+///
+/// Each changing call takes a moment `at` in nanoseconds, and sets the clock to the greater of the
+/// clock and `at`. Only [`Queue::new`], [`Queue::declare`] and [`Queue::book`] take memory.
 pub struct Queue {
     cpu: u32,
     cpus: u32,
-    awake: Vec<Awake>,
-    asleep: Vec<Task>,
-    gone: Vec<Task>,
+    lists: TaskLists,
     active: Option<u32>,
     tickless: bool,
     kicked: bool,
@@ -25,36 +40,62 @@ pub struct Queue {
     idle_since: Option<u64>,
     avg_idle: u64,
     version: u64,
-    counters: Option<Items<Counters>>,
-    turn: Option<OpenTurn>,
-    alloc: Global,
+    // whether there are counters, and those there are
+    counted: bool,
+    counters: Vec<Counters>,
+    open_turn: Option<OpenTurn>,
 }
 
 impl Model for Queue {
-    ghost use Rattle.std.specs.Prelude.{vec_len, vec_capacity};
-    ghost use Rattle.lb_queue.specs.Queue.{QueueState};
-    ghost use Rattle.lb_queue.specs.Kept.{IsKept};
+    ghost use Rattle.std.specs.Prelude.{◌≡◌, Some, None, if◌then◌else◌, vec_capacity};
+    ghost use Rattle.lb_queue.specs.Queue.{BookedQueue};
 
-    ghost Value = { QueueState };
+    ghost Value = { BookedQueue };
 
-    ghost view = { λ q. record { cpu = q.cpu; cpus = q.cpus; awake = q.awake.items; asleep = q.asleep.items; gone = q.gone.items; active = q.active; tickless = q.tickless; kicked = q.kicked; clock = q.clock; idle_since = q.idle_since; avg_idle = q.avg_idle; version = q.version; counters = q.counters; turn = q.turn } };
+    ghost use Rattle.lb_queue.specs.Inside.{IsInside};
 
-    ghost invariant = { λ q. IsKept q.cpu q.cpus (vec_len q.awake) (vec_len q.asleep) (vec_len q.gone) (vec_capacity q.awake) (vec_capacity q.asleep) (vec_capacity q.gone) };
+    ghost view = { λ q. record { state = record { cpu = q.cpu; cpus = q.cpus; awake = q.lists.awake; asleep = q.lists.asleep; gone = q.lists.gone; active = q.active; tickless = q.tickless; kicked = q.kicked; clock = q.clock; idle_since = q.idle_since; avg_idle = q.avg_idle; version = q.version; counters = if q.counted then Some q.counters.items else None; open_turn = q.open_turn }; booked = q.lists.booked } };
+
+    ghost invariant = { λ q. IsInside q.cpu q.cpus q.lists q.counted q.counters.items (vec_capacity q.counters) q.open_turn };
+}
+
+// The average idle time as a task comes, where nobody was awake or somebody was.
+fn sample(nobody: bool, idle_since: Option<u64>, clock: u64, avg_idle: u64) -> u64
+    ensures { result ≡ (if nobody then average_with idle_since clock avg_idle else avg_idle) }
+{
+    if !nobody {
+        return avg_idle;
+    }
+    match idle_since {
+        None => avg_idle,
+        Some(since) => idle_average(avg_idle, clock.saturating_sub(since)),
+    }
+}
+
+// Since when it is idle, after an awake task fell asleep or ended.
+fn idle_from(nobody: bool, clock: u64, idle_since: Option<u64>) -> Option<u64>
+    ensures { result ≡ (if nobody then Some clock else idle_since) }
+{
+    if nobody { Some(clock) } else { idle_since }
 }
 
 impl Queue {
-    /// A queue without tasks, at moment 0.
+    ghost use Rattle.lb_base.specs.Sets.{is_empty, is_below};
+    ghost use Rattle.lb_queue.specs.Queue.{empty_queue, new_task, declared, knows, away, at_moment};
+    ghost use Rattle.lb_queue.specs.Kept.{id_limit};
+
+    /// The empty queue of a CPU at clock 0, on a machine of `cpus` CPUs. Its version is 1, and its
+    /// average idle time 1,000,000 ns.
     pub fn new(alloc: Global, cpu: u32, cpus: u32) -> Result<Queue, NoMemory>
         requires cpu { cpu < cpus }
         requires cpus { cpus ≤ MAX_CPUS }
-        ensures { IfOk result (λ q. q ≡ empty_queue cpu cpus) }
+        ensures { IfOk result (λ q. q ≡ record { state = empty_queue cpu cpus; booked = 0 }) }
     {
+        let counters = Vec::with_capacity(alloc, MAX_LEVELS)?;
         Ok(Queue {
             cpu,
             cpus,
-            awake: Vec::new(alloc),
-            asleep: Vec::new(alloc),
-            gone: Vec::new(alloc),
+            lists: TaskLists::new(alloc, cpu),
             active: None,
             tickless: false,
             kicked: false,
@@ -62,178 +103,120 @@ impl Queue {
             idle_since: None,
             avg_idle: 1_000_000,
             version: 1,
-            counters: None,
-            turn: None,
-            alloc,
+            counted: false,
+            counters,
+            open_turn: None,
         })
     }
 
-    /// A task from now on, asleep here. A refusal changes nothing.
+    /// Declares a task: it sleeps here. Its id is below 4,294,967,295, its nice value is in -20 to
+    /// 19, and its mask is not empty and has no CPU past the machine. A refusal changes nothing.
     pub fn declare(&mut self, id: u32, nice: i32, mask: Mask) -> Result<(), NoMemory>
-        ensures ok { OnOk result (self.new ≡ declared self.old (record { id = id; nice = nice; mask = mask })) }
+        requires unknown { knows self.old.state id ≡ false }
+        requires id { id < id_limit }
+        requires low { negsuc 19 ≤ℤ nice }
+        requires high { nice ≤ℤ pos 19 }
+        requires somewhere { is_empty mask ≡ false }
+        requires within { is_below mask self.old.state.cpus ≡ true }
+        ensures ok { OnOk result (self.new ≡ record self.old { state = declared (new_task id nice mask) self.old.state }) }
         ensures refused { OnErr result (self.new ≡ self.old) }
     {
-        let tasks = self.awake.len() + self.asleep.len() + self.gone.len();
-        self.awake.reserve(tasks + 1)?;
-        self.asleep.reserve(tasks + 1)?;
-        self.gone.reserve(tasks + 1)?;
-        self.asleep
-            .push_reserved(Task::new(TaskRecord { id, nice, mask }));
+        self.lists.make_room(1)?;
+        self.lists.add_asleep(Task::new(id, nice, mask));
         Ok(())
     }
 
-    /// The CPU where a task that sleeps here has to wake: the least of its mask, where its mask lacks
-    /// this CPU. None of any other task.
-    #[tactic(auto, unfolding(crate::specs::Queue::away))]
+    /// Books `k` more landings. A refusal changes nothing.
+    pub fn book(&mut self, k: u64) -> Result<(), NoMemory>
+        requires { self.old.booked + k < 2 ^ 32 }
+        ensures ok { OnOk result (self.new ≡ record self.old { booked = self.old.booked + k }) }
+        ensures refused { OnErr result (self.new ≡ self.old) }
+    {
+        self.lists.make_room(k)?;
+        self.lists.add_booked(k);
+        Ok(())
+    }
+
+    /// Gives up `k` booked landings.
+    pub fn unbook(&mut self, k: u64)
+        requires { k ≤ self.old.booked }
+        ensures { self.new ≡ record self.old { booked = self.old.booked - k } }
+    {
+        self.lists.unbook(k);
+    }
+
+    /// The number of awake tasks.
+    pub fn len(&self) -> u32
+        ensures { result ≡ length self.now.state.awake }
+    {
+        self.lists.awake_len()
+    }
+
+    /// The least CPU of the task's mask, exactly where the task sleeps here and its mask lacks this
+    /// CPU: where it has to wake.
     pub fn away(&self, id: u32) -> Option<u32>
-        ensures { result ≡ away self.now id }
+        ensures { result ≡ away self.now.state id }
     {
-        let task = find_task(&self.asleep, id)?;
-        if task.mask.has(self.cpu) {
-            return None;
+        match self.lists.asleep_task(id) {
+            None => None,
+            Some(task) => {
+                if task.mask.has(self.cpu) {
+                    None
+                } else {
+                    stop_target(task.mask)
+                }
+            }
         }
-        task.mask.first()
     }
 
-    /// A task that sleeps here wakes: it joins the front.
-    #[tactic(auto, unfolding(crate::specs::Commands::wake))]
-    pub fn wake(&mut self, at: u64, id: u32) -> Reply
-        ensures { (result, self.new) ≡ wake self.old at id }
+    /// The clock, in nanoseconds. It never falls.
+    pub fn clock(&self) -> u64
+        ensures { result ≡ self.now.state.clock }
     {
-        if let Some(task) = take_task(&mut self.asleep, id) {
-            self.clock = self.clock.max(at);
-            join(&mut self.awake, task);
-            return Reply::Done;
-        }
-        if has_awake(&self.awake, id) {
-            self.clock = self.clock.max(at);
-            return Reply::Already;
-        }
-        if has_task(&self.gone, id) {
-            self.clock = self.clock.max(at);
-            return Reply::Gone;
-        }
-        Reply::NotHere
+        self.clock
     }
 
-    /// An awake task falls asleep; where it ran, the one at the back is picked.
-    #[tactic(auto, unfolding(crate::specs::Commands::sleep))]
-    pub fn sleep(&mut self, at: u64, id: u32) -> Reply
-        ensures { (result, self.new) ≡ sleep self.old at id }
+    /// The version of the topology that the counters are of.
+    pub fn version(&self) -> u64
+        ensures { result ≡ self.now.state.version }
     {
-        if let Some(task) = let_go(&mut self.awake, id) {
-            self.clock = self.clock.max(at);
-            self.asleep.push_reserved(task);
-            return Reply::Done;
-        }
-        if has_task(&self.asleep, id) {
-            self.clock = self.clock.max(at);
-            return Reply::Already;
-        }
-        if has_task(&self.gone, id) {
-            self.clock = self.clock.max(at);
-            return Reply::Gone;
-        }
-        Reply::NotHere
+        self.version
     }
 
-    /// A task ends, awake or asleep. It stays known here.
-    #[tactic(auto, unfolding(crate::specs::Commands::exit))]
-    pub fn exit(&mut self, at: u64, id: u32) -> Reply
-        ensures { (result, self.new) ≡ exit self.old at id }
+    /// The flag of a kick: whether a turn on behalf of idle CPUs was asked for, and none came since.
+    pub fn kicked(&self) -> bool
+        ensures { result ≡ self.now.state.kicked }
     {
-        if let Some(task) = let_go(&mut self.awake, id) {
-            self.clock = self.clock.max(at);
-            self.gone.push_reserved(task);
-            return Reply::Done;
-        }
-        if let Some(task) = take_task(&mut self.asleep, id) {
-            self.clock = self.clock.max(at);
-            self.gone.push_reserved(task);
-            return Reply::Done;
-        }
-        if has_task(&self.gone, id) {
-            self.clock = self.clock.max(at);
-            return Reply::Gone;
-        }
-        Reply::NotHere
+        self.kicked
     }
 
-    /// Opens a turn over the domains that are due, or answers `TurnOpen` where one is open. For now
-    /// it is called for a CPU without domains.
-    #[tactic(auto, unfolding(crate::specs::Turns::turn))]
-    pub fn turn(
-        &mut self,
-        at: u64,
-        lane: u32,
-        kind: Kind,
-        version: u64,
-        shapes: &[Shape],
-    ) -> TurnReply
-        requires { shapes.now ≡ [] }
-        ensures { (result, self.new) ≡ turn self.old at lane kind version }
-    {
-        self.clock = self.clock.max(at);
-        if let Kind::Nohz = kind {
-            self.kicked = false;
-        }
-        if let Some(_) = self.turn {
-            return TurnReply::TurnOpen;
-        }
-        self.version = version;
-        self.counters = Some(Items::new(self.alloc));
-        let positions = Mask::none();
-        self.turn = Some(OpenTurn {
-            lane,
-            kind,
-            positions,
-        });
-        TurnReply::Opened(positions)
-    }
-
-    /// The open turn ends.
-    #[tactic(auto, unfolding(crate::specs::Turns::end_turn))]
-    pub fn end_turn(&mut self, at: u64)
-        ensures { self.new ≡ end_turn self.old at }
-    {
-        self.clock = self.clock.max(at);
-        self.turn = None;
-    }
-
-    /// How many tasks are awake.
-    pub fn len(&self) -> usize
-        ensures { result ≡ length self.now.awake }
-    {
-        self.awake.len()
-    }
-
-    /// Where an active request goes, if there is one.
+    /// Where an active request goes, if one is pending.
     pub fn active(&self) -> Option<u32>
-        ensures { result ≡ self.now.active }
+        ensures { result ≡ self.now.state.active }
     {
         self.active
     }
-}
 
-// The tasks of a list end with their queue.
-fn end_tasks(mut tasks: Vec<Task>) {
-    while let Some(task) = tasks.pop() {
-        task.end();
+    /// The turn that is open, if one is.
+    pub fn open_turn(&self) -> Option<OpenTurn>
+        ensures { result ≡ self.now.state.open_turn }
+    {
+        self.open_turn
     }
-    tasks.destroy_empty();
-}
 
-// The awake tasks end with their queue.
-fn end_awake(mut awake: Vec<Awake>) {
-    while let Some(a) = awake.pop() {
-        let Awake {
-            task,
-            running: _,
-            stop: _,
-        } = a;
-        task.end();
+    /// The number of booked landings.
+    pub fn booked(&self) -> u64
+        ensures { result ≡ self.now.booked }
+    {
+        self.lists.booked()
     }
-    awake.destroy_empty();
+
+    /// Whether the task is awake, asleep or gone here.
+    pub fn knows(&self, id: u32) -> bool
+        ensures { result ≡ knows self.now.state id }
+    {
+        self.lists.is_awake(id) || self.lists.is_asleep(id) || self.lists.is_gone(id)
+    }
 }
 
 impl Drop for Queue {
@@ -241,9 +224,7 @@ impl Drop for Queue {
         let Queue {
             cpu: _,
             cpus: _,
-            awake,
-            asleep,
-            gone,
+            lists,
             active: _,
             tickless: _,
             kicked: _,
@@ -251,12 +232,11 @@ impl Drop for Queue {
             idle_since: _,
             avg_idle: _,
             version: _,
-            counters: _,
-            turn: _,
-            alloc: _,
+            counted: _,
+            counters,
+            open_turn: _,
         } = self;
-        end_awake(awake);
-        end_tasks(asleep);
-        end_tasks(gone);
+        drop(lists);
+        drop(counters);
     }
 }

@@ -1,0 +1,12 @@
+use Rattle.std.proofs.Common.{sym, subst}
+use Rattle.lb_queue.specs.contracts.lists.TaskLists.{the_view}
+use Rattle.lb_queue.specs.Kept.{IsTask}
+use Rattle.lb_queue.specs.Lists.{Lists, HasRoom, IsUnknown}
+use Rattle.lb_queue.proofs.Keeping.{kept_asleep}
+use Rattle.lb_queue.proofs.lists.TaskLists.add_asleep.Goals as goal
+
+pub invariant_of-self : goal.invariant_of-self
+invariant_of-self c =
+    let back = sym c.self.view_is in
+    let known : IsTask c.args.task = subst IsTask c.record-known.ensures.value c.record-known.ensures.kept in
+    kept_asleep (the_view c.self.inside) _ _ _ _ _ _ c.args.task c.self.invariant known.numbered (subst (λ (l : Lists). IsUnknown l c.args.task.id) back c.requires.unknown) (subst HasRoom back c.requires.room) c.push_reserved.ensures.items c.push_reserved.ensures.capacity

@@ -1,5 +1,0 @@
-use Rattle.std.proofs.Common.{vec_len}
-use Rattle.lb_runqueue.proofs.lists.end_tasks.Given as goal
-
-abbrev pub decreases-loop-task : goal.decreases-loop-task
-decreases-loop-task l = vec_len l.tasks

@@ -1,7 +1,0 @@
-use Rattle.std.proofs.Common.{◌≡◌}
-use Rattle.lb_runqueue.specs.Requests.{owes}
-use Rattle.lb_runqueue.proofs.Mapped.{mapped}
-use Rattle.lb_runqueue.proofs.lists.owe_all.Given as goal
-
-abbrev pub invariant-loop-a : goal.invariant-loop-a
-invariant-loop-a l = l.a-items ≡ mapped owes l.a-index l.fn.awake.items

@@ -1,8 +1,0 @@
-use Rattle.std.proofs.Common.{◌≡◌, ◌&&◌, nat_lt, ℕ}
-use Rattle.lb_base.specs.Mask.{has}
-use Rattle.lb_interval.specs.After.{is_due}
-use Rattle.lb_runqueue.specs.Turns.{counters_at}
-use Rattle.lb_runqueue.proofs.queue.turns.due_counted.Given as goal
-
-abbrev pub invariant-loop-p : goal.invariant-loop-p
-invariant-loop-p l = (k : ℕ) → has l.mask k ≡ (nat_lt k l.p && is_due (counters_at l.counters k) l.busy l.cpus l.now)

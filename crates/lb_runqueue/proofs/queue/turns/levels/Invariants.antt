@@ -1,6 +1,0 @@
-use Rattle.std.proofs.Common.{◌≡◌, ◌+◌, ◌*◌, ◌≤◌, drop}
-use Rattle.lb_runqueue.specs.Turns.{idle_levels}
-use Rattle.lb_runqueue.proofs.queue.turns.levels.Given as goal
-
-abbrev pub invariant-loop-shape : goal.invariant-loop-shape
-invariant-loop-shape l = (l.level ≡ l.shape-index) × (idle_levels l.avg_idle 0 l.shapes ≡ l.level + idle_levels l.avg_idle l.spent (drop l.shape-index l.shapes)) × (l.spent ≤ 64000 * l.level)
