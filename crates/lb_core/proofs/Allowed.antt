@@ -4,9 +4,9 @@ use Rattle.std.proofs.Common.{◌≡◌, ℕ, Bool, true, not, ◌&&◌}
 use Rattle.std.specs.List.{list_all}
 use Rattle.lb_base.specs.Mask.{has}
 use Rattle.lb_base.specs.Sets.{is_empty}
-use Rattle.lb_runqueue.specs.declared.record.TaskRecord.{TaskRecord}
-use Rattle.lb_runqueue.specs.declared.awake.Awake.{Awake}
-use Rattle.lb_runqueue.specs.Queue.{QueueState}
+use Rattle.lb_queue.specs.declared.record.TaskRecord.{TaskRecord}
+use Rattle.lb_queue.specs.declared.awake.Awake.{Awake}
+use Rattle.lb_queue.specs.Queue.{QueueState}
 use Rattle.lb_core.specs.Permitted.{may_stand}
 
 -- an awake task may be here or is asked to leave, and its mask is not empty

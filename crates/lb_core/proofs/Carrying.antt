@@ -2,19 +2,19 @@
 use Rattle.std.proofs.Common.{◌≡◌, ℕ, ℤ, Bool, true, false, ◌==◌, List, [], ◌∷◌, Option, Some, None, refl, sym, ◌∙◌, ap, subst}
 use Rattle.lb_base.specs.declared.mask.Mask.{Mask}
 use Rattle.lb_detach.specs.declared.Env.{Env}
-use Rattle.lb_runqueue.specs.declared.record.TaskRecord.{TaskRecord}
-use Rattle.lb_runqueue.specs.declared.awake.Awake.{Awake}
-use Rattle.lb_runqueue.specs.declared.answers.Reply.{Reply}
-use Rattle.lb_runqueue.specs.declared.answers.Reply.TheVariants.{Done as DoneReply, Already, NotHere, Gone, BadMask}
-use Rattle.lb_runqueue.specs.declared.answers.Stop.{Stop}
-use Rattle.lb_runqueue.specs.Tasks.{occurs, ids, task_with, awake_with}
-use Rattle.lb_runqueue.specs.Queue.{QueueState, at_moment, away, away_of}
-use Rattle.lb_runqueue.specs.Commands.{wakes, wake, sleeps, sleep, exits, exit, is_bad_mask, unless_bad, sets_mask, set_mask, renices, renice}
-use Rattle.lb_runqueue.specs.Requests.{next_stop}
-use Rattle.lb_runqueue.specs.Hands.{leaves_asleep, leave, pull}
-use Rattle.lb_core.specs.declared.trace.Header.{Header}
-use Rattle.lb_core.specs.declared.trace.Command.{Command}
-use Rattle.lb_core.specs.declared.trace.Command.TheVariants.{Wake, Sleep, Exit, SetMask, Nice, Tick, Rebuild}
+use Rattle.lb_queue.specs.declared.record.TaskRecord.{TaskRecord}
+use Rattle.lb_queue.specs.declared.awake.Awake.{Awake}
+use Rattle.lb_queue.specs.declared.answers.Reply.{Reply}
+use Rattle.lb_queue.specs.declared.answers.Reply.TheVariants.{Done as DoneReply, Already, NotHere, Gone, BadMask}
+use Rattle.lb_queue.specs.declared.answers.Stop.{Stop}
+use Rattle.lb_queue.specs.Tasks.{occurs, ids, task_with, awake_with}
+use Rattle.lb_queue.specs.Queue.{QueueState, at_moment, away, away_of}
+use Rattle.lb_queue.specs.Commands.{wakes, wake, sleeps, sleep, exits, exit, is_bad_mask, unless_bad, sets_mask, set_mask, renices, renice}
+use Rattle.lb_queue.specs.Requests.{next_stop}
+use Rattle.lb_queue.specs.Hands.{leaves_asleep, leave, pull}
+use Rattle.lb_trace.specs.declared.trace.Header.{Header}
+use Rattle.lb_trace.specs.declared.trace.Command.{Command}
+use Rattle.lb_trace.specs.declared.trace.Command.TheVariants.{Wake, Sleep, Exit, SetMask, Nice, Tick, Rebuild}
 use Rattle.lb_core.specs.declared.course.Course.{Course}
 use Rattle.lb_core.specs.declared.course.Form.{Form}
 use Rattle.lb_core.specs.declared.course.Form.TheVariants.{Rest, Asked, Serving, Looked}

@@ -11,15 +11,15 @@ use Rattle.lb_base.specs.Sets.{least}
 use Rattle.lb_imbalance.specs.declared.decision.Decision.{Decision}
 use Rattle.lb_imbalance.specs.declared.decision.Decision.TheVariants.{NotMine, Balanced, Pull}
 use Rattle.lb_imbalance.specs.Decision.{decision}
-use Rattle.lb_runqueue.specs.declared.answers.AskReply.{AskReply}
-use Rattle.lb_runqueue.specs.declared.answers.AskReply.TheVariants.{New, Old}
-use Rattle.lb_runqueue.specs.declared.answers.OutCause.{OutCause}
-use Rattle.lb_runqueue.specs.declared.answers.OutCause.TheVariants.{Wake as WakeOut, Stop as StopOut, Pull as PullOut, Push as PushOut}
-use Rattle.lb_runqueue.specs.Tasks.{ids}
-use Rattle.lb_runqueue.specs.Queue.{QueueState, away}
-use Rattle.lb_runqueue.specs.Requests.{has_owed, ask_active, kick}
-use Rattle.lb_core.specs.declared.trace.Command.{Command}
-use Rattle.lb_core.specs.declared.trace.Command.TheVariants.{Wake, Sleep, Exit, SetMask, Nice, Tick, Rebuild}
+use Rattle.lb_queue.specs.declared.answers.AskReply.{AskReply}
+use Rattle.lb_queue.specs.declared.answers.AskReply.TheVariants.{New, Old}
+use Rattle.lb_queue.specs.declared.answers.OutCause.{OutCause}
+use Rattle.lb_queue.specs.declared.answers.OutCause.TheVariants.{Wake as WakeOut, Stop as StopOut, Pull as PullOut, Push as PushOut}
+use Rattle.lb_queue.specs.Tasks.{ids}
+use Rattle.lb_queue.specs.Queue.{QueueState, away}
+use Rattle.lb_queue.specs.Requests.{has_owed, ask_active, kick}
+use Rattle.lb_trace.specs.declared.trace.Command.{Command}
+use Rattle.lb_trace.specs.declared.trace.Command.TheVariants.{Wake, Sleep, Exit, SetMask, Nice, Tick, Rebuild}
 use Rattle.lb_core.specs.declared.course.Course.{Course}
 use Rattle.lb_core.specs.declared.course.Form.{Form}
 use Rattle.lb_core.specs.declared.course.Form.TheVariants.{Rest, Asked, Flight, Serving, Due, Used, Position, Looked, Landed as LandedForm, Closed, Done, ScanDue, Kicking, Ended}

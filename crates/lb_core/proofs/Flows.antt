@@ -7,15 +7,15 @@ use Rattle.lb_pelt.specs.declared.signal.Run.TheVariants.{Asleep as AsleepRun}
 use Rattle.lb_active.specs.Choice.{pick_of}
 use Rattle.lb_detach.specs.declared.Env.{Env}
 use Rattle.lb_detach.specs.Picks.{picked_ids, kept_ids}
-use Rattle.lb_runqueue.specs.declared.record.TaskRecord.{TaskRecord}
-use Rattle.lb_runqueue.specs.declared.awake.Awake.{Awake}
-use Rattle.lb_runqueue.specs.declared.answers.OutCause.{OutCause}
-use Rattle.lb_runqueue.specs.Tasks.{occurs, ids, awake_ids, task_with, awake_with, without_task, advanced_task, set_down, left_by}
-use Rattle.lb_runqueue.specs.Queue.{QueueState, at_moment, clock_at}
-use Rattle.lb_runqueue.specs.Commands.{woken, fallen_asleep, ended, ended_asleep, changed_awake, changed_task, with_mask, with_nice, masked, reniced, masks_awake, masks_asleep}
-use Rattle.lb_runqueue.specs.Requests.{tick, rotated, owes}
-use Rattle.lb_runqueue.specs.Values.{views}
-use Rattle.lb_runqueue.specs.Hands.{leaves_asleep, leaves_awake, take_stop, take_push, awake_named, pushed, in_order, pull, land, landed}
+use Rattle.lb_queue.specs.declared.record.TaskRecord.{TaskRecord}
+use Rattle.lb_queue.specs.declared.awake.Awake.{Awake}
+use Rattle.lb_queue.specs.declared.answers.OutCause.{OutCause}
+use Rattle.lb_queue.specs.Tasks.{occurs, ids, awake_ids, task_with, awake_with, without_task, advanced_task, set_down, left_by}
+use Rattle.lb_queue.specs.Queue.{QueueState, at_moment, clock_at}
+use Rattle.lb_queue.specs.Commands.{woken, fallen_asleep, ended, ended_asleep, changed_awake, changed_task, with_mask, with_nice, masked, reniced, masks_awake, masks_asleep}
+use Rattle.lb_queue.specs.Requests.{tick, rotated, owes}
+use Rattle.lb_queue.specs.Values.{views}
+use Rattle.lb_queue.specs.Hands.{leaves_asleep, leaves_awake, take_stop, take_push, awake_named, pushed, in_order, pull, land, landed}
 use Rattle.lb_core.proofs.Occurrences.{occurs-map_append, occurs-reverse, occurs-without, found, occurs-map}
 use Rattle.lb_core.proofs.TaskIds.{key, name, joined_ids, left_ids, all_joined_ids, rotated_ids, owes_keeps, changed_awake_ids, changed_task_ids}
 use Rattle.lb_core.proofs.PickedIds.{pull_split, views_ids, in_order_ids}

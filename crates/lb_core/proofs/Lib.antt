@@ -10,6 +10,7 @@ pub mod EmptyHands
 pub mod Places
 pub mod Carrying
 pub mod Placing
+pub mod Headers
 pub mod Opening
 pub mod Permitting
 pub mod Permits

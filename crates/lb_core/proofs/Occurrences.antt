@@ -3,7 +3,7 @@ use Rattle.std.proofs.Common.{◌≡◌, ℕ, ◌+◌, ◌≤◌, Bool, true, fa
 use Rattle.std.proofs.lemmas.Bool.{eq-eqb, cond-true, cond_both}
 use Rattle.std.proofs.lemmas.Bool.Decides.{nat_tests}
 use Rattle.std.proofs.lemmas.List.{reverse-append}
-use Rattle.lb_runqueue.specs.Tasks.{occurs}
+use Rattle.lb_queue.specs.Tasks.{occurs}
 
 pub one_of : ℕ → ℕ → ℕ
 one_of x t = if x == t then 1 else 0

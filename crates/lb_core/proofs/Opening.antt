@@ -4,18 +4,18 @@ use Rattle.std.proofs.lemmas.Bool.{eq-eqb, ne_eqb, lt-ltb, le-ltb, cases_lt, cas
 use Rattle.std.proofs.lemmas.List.{length-map, get_or-replicate, length-replicate}
 use Rattle.std.proofs.lemmas.List.FromFn.{get_or-map-range_with_len, length-map-range_with_len}
 use Rattle.std.proofs.lemmas.Bool.Decides.{nat_tests}
-use Rattle.lb_runqueue.specs.declared.record.TaskRecord.{TaskRecord}
-use Rattle.lb_runqueue.specs.Tasks.{occurs, ids, awake_ids}
-use Rattle.lb_runqueue.specs.Queue.{QueueState, new_task}
-use Rattle.lb_core.specs.declared.trace.Header.{Header}
-use Rattle.lb_core.specs.declared.trace.TaskRow.{TaskRow}
+use Rattle.lb_queue.specs.declared.record.TaskRecord.{TaskRecord}
+use Rattle.lb_queue.specs.Tasks.{occurs, ids, awake_ids}
+use Rattle.lb_queue.specs.Queue.{QueueState, new_task}
+use Rattle.lb_trace.specs.declared.trace.Header.{Header}
+use Rattle.lb_trace.specs.declared.trace.TaskRow.{TaskRow}
 use Rattle.lb_core.specs.declared.place.Place.{Place}
 use Rattle.lb_core.specs.declared.place.Place.TheVariants.{Awake as AwakeAt, Asleep as AsleepAt, Gone as GoneAt, Hand as HandOf}
 use Rattle.lb_core.specs.declared.course.Course.{Course}
 use Rattle.lb_core.specs.Same.{same_place}
 use Rattle.lb_core.specs.Course.{opening_course}
 use Rattle.lb_core.specs.Machine.{no_queue, no_course, queue_at, course_at, place_at, tasks_at, opening_queue, start}
-use Rattle.lb_core.specs.Accepted.{IsAccepted}
+use Rattle.lb_core.proofs.Headers.{homes_declared}
 use Rattle.lb_core.specs.Placed.{times, is_its_place, PlacedAlways}
 use Rattle.lb_core.proofs.Placing.{Kept, run_kept}
 
@@ -171,9 +171,6 @@ start_once h homes (HandOf lane) t = zero_is _ _ (ap (λ (x : List TaskRecord). 
 pub start_kept : (h : Header) → HomesDeclared h → Kept (start h)
 unfolding start
 start_kept h homes = record { placed = record { mapped = length-map h.tasks (λ (r : TaskRow). AsleepAt r.home); once = start_once h homes }; hands = λ lane f. opening_hand h lane }
-
-pub homes_declared : (h : Header) → IsAccepted h → HomesDeclared h
-homes_declared h accepted k d lt = (accepted.tasks k d lt).home
 
 pub placed_always : PlacedAlways
 placed_always h es accepted legal = (run_kept es (start h) (start_kept h (homes_declared h accepted)) legal).placed

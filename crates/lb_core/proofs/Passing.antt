@@ -14,13 +14,13 @@ use Rattle.lb_domain.specs.Domains.{domains_of}
 use Rattle.lb_imbalance.specs.declared.decision.Decision.{Decision}
 use Rattle.lb_imbalance.specs.declared.decision.Decision.TheVariants.{NotMine, Balanced, Pull}
 use Rattle.lb_imbalance.specs.Decision.{decision}
-use Rattle.lb_runqueue.specs.declared.answers.OutCause.TheVariants.{Pull as PullOut}
-use Rattle.lb_runqueue.specs.Tasks.{occurs, ids, awake_ids}
-use Rattle.lb_runqueue.specs.Queue.{QueueState, clock_at}
-use Rattle.lb_runqueue.specs.Values.{views}
-use Rattle.lb_runqueue.specs.Figures.{figure}
-use Rattle.lb_runqueue.specs.Hands.{in_order, pull}
-use Rattle.lb_core.specs.declared.trace.Header.{Header}
+use Rattle.lb_queue.specs.declared.answers.OutCause.TheVariants.{Pull as PullOut}
+use Rattle.lb_queue.specs.Tasks.{occurs, ids, awake_ids}
+use Rattle.lb_queue.specs.Queue.{QueueState, clock_at}
+use Rattle.lb_queue.specs.Values.{views}
+use Rattle.lb_queue.specs.Figures.{figure}
+use Rattle.lb_queue.specs.Hands.{in_order, pull}
+use Rattle.lb_trace.specs.declared.trace.Header.{Header}
 use Rattle.lb_core.specs.declared.course.Course.{Course}
 use Rattle.lb_core.specs.declared.course.Form.{Form}
 use Rattle.lb_core.specs.declared.course.Form.TheVariants.{Rest, Looked}
@@ -31,7 +31,7 @@ use Rattle.lb_core.specs.declared.entry.Owner.TheVariants.{Publisher, Lane, Queu
 use Rattle.lb_core.specs.declared.entry.What.{What}
 use Rattle.lb_core.specs.declared.entry.What.TheVariants.{Row, Adopt, Look, Scan, End, Did, Out, Landed, Turn, Shut, Close, Ask, Kick, Over, Pub}
 use Rattle.lb_core.specs.declared.entry.Entry.{Entry}
-use Rattle.lb_runqueue.specs.Turns.{counters_at, tries_of}
+use Rattle.lb_queue.specs.Turns.{counters_at, tries_of}
 use Rattle.lb_core.specs.Course.{opening_course, kind_of, is_newly, turn_domain, domain_at, env_by}
 use Rattle.lb_core.specs.Sight.{Sight, by_cpu}
 use Rattle.lb_core.specs.Leaving.{leaving, pull_out, out_by}

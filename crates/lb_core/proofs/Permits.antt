@@ -5,15 +5,15 @@ use Rattle.std.proofs.lemmas.Bool.{or_parts, and_parts, and_from, eqb-true, case
 use Rattle.std.proofs.lemmas.List.{length-set}
 use Rattle.std.proofs.lemmas.List.FromFn.{length-map-range_with_len}
 use Rattle.lb_base.specs.Sets.{is_empty}
-use Rattle.lb_runqueue.specs.declared.record.TaskRecord.{TaskRecord}
-use Rattle.lb_runqueue.specs.declared.answers.Reply.{Reply}
-use Rattle.lb_runqueue.specs.declared.answers.Reply.TheVariants.{NotHere}
-use Rattle.lb_runqueue.specs.declared.answers.OutCause.{OutCause}
-use Rattle.lb_runqueue.specs.Queue.{QueueState, new_task}
-use Rattle.lb_runqueue.specs.Requests.{ask_active, kick}
-use Rattle.lb_runqueue.specs.Turns.{close_look}
-use Rattle.lb_core.specs.declared.trace.Header.{Header}
-use Rattle.lb_core.specs.declared.trace.TaskRow.{TaskRow}
+use Rattle.lb_queue.specs.declared.record.TaskRecord.{TaskRecord}
+use Rattle.lb_queue.specs.declared.answers.Reply.{Reply}
+use Rattle.lb_queue.specs.declared.answers.Reply.TheVariants.{NotHere}
+use Rattle.lb_queue.specs.declared.answers.OutCause.{OutCause}
+use Rattle.lb_queue.specs.Queue.{QueueState, new_task}
+use Rattle.lb_queue.specs.Requests.{ask_active, kick}
+use Rattle.lb_queue.specs.Turns.{close_look}
+use Rattle.lb_trace.specs.declared.trace.Header.{Header}
+use Rattle.lb_trace.specs.declared.trace.TaskRow.{TaskRow}
 use Rattle.lb_core.specs.declared.course.Course.{Course}
 use Rattle.lb_core.specs.declared.course.Form.{Form}
 use Rattle.lb_core.specs.declared.course.Form.TheVariants.{Flight}
@@ -40,7 +40,8 @@ use Rattle.lb_core.proofs.Flows.{OnAwake}
 use Rattle.lb_core.proofs.Unbroken.{unbroken_here}
 use Rattle.lb_core.proofs.Places.{IsChanged, course_same, course_other}
 use Rattle.lb_core.proofs.Placing.{Kept, entry, single, queue_changed, course_hand, leaving_is, lane_there, cpu_there, form_lets, step_kept, owner_wrong, no_queue_changes, quiet_facts, still_facts, is_still, is_quiet, is_no_queue}
-use Rattle.lb_core.proofs.Opening.{opening_at, opening_hand, start_kept, homes_declared}
+use Rattle.lb_core.proofs.Opening.{opening_at, opening_hand, start_kept}
+use Rattle.lb_core.proofs.Headers.{all_index, homes_declared, masks_given}
 use Rattle.lb_core.proofs.Permitting.{answer_stays, out_sends}
 
 pub record Permit (m : Machine) : Type 0 where
@@ -198,11 +199,6 @@ start_permits h masks = record {
   hands = λ lane. none_goes (course_at (start h).courses lane) (opening_hand h lane);
 }
 
-all_index : {X : Type 0} (p : X → Bool) (xs : List X) → list_all p xs ≡ true → All (λ x. p x ≡ true) xs
-all_index p [] h k d lt = absurd (omega arith)
-all_index p (x ∷ xs) h zero d lt = (and_parts (p x) _ h).0
-all_index p (x ∷ xs) h (suc k) d lt = all_index p xs ((and_parts (p x) _ h).1) k d (omega arith)
-
 permitted : (m : Machine) → Permit m → IsPermitted m
 permitted m p = record {
   on_queues = λ cpu lt k d i. let h = (and_parts _ _ (all_index (may_be_here (queue_at m.queues cpu).cpu) _ (p.queues cpu).awake k d i)).0 in subst (λ (x : ℕ). may_stand x (get_or (queue_at m.queues cpu).awake k d) ≡ true) (p.cpus cpu lt) h;
@@ -211,4 +207,4 @@ permitted m p = record {
 
 pub permitted_always : PermittedAlways
 permitted_always h es accepted legal =
-    permitted (run es (start h)) (run_permits es (start h) (start_kept h (homes_declared h accepted)) (start_permits h (λ k d lt. (accepted.tasks k d lt).mask_given)) legal)
+    permitted (run es (start h)) (run_permits es (start h) (start_kept h (homes_declared h accepted)) (start_permits h (masks_given h accepted)) legal)

@@ -2,15 +2,15 @@
 use Rattle.std.proofs.Common.{◌≡◌, ℕ, ◌≤◌, Bool, true, false, Option, Some, None, is_some, refl, subst}
 use Rattle.std.specs.List.{list_all}
 use Rattle.lb_detach.specs.declared.Env.{Env}
-use Rattle.lb_runqueue.specs.declared.answers.Stop.{Stop}
-use Rattle.lb_runqueue.specs.Tasks.{occurs, awake_ids, task_with, awake_with}
-use Rattle.lb_runqueue.specs.Queue.{QueueState, away, away_of}
-use Rattle.lb_runqueue.specs.Commands.{wake, sleep, exit, set_mask, renice}
-use Rattle.lb_runqueue.specs.Requests.{next_stop}
-use Rattle.lb_runqueue.specs.Hands.{leave}
-use Rattle.lb_core.specs.declared.trace.Command.{Command}
-use Rattle.lb_core.specs.declared.trace.Command.TheVariants.{Wake, Sleep, Exit, SetMask, Nice, Tick, Rebuild}
-use Rattle.lb_core.specs.declared.trace.Header.{Header}
+use Rattle.lb_queue.specs.declared.answers.Stop.{Stop}
+use Rattle.lb_queue.specs.Tasks.{occurs, awake_ids, task_with, awake_with}
+use Rattle.lb_queue.specs.Queue.{QueueState, away, away_of}
+use Rattle.lb_queue.specs.Commands.{wake, sleep, exit, set_mask, renice}
+use Rattle.lb_queue.specs.Requests.{next_stop}
+use Rattle.lb_queue.specs.Hands.{leave}
+use Rattle.lb_trace.specs.declared.trace.Command.{Command}
+use Rattle.lb_trace.specs.declared.trace.Command.TheVariants.{Wake, Sleep, Exit, SetMask, Nice, Tick, Rebuild}
+use Rattle.lb_trace.specs.declared.trace.Header.{Header}
 use Rattle.lb_core.specs.declared.course.Course.{Course}
 use Rattle.lb_core.specs.declared.course.Form.{Form}
 use Rattle.lb_core.specs.declared.course.Form.TheVariants.{Rest, Asked, Serving, Looked}

@@ -7,10 +7,10 @@ use Rattle.std.proofs.lemmas.Bool.{eqb-true, eq-eqb, cond-true}
 use Rattle.lb_base.specs.declared.view.TaskView.{TaskView}
 use Rattle.lb_detach.specs.declared.Env.{Env}
 use Rattle.lb_detach.specs.Picks.{no_task, task_at, refused_at, taken, refused, ends, examined, ids_at, picked_ids, kept_ids}
-use Rattle.lb_runqueue.specs.declared.awake.Awake.{Awake}
-use Rattle.lb_runqueue.specs.Tasks.{occurs, awake_ids, awake_with}
-use Rattle.lb_runqueue.specs.Hands.{in_order}
-use Rattle.lb_runqueue.specs.Values.{view_at}
+use Rattle.lb_queue.specs.declared.awake.Awake.{Awake}
+use Rattle.lb_queue.specs.Tasks.{occurs, awake_ids, awake_with}
+use Rattle.lb_queue.specs.Hands.{in_order}
+use Rattle.lb_queue.specs.Values.{view_at}
 use Rattle.lb_core.proofs.Occurrences.{occurs-append, occurs-map_append, occurs-reverse, found, found_none}
 use Rattle.lb_core.proofs.TaskIds.{key}
 

@@ -3,13 +3,13 @@ use Rattle.std.proofs.Common.{◌≡◌, ℕ, ◌+◌, ◌<◌, ◌≤◌, Bool,
 use Rattle.std.proofs.Common.{length-set, get_or-set_same, get_or-set_other}
 use Rattle.std.proofs.lemmas.Bool.{eqb-true, eq-eqb, ne_eqb, ltb-true, and_parts, cases_eq}
 use Rattle.std.proofs.lemmas.Bool.Decides.{nat_tests}
-use Rattle.lb_runqueue.specs.Tasks.{occurs, ids, awake_ids}
-use Rattle.lb_runqueue.specs.Queue.{QueueState}
+use Rattle.lb_queue.specs.Tasks.{occurs, ids, awake_ids}
+use Rattle.lb_queue.specs.Queue.{QueueState}
 use Rattle.lb_core.proofs.Flows.{Side, OnAwake, OnAsleep, OnGone, OnHand, same_side, part, Flow}
 use Rattle.lb_core.specs.declared.place.Place.{Place}
 use Rattle.lb_core.specs.declared.place.Place.TheVariants.{Awake as AwakeAt, Asleep as AsleepAt, Gone as GoneAt, Hand as HandOf}
 use Rattle.lb_core.specs.declared.course.Course.{Course}
-use Rattle.lb_core.specs.declared.trace.Header.{Header}
+use Rattle.lb_trace.specs.declared.trace.Header.{Header}
 use Rattle.lb_core.specs.Same.{same_place}
 use Rattle.lb_core.specs.Machine.{Machine, queue_at, no_course, course_at, place_at}
 use Rattle.lb_core.specs.Step.{set_places}

@@ -1,15 +1,15 @@
 -- Each step of the machine keeps each task at one place.
 use Rattle.std.proofs.Common.{◌≡◌, ℕ, ◌+◌, ◌<◌, ◌≤◌, Bool, true, false, not, cond, ◌==◌, ◌||◌, ltb, List, [], ◌∷◌, length, Option, Some, None, refl, sym, ◌∙◌, ap, arith, subst, inl, inr, get_or-set_same, get_or-set_other}
 use Rattle.std.proofs.lemmas.Bool.{or_parts, and_parts, not-false, eqb-true, ltb-true, cases_eq}
-use Rattle.lb_runqueue.specs.declared.record.TaskRecord.{TaskRecord}
-use Rattle.lb_runqueue.specs.declared.answers.Reply.{Reply}
-use Rattle.lb_runqueue.specs.declared.answers.Reply.TheVariants.{NotHere}
-use Rattle.lb_runqueue.specs.declared.answers.OutCause.{OutCause}
-use Rattle.lb_runqueue.specs.Tasks.{occurs, ids}
-use Rattle.lb_runqueue.specs.Queue.{QueueState}
-use Rattle.lb_runqueue.specs.Requests.{ask_active, kick}
-use Rattle.lb_runqueue.specs.Turns.{close_look}
-use Rattle.lb_core.specs.declared.trace.Command.{Command}
+use Rattle.lb_queue.specs.declared.record.TaskRecord.{TaskRecord}
+use Rattle.lb_queue.specs.declared.answers.Reply.{Reply}
+use Rattle.lb_queue.specs.declared.answers.Reply.TheVariants.{NotHere}
+use Rattle.lb_queue.specs.declared.answers.OutCause.{OutCause}
+use Rattle.lb_queue.specs.Tasks.{occurs, ids}
+use Rattle.lb_queue.specs.Queue.{QueueState}
+use Rattle.lb_queue.specs.Requests.{ask_active, kick}
+use Rattle.lb_queue.specs.Turns.{close_look}
+use Rattle.lb_trace.specs.declared.trace.Command.{Command}
 use Rattle.lb_core.specs.declared.course.Course.{Course}
 use Rattle.lb_core.specs.declared.place.Place.{Place}
 use Rattle.lb_core.specs.declared.place.Place.TheVariants.{Awake as AwakeAt, Asleep as AsleepAt, Gone as GoneAt, Hand as HandOf}

@@ -11,14 +11,14 @@ use Rattle.lb_active.specs.Choice.{pick_of, nearest_back}
 use Rattle.lb_detach.specs.declared.Env.{Env}
 use Rattle.lb_detach.specs.Rules.{refuses}
 use Rattle.lb_detach.specs.Picks.{no_task, task_at, refused_at, taken, examined, ids_at, picked_ids}
-use Rattle.lb_runqueue.specs.declared.record.TaskRecord.{TaskRecord}
-use Rattle.lb_runqueue.specs.declared.awake.Awake.{Awake}
-use Rattle.lb_runqueue.specs.Tasks.{occurs, awake_ids, awake_with, set_down}
-use Rattle.lb_runqueue.specs.Queue.{QueueState, away_of, clock_at}
-use Rattle.lb_runqueue.specs.declared.answers.Stop.{Stop}
-use Rattle.lb_runqueue.specs.Requests.{stop_of, next_asked, next_stop, is_next_asked}
-use Rattle.lb_runqueue.specs.Values.{views, view_at}
-use Rattle.lb_runqueue.specs.Hands.{leaves_asleep, leaves_awake, take_stop, take_push, awake_named, pushed, in_order, pull}
+use Rattle.lb_queue.specs.declared.record.TaskRecord.{TaskRecord}
+use Rattle.lb_queue.specs.declared.awake.Awake.{Awake}
+use Rattle.lb_queue.specs.Tasks.{occurs, awake_ids, awake_with, set_down}
+use Rattle.lb_queue.specs.Queue.{QueueState, away_of, clock_at}
+use Rattle.lb_queue.specs.declared.answers.Stop.{Stop}
+use Rattle.lb_queue.specs.Requests.{stop_of, next_asked, next_stop, is_next_asked}
+use Rattle.lb_queue.specs.Values.{views, view_at}
+use Rattle.lb_queue.specs.Hands.{leaves_asleep, leaves_awake, take_stop, take_push, awake_named, pushed, in_order, pull}
 use Rattle.lb_core.proofs.Allowed.{may_be_here, may_go_to, IsAllowed}
 use Rattle.lb_core.proofs.Occurrences.{found}
 use Rattle.lb_core.proofs.Staying.{all_map, all_find, all_reverse, least_has, set_down_mask}

@@ -7,16 +7,16 @@ use Rattle.lb_base.specs.declared.mask.Mask.{Mask}
 use Rattle.lb_base.specs.Mask.{has}
 use Rattle.lb_base.specs.Sets.{least, is_empty}
 use Rattle.lb_pelt.specs.declared.signal.Run.TheVariants.{Asleep as AsleepRun}
-use Rattle.lb_runqueue.specs.declared.record.TaskRecord.{TaskRecord}
-use Rattle.lb_runqueue.specs.declared.awake.Awake.{Awake}
-use Rattle.lb_runqueue.specs.declared.awake.StopRequest.{StopRequest}
-use Rattle.lb_runqueue.specs.declared.awake.StopRequest.TheVariants.{Free, Pending, Owed}
-use Rattle.lb_runqueue.specs.declared.answers.OutCause.{OutCause}
-use Rattle.lb_runqueue.specs.Tasks.{task_with, awake_with, without_awake, is_pending, advanced_task, set_down, preempted, picked, picked_first, pick_back, joined, somebody_runs, left_by}
-use Rattle.lb_runqueue.specs.Queue.{QueueState, away_of, at_moment, clock_at}
-use Rattle.lb_runqueue.specs.Commands.{wakes, sleeps, exits, is_bad_mask, unless_bad, masks_awake, masks_asleep, with_mask, masked, sets_mask, reniced, with_nice, renices}
-use Rattle.lb_runqueue.specs.Requests.{tick, rotated, rotated_to, next_up, owes}
-use Rattle.lb_runqueue.specs.Hands.{leaves_asleep, leave, leaves_awake, take_stop, take_push, pushed, in_order, pull, all_joined, landed, land}
+use Rattle.lb_queue.specs.declared.record.TaskRecord.{TaskRecord}
+use Rattle.lb_queue.specs.declared.awake.Awake.{Awake}
+use Rattle.lb_queue.specs.declared.awake.StopRequest.{StopRequest}
+use Rattle.lb_queue.specs.declared.awake.StopRequest.TheVariants.{Free, Pending, Owed}
+use Rattle.lb_queue.specs.declared.answers.OutCause.{OutCause}
+use Rattle.lb_queue.specs.Tasks.{task_with, awake_with, without_awake, is_pending, advanced_task, set_down, preempted, picked, picked_first, pick_back, joined, somebody_runs, left_by}
+use Rattle.lb_queue.specs.Queue.{QueueState, away_of, at_moment, clock_at}
+use Rattle.lb_queue.specs.Commands.{wakes, sleeps, exits, is_bad_mask, unless_bad, masks_awake, masks_asleep, with_mask, masked, sets_mask, reniced, with_nice, renices}
+use Rattle.lb_queue.specs.Requests.{tick, rotated, rotated_to, next_up, owes}
+use Rattle.lb_queue.specs.Hands.{leaves_asleep, leave, leaves_awake, take_stop, take_push, pushed, in_order, pull, all_joined, landed, land}
 use Rattle.lb_core.specs.Permitted.{may_stand}
 use Rattle.lb_core.proofs.Allowed.{may_be_here, may_go_to, may_run, IsAllowed}
 

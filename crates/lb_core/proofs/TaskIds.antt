@@ -1,12 +1,12 @@
 -- The ids in the lists of a queue, through the steps that join, take out, pick and rotate tasks.
 use Rattle.std.proofs.Common.{◌≡◌, ℕ, ◌+◌, ◌≤◌, Bool, true, false, not, cond, ◌==◌, eqb, ltb, List, [], ◌∷◌, length, reverse, Option, Some, None, refl, sym, ◌∙◌, arith, zero-add}
 use Rattle.std.proofs.lemmas.Bool.Decides.{nat_tests}
-use Rattle.lb_runqueue.specs.declared.record.TaskRecord.{TaskRecord}
-use Rattle.lb_runqueue.specs.declared.awake.Awake.{Awake}
-use Rattle.lb_runqueue.specs.Tasks.{occurs, ids, awake_ids, without_awake, picked, picked_first, pick_back, somebody_runs, is_pending, joined, left_by, preempted}
-use Rattle.lb_runqueue.specs.Commands.{changed_awake, changed_task}
-use Rattle.lb_runqueue.specs.Requests.{next_up, rotated_to, rotated, owes}
-use Rattle.lb_runqueue.specs.Hands.{all_joined}
+use Rattle.lb_queue.specs.declared.record.TaskRecord.{TaskRecord}
+use Rattle.lb_queue.specs.declared.awake.Awake.{Awake}
+use Rattle.lb_queue.specs.Tasks.{occurs, ids, awake_ids, without_awake, picked, picked_first, pick_back, somebody_runs, is_pending, joined, left_by, preempted}
+use Rattle.lb_queue.specs.Commands.{changed_awake, changed_task}
+use Rattle.lb_queue.specs.Requests.{next_up, rotated_to, rotated, owes}
+use Rattle.lb_queue.specs.Hands.{all_joined}
 use Rattle.lb_core.proofs.Occurrences.{occurs-reverse, occurs-without, found, occurs-map}
 
 abbrev pub key : Awake → ℕ

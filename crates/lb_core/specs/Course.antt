@@ -18,11 +18,11 @@ use Rattle.lb_imbalance.specs.declared.decision.Decision.TheVariants.{NotMine, B
 use Rattle.lb_imbalance.specs.Decision.{group_at}
 use Rattle.lb_interval.specs.declared.Outcome.{Outcome}
 use Rattle.lb_interval.specs.declared.Outcome.TheVariants.{NotMine as NotMineEnd, Balanced as BalancedEnd, Moved as MovedEnd, Pinned as PinnedEnd, Failed as FailedEnd, Asking as AskingEnd}
-use Rattle.lb_runqueue.specs.declared.answers.Taken.{Taken}
-use Rattle.lb_runqueue.specs.Turns.{counters_at, tries_of}
-use Rattle.lb_core.specs.declared.trace.Command.{Command}
-use Rattle.lb_core.specs.declared.trace.Command.TheVariants.{Wake, Sleep, Exit, SetMask, Nice, Tick, Rebuild}
-use Rattle.lb_core.specs.declared.trace.Header.{Header}
+use Rattle.lb_queue.specs.declared.answers.Taken.{Taken}
+use Rattle.lb_queue.specs.Turns.{counters_at, tries_of}
+use Rattle.lb_trace.specs.declared.trace.Command.{Command}
+use Rattle.lb_trace.specs.declared.trace.Command.TheVariants.{Wake, Sleep, Exit, SetMask, Nice, Tick, Rebuild}
+use Rattle.lb_trace.specs.declared.trace.Header.{Header}
 use Rattle.lb_core.specs.declared.course.Course.{Course}
 use Rattle.lb_core.specs.declared.course.Form.TheVariants.{Rest}
 

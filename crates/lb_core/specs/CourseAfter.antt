@@ -7,15 +7,15 @@ use Rattle.lb_base.specs.declared.shape.Kind.TheVariants.{Tick as TickTurn, Idle
 use Rattle.lb_base.specs.Mask.{no_cpus, only, either}
 use Rattle.lb_base.specs.Sets.{least, least_above}
 use Rattle.lb_imbalance.specs.Destination.{is_busy}
-use Rattle.lb_runqueue.specs.declared.answers.AskReply.{AskReply}
-use Rattle.lb_runqueue.specs.declared.answers.AskReply.TheVariants.{New, Old}
-use Rattle.lb_runqueue.specs.declared.answers.OutCause.{OutCause}
-use Rattle.lb_runqueue.specs.declared.answers.OutCause.TheVariants.{Pull as PullOut, Push as PushOut}
-use Rattle.lb_runqueue.specs.Queue.{QueueState, is_awake, nobody}
-use Rattle.lb_runqueue.specs.Turns.{counters_found}
-use Rattle.lb_core.specs.declared.trace.Command.{Command}
-use Rattle.lb_core.specs.declared.trace.Command.TheVariants.{Sleep, Exit, Tick}
-use Rattle.lb_core.specs.declared.trace.Header.{Header}
+use Rattle.lb_queue.specs.declared.answers.AskReply.{AskReply}
+use Rattle.lb_queue.specs.declared.answers.AskReply.TheVariants.{New, Old}
+use Rattle.lb_queue.specs.declared.answers.OutCause.{OutCause}
+use Rattle.lb_queue.specs.declared.answers.OutCause.TheVariants.{Pull as PullOut, Push as PushOut}
+use Rattle.lb_queue.specs.Queue.{QueueState, is_awake, nobody}
+use Rattle.lb_queue.specs.Turns.{counters_found}
+use Rattle.lb_trace.specs.declared.trace.Command.{Command}
+use Rattle.lb_trace.specs.declared.trace.Command.TheVariants.{Sleep, Exit, Tick}
+use Rattle.lb_trace.specs.declared.trace.Header.{Header}
 use Rattle.lb_core.specs.declared.course.Course.{Course}
 use Rattle.lb_core.specs.declared.course.Form.TheVariants.{Rest, Asked, Flight, Serving, Due, Used, Position, Looked, Landed as LandedForm, Closed, Done, ScanDue, Kicking, Ended}
 use Rattle.lb_core.specs.declared.entry.FigName.{FigName}

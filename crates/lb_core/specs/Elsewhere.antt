@@ -5,8 +5,8 @@ use Rattle.std.specs.Prelude.{ℕ, ◌==◌, nat_lt, Bool, true, false, not, ◌
 use Rattle.std.specs.List.{slice_index_or, range_with_len, list_any, list_all}
 use Rattle.lb_base.specs.declared.mask.Mask.{Mask}
 use Rattle.lb_base.specs.Sets.{mask_where}
-use Rattle.lb_runqueue.specs.Requests.{has_pending}
-use Rattle.lb_core.specs.declared.trace.Command.TheVariants.{Tick}
+use Rattle.lb_queue.specs.Requests.{has_pending}
+use Rattle.lb_trace.specs.declared.trace.Command.TheVariants.{Tick}
 use Rattle.lb_core.specs.declared.course.Course.{Course}
 use Rattle.lb_core.specs.declared.course.Form.{Form}
 use Rattle.lb_core.specs.declared.course.Form.TheVariants.{Rest, Asked}

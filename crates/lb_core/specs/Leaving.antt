@@ -3,17 +3,17 @@
 -- a push or a pull, by the form of the course.
 use Rattle.std.specs.Prelude.{ℕ, true, false, Option, Some, None, List}
 use Rattle.lb_detach.specs.declared.Env.{Env}
-use Rattle.lb_runqueue.specs.declared.answers.Stop.{Stop}
-use Rattle.lb_runqueue.specs.declared.answers.OutCause.{OutCause}
-use Rattle.lb_runqueue.specs.declared.answers.OutCause.TheVariants.{Wake as WakeOut, Stop as StopOut, Pull as PullOut, Push as PushOut}
-use Rattle.lb_runqueue.specs.declared.answers.Taken.{Taken}
-use Rattle.lb_runqueue.specs.declared.record.TaskRecord.{TaskRecord}
-use Rattle.lb_runqueue.specs.Queue.{QueueState, away}
-use Rattle.lb_runqueue.specs.Requests.{next_stop}
-use Rattle.lb_runqueue.specs.Hands.{leave, take_stop, take_push, pull, taken_by}
-use Rattle.lb_core.specs.declared.trace.Command.{Command}
-use Rattle.lb_core.specs.declared.trace.Command.TheVariants.{Wake}
-use Rattle.lb_core.specs.declared.trace.Header.{Header}
+use Rattle.lb_queue.specs.declared.answers.Stop.{Stop}
+use Rattle.lb_queue.specs.declared.answers.OutCause.{OutCause}
+use Rattle.lb_queue.specs.declared.answers.OutCause.TheVariants.{Wake as WakeOut, Stop as StopOut, Pull as PullOut, Push as PushOut}
+use Rattle.lb_queue.specs.declared.answers.Taken.{Taken}
+use Rattle.lb_queue.specs.declared.record.TaskRecord.{TaskRecord}
+use Rattle.lb_queue.specs.Queue.{QueueState, away}
+use Rattle.lb_queue.specs.Requests.{next_stop}
+use Rattle.lb_queue.specs.Hands.{leave, take_stop, take_push, pull, taken_by}
+use Rattle.lb_trace.specs.declared.trace.Command.{Command}
+use Rattle.lb_trace.specs.declared.trace.Command.TheVariants.{Wake}
+use Rattle.lb_trace.specs.declared.trace.Header.{Header}
 use Rattle.lb_core.specs.declared.course.Course.{Course}
 use Rattle.lb_core.specs.declared.course.Form.{Form}
 use Rattle.lb_core.specs.declared.course.Form.TheVariants.{Rest, Asked, Serving, Looked}

@@ -2,7 +2,7 @@
 -- none. A history is legal where each entry may be added to the state that those before it leave, and
 -- the last one is the end.
 use Rattle.std.specs.Prelude.{ℕ, ◌+◌, ◌≡◌, Bool, true, false, Option, Some, None, List, [], ◌∷◌}
-use Rattle.lb_core.specs.declared.trace.Header.{Header}
+use Rattle.lb_trace.specs.declared.trace.Header.{Header}
 use Rattle.lb_core.specs.declared.entry.Entry.{Entry}
 use Rattle.lb_core.specs.declared.rule.Rule.{Rule}
 use Rattle.lb_core.specs.declared.rule.Rule.TheVariants.{End as EndRule}

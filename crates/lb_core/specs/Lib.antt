@@ -11,7 +11,6 @@ pub mod Machine
 pub mod Elsewhere
 pub mod Step
 pub mod Legal
-pub mod Accepted
 pub mod Placed
 pub mod Permitted
 pub mod Choices

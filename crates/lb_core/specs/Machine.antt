@@ -6,11 +6,11 @@ use Rattle.std.specs.List.{slice_index_or, range_with_len}
 use Rattle.lb_base.specs.declared.mask.Mask.{Mask}
 use Rattle.lb_base.specs.declared.figure.Fig.{Fig}
 use Rattle.lb_base.specs.Figures.{no_fig}
-use Rattle.lb_runqueue.specs.declared.record.TaskRecord.{TaskRecord}
-use Rattle.lb_runqueue.specs.Queue.{QueueState, empty_queue, new_task}
-use Rattle.lb_runqueue.specs.Figures.{figure}
-use Rattle.lb_core.specs.declared.trace.Header.{Header}
-use Rattle.lb_core.specs.declared.trace.TaskRow.{TaskRow}
+use Rattle.lb_queue.specs.declared.record.TaskRecord.{TaskRecord}
+use Rattle.lb_queue.specs.Queue.{QueueState, empty_queue, new_task}
+use Rattle.lb_queue.specs.Figures.{figure}
+use Rattle.lb_trace.specs.declared.trace.Header.{Header}
+use Rattle.lb_trace.specs.declared.trace.TaskRow.{TaskRow}
 use Rattle.lb_core.specs.declared.course.Course.{Course}
 use Rattle.lb_core.specs.declared.entry.CpuFig.{CpuFig}
 use Rattle.lb_core.specs.declared.entry.FigName.{FigName}

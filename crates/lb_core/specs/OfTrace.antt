@@ -1,8 +1,8 @@
 -- When a history is one of a trace: it is legal, has the trace's header, and holds each lane's rows
 -- once, in file order, with the lane's next entry as the reply to each.
 use Rattle.std.specs.Prelude.{ℕ, ◌≡◌, ◌==◌, if◌then◌else◌, Option, Some, None, List, [], ◌∷◌, ◌++◌, filter}
-use Rattle.lb_core.specs.declared.trace.Row.{Row}
-use Rattle.lb_core.specs.declared.trace.Trace.{Trace}
+use Rattle.lb_trace.specs.declared.trace.Row.{Row}
+use Rattle.lb_trace.specs.declared.trace.Trace.{Trace}
 use Rattle.lb_core.specs.declared.entry.Entry.{Entry}
 use Rattle.lb_core.specs.declared.entry.What.{What}
 use Rattle.lb_core.specs.declared.entry.What.TheVariants.{Row as RowEntry}

@@ -15,11 +15,11 @@ use Rattle.lb_domain.specs.Domains.{domains_of}
 use Rattle.lb_imbalance.specs.declared.decision.Decision.{Decision}
 use Rattle.lb_imbalance.specs.declared.decision.Decision.TheVariants.{Pull}
 use Rattle.lb_imbalance.specs.Decision.{decision}
-use Rattle.lb_runqueue.specs.declared.answers.OutCause.TheVariants.{Pull as PullOut}
-use Rattle.lb_runqueue.specs.Tasks.{awake_ids}
-use Rattle.lb_runqueue.specs.Values.{views}
-use Rattle.lb_runqueue.specs.Figures.{figure}
-use Rattle.lb_core.specs.declared.trace.Header.{Header}
+use Rattle.lb_queue.specs.declared.answers.OutCause.TheVariants.{Pull as PullOut}
+use Rattle.lb_queue.specs.Tasks.{awake_ids}
+use Rattle.lb_queue.specs.Values.{views}
+use Rattle.lb_queue.specs.Figures.{figure}
+use Rattle.lb_trace.specs.declared.trace.Header.{Header}
 use Rattle.lb_core.specs.declared.course.Course.{Course}
 use Rattle.lb_core.specs.declared.entry.FigName.{FigName}
 use Rattle.lb_core.specs.declared.entry.Owner.TheVariants.{Queue}

@@ -2,13 +2,13 @@
 -- asked to leave, and each task in a hand may run where the hand goes.
 use Rattle.std.specs.Prelude.{ℕ, ◌≡◌, ◌<◌, Bool, true, ◌||◌, List, length, All}
 use Rattle.lb_base.specs.Mask.{has}
-use Rattle.lb_runqueue.specs.declared.awake.Awake.{Awake}
-use Rattle.lb_runqueue.specs.Tasks.{is_pending}
-use Rattle.lb_core.specs.declared.trace.Header.{Header}
+use Rattle.lb_queue.specs.declared.awake.Awake.{Awake}
+use Rattle.lb_queue.specs.Tasks.{is_pending}
+use Rattle.lb_trace.specs.declared.trace.Header.{Header}
 use Rattle.lb_core.specs.declared.entry.Entry.{Entry}
 use Rattle.lb_core.specs.Machine.{Machine, queue_at, course_at, start}
 use Rattle.lb_core.specs.Legal.{run, IsLegalFront}
-use Rattle.lb_core.specs.Accepted.{IsAccepted}
+use Rattle.lb_trace.specs.Accepted.{IsHeader}
 
 -- the awake task may be on this CPU's queue, or a stop request is pending
 abbrev pub may_stand : ℕ → Awake → Bool
@@ -19,4 +19,4 @@ pub record IsPermitted (m : Machine) : Type 0 where
   pub in_hands : (lane : ℕ) → All (λ t. has t.mask (course_at m.courses lane).to ≡ true) (course_at m.courses lane).hand
 
 abbrev pub PermittedAlways : Type 0
-PermittedAlways = (h : Header) (es : List Entry) → IsAccepted h → IsLegalFront h es → IsPermitted (run es (start h))
+PermittedAlways = (h : Header) (es : List Entry) → IsHeader h → IsLegalFront h es → IsPermitted (run es (start h))

@@ -1,15 +1,15 @@
 -- The law Placed: after every legal front each declared task stands at exactly one place, once: in
 -- one list of one queue or in one hand, and that is its place in the map.
 use Rattle.std.specs.Prelude.{ℕ, ◌≡◌, nat_lt, Bool, ◌&&◌, if◌then◌else◌, List, length}
-use Rattle.lb_runqueue.specs.Tasks.{ids, awake_ids, occurs}
-use Rattle.lb_core.specs.declared.trace.Header.{Header}
+use Rattle.lb_queue.specs.Tasks.{ids, awake_ids, occurs}
+use Rattle.lb_trace.specs.declared.trace.Header.{Header}
 use Rattle.lb_core.specs.declared.entry.Entry.{Entry}
 use Rattle.lb_core.specs.declared.place.Place.{Place}
 use Rattle.lb_core.specs.declared.place.Place.TheVariants.{Awake as AwakeAt, Asleep as AsleepAt, Gone as GoneAt, Hand as HandOf}
 use Rattle.lb_core.specs.Same.{same_place}
 use Rattle.lb_core.specs.Machine.{Machine, queue_at, course_at, place_at, start}
 use Rattle.lb_core.specs.Legal.{run, IsLegalFront}
-use Rattle.lb_core.specs.Accepted.{IsAccepted}
+use Rattle.lb_trace.specs.Accepted.{IsHeader}
 
 -- who stands at a place
 abbrev pub standing : Machine → Place → List ℕ
@@ -32,4 +32,4 @@ pub record IsPlaced (m : Machine) : Type 0 where
   pub once : (place : Place) (t : ℕ) → times m place t ≡ (if is_its_place m place t then 1 else 0)
 
 abbrev pub PlacedAlways : Type 0
-PlacedAlways = (h : Header) (es : List Entry) → IsAccepted h → IsLegalFront h es → IsPlaced (run es (start h))
+PlacedAlways = (h : Header) (es : List Entry) → IsHeader h → IsLegalFront h es → IsPlaced (run es (start h))

@@ -1,17 +1,17 @@
 -- The queue that an entry of it leaves: one step of the queue for each kind of entry, with the values
 -- that the course of its lane fixes.
 use Rattle.std.specs.Prelude.{ℕ, Option, Some, None, unwrap_or}
-use Rattle.lb_runqueue.specs.declared.answers.Reply.{Reply}
-use Rattle.lb_runqueue.specs.declared.answers.Reply.TheVariants.{Done as DoneReply}
-use Rattle.lb_runqueue.specs.declared.answers.OutCause.{OutCause}
-use Rattle.lb_runqueue.specs.declared.answers.OutCause.TheVariants.{Wake as WakeOut}
-use Rattle.lb_runqueue.specs.Queue.{QueueState}
-use Rattle.lb_runqueue.specs.Commands.{wake, sleep, exit, set_mask, renice}
-use Rattle.lb_runqueue.specs.Hands.{land}
-use Rattle.lb_runqueue.specs.Requests.{tick, ask_active, kick}
-use Rattle.lb_runqueue.specs.Turns.{opened, shut, close_look, end_turn}
-use Rattle.lb_core.specs.declared.trace.Command.{Command}
-use Rattle.lb_core.specs.declared.trace.Command.TheVariants.{Wake, Sleep, Exit, SetMask, Nice, Tick}
+use Rattle.lb_queue.specs.declared.answers.Reply.{Reply}
+use Rattle.lb_queue.specs.declared.answers.Reply.TheVariants.{Done as DoneReply}
+use Rattle.lb_queue.specs.declared.answers.OutCause.{OutCause}
+use Rattle.lb_queue.specs.declared.answers.OutCause.TheVariants.{Wake as WakeOut}
+use Rattle.lb_queue.specs.Queue.{QueueState}
+use Rattle.lb_queue.specs.Commands.{wake, sleep, exit, set_mask, renice}
+use Rattle.lb_queue.specs.Hands.{land}
+use Rattle.lb_queue.specs.Requests.{tick, ask_active, kick}
+use Rattle.lb_queue.specs.Turns.{opened, shut, close_look, end_turn}
+use Rattle.lb_trace.specs.declared.trace.Command.{Command}
+use Rattle.lb_trace.specs.declared.trace.Command.TheVariants.{Wake, Sleep, Exit, SetMask, Nice, Tick}
 use Rattle.lb_core.specs.declared.course.Course.{Course}
 use Rattle.lb_core.specs.declared.entry.What.{What}
 use Rattle.lb_core.specs.declared.entry.What.TheVariants.{Did, Out, Landed, Turn, Shut, Close, Ask, Kick, Over}

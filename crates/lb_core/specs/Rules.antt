@@ -10,15 +10,15 @@ use Rattle.lb_imbalance.specs.Decision.{decision}
 use Rattle.lb_interval.specs.declared.Counters.{Counters}
 use Rattle.lb_interval.specs.declared.Outcome.{Outcome}
 use Rattle.lb_interval.specs.declared.Outcome.TheVariants.{NotMine as NotMineEnd, Balanced as BalancedEnd, Moved as MovedEnd, Pinned as PinnedEnd, Failed as FailedEnd, Asking as AskingEnd}
-use Rattle.lb_runqueue.specs.declared.answers.OutCause.{OutCause}
-use Rattle.lb_runqueue.specs.declared.answers.Reply.TheVariants.{NotHere}
-use Rattle.lb_runqueue.specs.Tasks.{ids}
-use Rattle.lb_runqueue.specs.Queue.{QueueState, away}
-use Rattle.lb_runqueue.specs.Requests.{has_owed, ask_active, kick}
-use Rattle.lb_runqueue.specs.Turns.{positions_found, counters_closed}
-use Rattle.lb_core.specs.declared.trace.Command.{Command}
-use Rattle.lb_core.specs.declared.trace.Command.TheVariants.{Wake, Sleep, Exit, SetMask, Nice, Tick, Rebuild}
-use Rattle.lb_core.specs.declared.trace.Header.{Header}
+use Rattle.lb_queue.specs.declared.answers.OutCause.{OutCause}
+use Rattle.lb_queue.specs.declared.answers.Reply.TheVariants.{NotHere}
+use Rattle.lb_queue.specs.Tasks.{ids}
+use Rattle.lb_queue.specs.Queue.{QueueState, away}
+use Rattle.lb_queue.specs.Requests.{has_owed, ask_active, kick}
+use Rattle.lb_queue.specs.Turns.{positions_found, counters_closed}
+use Rattle.lb_trace.specs.declared.trace.Command.{Command}
+use Rattle.lb_trace.specs.declared.trace.Command.TheVariants.{Wake, Sleep, Exit, SetMask, Nice, Tick, Rebuild}
+use Rattle.lb_trace.specs.declared.trace.Header.{Header}
 use Rattle.lb_core.specs.declared.course.Form.{Form}
 use Rattle.lb_core.specs.declared.course.Form.TheVariants.{ScanDue}
 use Rattle.lb_core.specs.declared.entry.FigName.{FigName}

@@ -8,12 +8,12 @@ use Rattle.lb_base.specs.declared.view.MoveKind.{MoveKind}
 use Rattle.lb_base.specs.declared.view.MoveKind.TheVariants.{Load, Util, Tasks}
 use Rattle.lb_imbalance.specs.declared.decision.Decision.{Decision}
 use Rattle.lb_imbalance.specs.declared.decision.Decision.TheVariants.{NotMine, Balanced, Pull}
-use Rattle.lb_runqueue.specs.declared.answers.Reply.{Reply}
-use Rattle.lb_runqueue.specs.declared.answers.Reply.TheVariants.{Done, Already, NotHere, Gone, BadMask}
-use Rattle.lb_runqueue.specs.declared.answers.AskReply.{AskReply}
-use Rattle.lb_runqueue.specs.declared.answers.AskReply.TheVariants.{New, Old}
-use Rattle.lb_runqueue.specs.declared.answers.OutCause.{OutCause}
-use Rattle.lb_runqueue.specs.declared.answers.OutCause.TheVariants.{Wake as WakeOut, Stop as StopOut, Pull as PullOut, Push as PushOut}
+use Rattle.lb_queue.specs.declared.answers.Reply.{Reply}
+use Rattle.lb_queue.specs.declared.answers.Reply.TheVariants.{Done, Already, NotHere, Gone, BadMask}
+use Rattle.lb_queue.specs.declared.answers.AskReply.{AskReply}
+use Rattle.lb_queue.specs.declared.answers.AskReply.TheVariants.{New, Old}
+use Rattle.lb_queue.specs.declared.answers.OutCause.{OutCause}
+use Rattle.lb_queue.specs.declared.answers.OutCause.TheVariants.{Wake as WakeOut, Stop as StopOut, Pull as PullOut, Push as PushOut}
 use Rattle.lb_core.specs.declared.entry.Owner.{Owner}
 use Rattle.lb_core.specs.declared.entry.Owner.TheVariants.{Publisher, Lane, Queue}
 use Rattle.lb_core.specs.declared.entry.OutcomeWord.{OutcomeWord}

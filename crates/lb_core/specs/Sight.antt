@@ -9,8 +9,8 @@ use Rattle.lb_base.specs.declared.figure.Fig.{Fig}
 use Rattle.lb_base.specs.Mask.{first_cpus}
 use Rattle.lb_base.specs.Figures.{no_fig}
 use Rattle.lb_nohz.specs.Kick.{tickless_cpus}
-use Rattle.lb_runqueue.specs.Queue.{QueueState}
-use Rattle.lb_core.specs.declared.trace.Header.{Header}
+use Rattle.lb_queue.specs.Queue.{QueueState}
+use Rattle.lb_trace.specs.declared.trace.Header.{Header}
 use Rattle.lb_core.specs.declared.course.Course.{Course}
 use Rattle.lb_core.specs.declared.entry.CpuFig.{CpuFig}
 

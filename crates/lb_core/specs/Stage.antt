@@ -5,9 +5,9 @@ use Rattle.lb_base.specs.declared.shape.Kind.{Kind}
 use Rattle.lb_base.specs.declared.shape.Kind.TheVariants.{Tick as TickTurn}
 use Rattle.lb_base.specs.Sets.{least}
 use Rattle.lb_imbalance.specs.declared.decision.Decision.{Decision}
-use Rattle.lb_runqueue.specs.Queue.{QueueState}
-use Rattle.lb_runqueue.specs.Requests.{has_owed}
-use Rattle.lb_core.specs.declared.trace.Header.{Header}
+use Rattle.lb_queue.specs.Queue.{QueueState}
+use Rattle.lb_queue.specs.Requests.{has_owed}
+use Rattle.lb_trace.specs.declared.trace.Header.{Header}
 use Rattle.lb_core.specs.declared.course.Course.{Course}
 use Rattle.lb_core.specs.declared.course.Form.{Form}
 use Rattle.lb_core.specs.declared.course.Form.TheVariants.{Rest, Asked, Flight, Serving, Due, Used, Position, Looked, Landed as LandedForm, Closed, Done, ScanDue, Kicking}

@@ -4,11 +4,11 @@
 use Rattle.std.specs.Prelude.{ℕ, ◌+◌, Bool, true, ◌||◌, Option, Some, List, [], ◌∷◌, ◌++◌, length, find, slice_set}
 use Rattle.lb_base.specs.declared.mask.Mask.{Mask}
 use Rattle.lb_base.specs.declared.figure.Fig.{Fig}
-use Rattle.lb_runqueue.specs.declared.answers.Reply.TheVariants.{Done as DoneReply}
-use Rattle.lb_runqueue.specs.Queue.{QueueState}
-use Rattle.lb_runqueue.specs.Figures.{figure}
-use Rattle.lb_core.specs.declared.trace.Command.{Command}
-use Rattle.lb_core.specs.declared.trace.Command.TheVariants.{Wake, Sleep, Exit, Tick, Rebuild}
+use Rattle.lb_queue.specs.declared.answers.Reply.TheVariants.{Done as DoneReply}
+use Rattle.lb_queue.specs.Queue.{QueueState}
+use Rattle.lb_queue.specs.Figures.{figure}
+use Rattle.lb_trace.specs.declared.trace.Command.{Command}
+use Rattle.lb_trace.specs.declared.trace.Command.TheVariants.{Wake, Sleep, Exit, Tick, Rebuild}
 use Rattle.lb_core.specs.declared.course.Form.{Form}
 use Rattle.lb_core.specs.declared.course.Form.TheVariants.{Rest}
 use Rattle.lb_core.specs.declared.entry.Owner.{Owner}

@@ -1,8 +1,8 @@
 use crate::lists::{CounterRows, Figs, Numbers, TaskRecords};
-use crate::trace::{Command, Masks};
 use lb_base::{Kind, Mask};
 use lb_imbalance::Decision;
-use lb_runqueue::{OutCause, Taken};
+use lb_queue::{OutCause, Taken};
+use lb_trace::{Command, Masks};
 
 /// How far a lane is in the service of its row (docs/rules/lanes.md).
 #[derive(Clone, Copy, Debug, PartialEq, Eq)]

@@ -1,8 +1,8 @@
 use crate::lists::{FigNames, Ids};
-use crate::trace::Command;
 use lb_base::{Fig, Kind, Mask};
 use lb_imbalance::Decision;
-use lb_runqueue::{AskReply, OutCause, Reply};
+use lb_queue::{AskReply, OutCause, Reply};
+use lb_trace::Command;
 
 /// How a balanced position ended, as the line `close` says it; the number of tasks that moved is
 /// left out (docs/rules/counters.md).

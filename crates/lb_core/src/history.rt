@@ -1,5 +1,5 @@
 use crate::lists::Entries;
-use crate::trace::Header;
+use lb_trace::Header;
 
 /// A history: what the trace declares, and the entries in the order of their tickets. An entry's
 /// ticket is its place in the list, from 1 (docs/rules/legality.md).

@@ -9,13 +9,14 @@ pub mod laws;
 mod lists;
 mod place;
 mod rule;
-mod trace;
 
 pub use course::{Course, Form};
 pub use entry::{CpuFig, Entry, FigName, OutcomeWord, Owner, What};
 pub use history::History;
-pub use lb_runqueue::TaskRecord;
+pub use lb_queue::TaskRecord;
 pub use lists::{CounterRows, Entries, FigNames, Figs, Ids, Numbers, TaskRecords};
 pub use place::Place;
 pub use rule::Rule;
-pub use trace::{Command, CpuRows, Distances, Header, Masks, Row, Rows, TaskRow, TaskRows, Trace};
+
+#[cfg(test)]
+mod tests;

@@ -1,7 +1,7 @@
 use crate::entry::{CpuFig, Entry, FigName};
 use lb_base::Items;
 use lb_interval::Counters;
-use lb_runqueue::TaskRecord;
+use lb_queue::TaskRecord;
 
 /// Numbers of tasks, in an order that counts.
 pub type Ids = Items<u32>;

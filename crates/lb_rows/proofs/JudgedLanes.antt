@@ -22,14 +22,14 @@ use Rattle.lb_imbalance.specs.Decision.{all_stats, domain_average, pull as pull_
 use Rattle.lb_levels.specs.Rows.{distances_of}
 use Rattle.lb_levels.specs.Spans.{levels_of, span_of}
 use Rattle.lb_domain.specs.Domains.{cut_span, firsts, is_kept, domains_of}
-use Rattle.lb_runqueue.specs.Tasks.{pick_back, somebody_runs, joined, left_by}
-use Rattle.lb_runqueue.specs.Queue.{away}
-use Rattle.lb_runqueue.specs.Values.{value_of, view_at, views}
-use Rattle.lb_runqueue.specs.Figures.{figure}
-use Rattle.lb_runqueue.specs.Commands.{wake, sleep, exit, set_mask, renice}
-use Rattle.lb_runqueue.specs.Requests.{has_pending, has_owed, next_asked, rotated, tick, ask_active, kick}
-use Rattle.lb_runqueue.specs.Hands.{leave, take_stop, pushed, take_push, in_order, pull, taken_by, land}
-use Rattle.lb_runqueue.specs.Turns.{counters_found, due_positions, positions_found, counters_closed, close_look}
+use Rattle.lb_queue.specs.Tasks.{pick_back, somebody_runs, joined, left_by}
+use Rattle.lb_queue.specs.Queue.{away}
+use Rattle.lb_queue.specs.Values.{value_of, view_at, views}
+use Rattle.lb_queue.specs.Figures.{figure}
+use Rattle.lb_queue.specs.Commands.{wake, sleep, exit, set_mask, renice}
+use Rattle.lb_queue.specs.Requests.{has_pending, has_owed, next_asked, rotated, tick, ask_active, kick}
+use Rattle.lb_queue.specs.Hands.{leave, take_stop, pushed, take_push, in_order, pull, taken_by, land}
+use Rattle.lb_queue.specs.Turns.{counters_found, due_positions, positions_found, counters_closed, close_look}
 use Rattle.lb_core.specs.Course.{outcome_of}
 use Rattle.lb_core.specs.Sight.{by_cpu, tickless_in}
 use Rattle.lb_core.specs.Stage.{draws, stage_allows}

@@ -4,10 +4,10 @@ use Rattle.std.specs.Prelude.{pos, Some, replicate, [], ◌∷◌, ◌++◌}
 use Rattle.lb_base.specs.declared.shape.Kind.TheVariants.{Tick as TickTurn, Idle as IdleTurn, Nohz as NohzTurn}
 use Rattle.lb_base.specs.declared.view.MoveKind.TheVariants.{Tasks}
 use Rattle.lb_imbalance.specs.declared.decision.Decision.TheVariants.{Balanced, Pull}
-use Rattle.lb_runqueue.specs.declared.answers.Reply.TheVariants.{Done}
-use Rattle.lb_runqueue.specs.declared.answers.AskReply.TheVariants.{New}
-use Rattle.lb_runqueue.specs.declared.answers.OutCause.TheVariants.{Pull as PullOut}
-use Rattle.lb_core.specs.declared.trace.Command.TheVariants.{Wake, Sleep, Tick}
+use Rattle.lb_queue.specs.declared.answers.Reply.TheVariants.{Done}
+use Rattle.lb_queue.specs.declared.answers.AskReply.TheVariants.{New}
+use Rattle.lb_queue.specs.declared.answers.OutCause.TheVariants.{Pull as PullOut}
+use Rattle.lb_trace.specs.declared.trace.Command.TheVariants.{Wake, Sleep, Tick}
 use Rattle.lb_core.specs.declared.entry.What.TheVariants.{Row, Adopt, Look, Scan, End, Did, Out, Landed, Turn, Close, Kick, Over}
 use Rattle.lb_core.specs.declared.entry.OutcomeWord.TheVariants.{Balanced as BalancedWord, Moved as MovedWord, Pinned as PinnedWord}
 use Rattle.lb_core.specs.declared.history.History.{History}

@@ -3,9 +3,9 @@
 use Rattle.std.specs.Prelude.{pos, negsuc, replicate, [], ◌∷◌, ◌++◌}
 use Rattle.lb_base.specs.declared.shape.Kind.TheVariants.{Tick as TickTurn, Idle as IdleTurn}
 use Rattle.lb_imbalance.specs.declared.decision.Decision.TheVariants.{Balanced}
-use Rattle.lb_runqueue.specs.declared.answers.Reply.TheVariants.{Done, Already, Gone as GoneReply, BadMask}
-use Rattle.lb_runqueue.specs.declared.answers.OutCause.TheVariants.{Wake as WakeOut}
-use Rattle.lb_core.specs.declared.trace.Command.TheVariants.{Wake, Sleep, Exit, SetMask, Nice, Tick, Rebuild}
+use Rattle.lb_queue.specs.declared.answers.Reply.TheVariants.{Done, Already, Gone as GoneReply, BadMask}
+use Rattle.lb_queue.specs.declared.answers.OutCause.TheVariants.{Wake as WakeOut}
+use Rattle.lb_trace.specs.declared.trace.Command.TheVariants.{Wake, Sleep, Exit, SetMask, Nice, Tick, Rebuild}
 use Rattle.lb_core.specs.declared.entry.What.TheVariants.{Row, Adopt, Look, End, Did, Out, Landed, Turn, Close, Over, Pub}
 use Rattle.lb_core.specs.declared.entry.OutcomeWord.TheVariants.{Balanced as BalancedWord}
 use Rattle.lb_core.specs.declared.history.History.{History}

@@ -4,9 +4,9 @@ use Rattle.std.specs.Prelude.{pos, replicate, [], ◌∷◌}
 use Rattle.lb_base.specs.declared.shape.Kind.TheVariants.{Tick as TickTurn}
 use Rattle.lb_base.specs.declared.view.MoveKind.TheVariants.{Tasks}
 use Rattle.lb_imbalance.specs.declared.decision.Decision.TheVariants.{Balanced, Pull}
-use Rattle.lb_runqueue.specs.declared.answers.Reply.TheVariants.{Done}
-use Rattle.lb_runqueue.specs.declared.answers.OutCause.TheVariants.{Wake as WakeOut, Pull as PullOut}
-use Rattle.lb_core.specs.declared.trace.Command.TheVariants.{Wake, Sleep, SetMask, Tick}
+use Rattle.lb_queue.specs.declared.answers.Reply.TheVariants.{Done}
+use Rattle.lb_queue.specs.declared.answers.OutCause.TheVariants.{Wake as WakeOut, Pull as PullOut}
+use Rattle.lb_trace.specs.declared.trace.Command.TheVariants.{Wake, Sleep, SetMask, Tick}
 use Rattle.lb_core.specs.declared.entry.What.TheVariants.{Row, Adopt, Look, End, Did, Out, Landed, Turn, Close, Over}
 use Rattle.lb_core.specs.declared.entry.OutcomeWord.TheVariants.{Balanced as BalancedWord, Moved as MovedWord}
 use Rattle.lb_core.specs.declared.history.History.{History}

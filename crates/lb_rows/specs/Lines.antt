@@ -4,8 +4,8 @@ use Rattle.std.specs.Prelude.{ℕ, ℤ, Option, Some, List, [], ◌∷◌}
 use Rattle.lb_base.specs.declared.mask.Mask.{Mask}
 use Rattle.lb_base.specs.Mask.{first_cpus}
 use Rattle.lb_levels.specs.declared.cpu_row.CpuRow.{CpuRow}
-use Rattle.lb_core.specs.declared.trace.Header.{Header}
-use Rattle.lb_core.specs.declared.trace.TaskRow.{TaskRow}
+use Rattle.lb_trace.specs.declared.trace.Header.{Header}
+use Rattle.lb_trace.specs.declared.trace.TaskRow.{TaskRow}
 use Rattle.lb_core.specs.declared.entry.Entry.{Entry}
 use Rattle.lb_core.specs.declared.entry.FigName.{FigName}
 use Rattle.lb_core.specs.declared.entry.Owner.TheVariants.{Publisher, Lane, Queue}

@@ -4,10 +4,10 @@ use Rattle.std.specs.Prelude.{pos, None, replicate, [], ◌∷◌, ◌++◌}
 use Rattle.lb_base.specs.declared.shape.Kind.TheVariants.{Tick as TickTurn}
 use Rattle.lb_base.specs.declared.view.MoveKind.TheVariants.{Tasks}
 use Rattle.lb_imbalance.specs.declared.decision.Decision.TheVariants.{Pull}
-use Rattle.lb_runqueue.specs.declared.answers.Reply.TheVariants.{Done}
-use Rattle.lb_runqueue.specs.declared.answers.AskReply.TheVariants.{New, Old}
-use Rattle.lb_runqueue.specs.declared.answers.OutCause.TheVariants.{Stop as StopOut, Pull as PullOut, Push as PushOut}
-use Rattle.lb_core.specs.declared.trace.Command.TheVariants.{Wake, SetMask, Tick}
+use Rattle.lb_queue.specs.declared.answers.Reply.TheVariants.{Done}
+use Rattle.lb_queue.specs.declared.answers.AskReply.TheVariants.{New, Old}
+use Rattle.lb_queue.specs.declared.answers.OutCause.TheVariants.{Stop as StopOut, Pull as PullOut, Push as PushOut}
+use Rattle.lb_trace.specs.declared.trace.Command.TheVariants.{Wake, SetMask, Tick}
 use Rattle.lb_core.specs.declared.entry.What.TheVariants.{Row, Adopt, Look, Scan, End, Did, Out, Landed, Turn, Close, Ask, Over}
 use Rattle.lb_core.specs.declared.entry.OutcomeWord.TheVariants.{Failed as FailedWord, Asking as AskingWord}
 use Rattle.lb_core.specs.declared.history.History.{History}
