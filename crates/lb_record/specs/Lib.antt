@@ -1,0 +1,7 @@
+pub mod Lines
+pub mod Words
+pub mod Fields
+pub mod Header
+pub mod Entries
+pub mod History
+pub mod Laws

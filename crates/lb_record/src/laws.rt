@@ -1,0 +1,16 @@
+//! Laws of the text of a history, each the contract of a function that does nothing.
+ghost use Rattle.lb_record.specs.Laws.{HasItsLines, HasItsFields};
+
+/// A line feed ends each line of a history's text and stands nowhere else. So the text has a line for
+/// each line of the header and one for each entry, and the entry of ticket T stands T lines after the
+/// header's last.
+#[tactic(auto, using(crate::proofs::Spelled::has_its_lines))]
+pub fn has_its_lines()
+    ensures { HasItsLines }
+{}
+
+/// A space stands between each two fields of an entry's line and nowhere else.
+#[tactic(auto, using(crate::proofs::Spelled::has_its_fields))]
+pub fn has_its_fields()
+    ensures { HasItsFields }
+{}
