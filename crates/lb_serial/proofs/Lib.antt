@@ -1,0 +1,11 @@
+pub mod Appending
+pub mod NoDomains
+pub mod CalmQueues
+pub mod Known
+pub mod Replies
+pub mod Unbroken
+pub mod Drawing
+pub mod Starting
+pub mod OneCpu
+pub mod Unique
+pub mod Trials

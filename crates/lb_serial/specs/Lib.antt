@@ -1,0 +1,4 @@
+pub mod Served
+pub mod Serial
+pub mod Fronts
+pub mod Unique
