@@ -1,57 +1,97 @@
--- Where the work is done, what was written is the text of the trace's one history.
-use Rattle.std.proofs.Common.{◌≡◌, ℕ, zero, suc, List, [], ◌∷◌, take, Option, Some, None, Ok, refl}
-use Rattle.std.specs.Io.KnownBytes.{Appends}
+-- Where the work of `step` is done, what was written is the text of the trace's one history.
+use Rattle.std.proofs.Common.{◌≡◌, ℕ, zero, suc, List, [], ◌∷◌, ◌++◌, take, Option, Some, None, Result, Ok, Err, refl, sym, ◌∙◌, ap, subst}
+use Rattle.lb_core.specs.declared.entry.Entry.{Entry}
+use Rattle.lb_core.specs.declared.history.History.{History}
+use Rattle.lb_core.specs.Machine.{Machine, start}
+use Rattle.lb_core.specs.Step.{after}
+use Rattle.lb_core.specs.Legal.{run, MayFollow, IsLegalFront}
+use Rattle.lb_core.specs.Placed.{IsPlaced, PlacedAlways}
+use Rattle.lb_core.specs.Permitted.{IsPermitted, PermittedAlways}
+use Rattle.lb_core.specs.Passes.{PassesAlways}
+use Rattle.lb_trace.specs.declared.trace.Code.{Code}
+use Rattle.lb_trace.specs.declared.trace.Header.{Header}
 use Rattle.lb_trace.specs.declared.trace.Trace.{Trace}
+use Rattle.lb_trace.specs.Accepted.{IsTrace, IsHeader}
 use Rattle.lb_trace.specs.Grammar.{reading_of}
-use Rattle.lb_trace.specs.Accepted.{IsTrace}
+use Rattle.lb_serial.specs.Serial.{IsSerialHistory}
+use Rattle.lb_serial.specs.Unique.{OneHistory}
+use Rattle.lb_record.specs.History.{history_text}
 use Rattle.lb.specs.declared.status.Status.{Status}
 use Rattle.lb.specs.declared.status.Status.TheVariants as status
-use Rattle.lb.specs.declared.entry.Entry.{Entry}
-use Rattle.lb.specs.declared.state.State.{State}
-use Rattle.lb.specs.After.{after}
-use Rattle.lb.specs.Legal.{start, MayFollow}
-use Rattle.lb.specs.Serial.{serial}
-use Rattle.lb.specs.Text.{history_text}
-use Rattle.lb.specs.Answers.{Ends, OfTrace, answer_text, Answers, IsTheHistory, Headline}
-use Rattle.lb.proofs.Uniqueness.{one_history}
-use Rattle.lb.proofs.Legality.{serial_is_history}
-use Rattle.lb.proofs.Placing.{placed_always}
-use Rattle.lb.proofs.Permitting.{permitted_always}
+use Rattle.std.specs.Prelude.{IfSome}
+use Rattle.std.specs.Io.KnownBytes.{IsAtEnd}
+use Rattle.lb.specs.declared.words.Work.{Work}
+use Rattle.lb.specs.declared.words.Work.TheVariants.{Step, Topo}
+use Rattle.lb.specs.Words.{work_of}
+use Rattle.lb.specs.Later.{first_later}
+use Rattle.lb.specs.Answers.{Side, Call, Took, input_of, served_by, unless_later, IsOutput, OfTrace, TookOutput, Answers}
+use Rattle.lb.specs.Headline.{IsTheHistory, Headline}
+use Rattle.lb.proofs.Serving.{is_served}
 
-abbrev Accepted : Type 0
-Accepted = (text : List ℕ) (t : Trace) → reading_of text ≡ Ok t → IsTrace t
+-- the laws that the headline stands on
+pub record Laws : Type 0 where
+  pub accepted : (text : List ℕ) (t : Trace) → reading_of text ≡ Ok t → IsTrace t
+  pub placed : PlacedAlways
+  pub permitted : PermittedAlways
+  pub passes : PassesAlways
+  pub one : OneHistory
 
-front_taken : (n : ℕ) (es : List Entry) (m : State) → MayFollow es m → MayFollow (take n es) m
+front_taken : (n : ℕ) (es : List Entry) (m : Machine) → MayFollow es m → MayFollow (take n es) m
 front_taken zero es m legal = tt
 front_taken (suc n) [] m legal = tt
 front_taken (suc n) (e ∷ es) m legal = (legal.0, front_taken n es (after m e) legal.1)
 
-the_history : (t : Trace) → IsTrace t → IsTheHistory t (serial t)
-the_history t given =
-    let h = serial_is_history t given in
+the_history : Laws → (t : Trace) (h : History) → IsTrace t → first_later t ≡ None → IsSerialHistory t h → IsTheHistory t h
+the_history law t h given none s =
+    let header : IsHeader h.header = subst (λ (x : Header). IsHeader x) (sym s.of_trace.header) given.header in
+    let front : (n : ℕ) → IsLegalFront h.header (take n h.entries) = λ n. front_taken n h.entries (start h.header) s.of_trace.legal.0 in
     record {
-      history = h;
-      alone = λ fs k. one_history t fs (serial t) k h;
-      one_by_one = refl;
-      placed = λ n. placed_always t.header (take n (serial t)) (front_taken n (serial t) (start t.header) h.legal.front);
-      permitted = λ n. permitted_always t (take n (serial t)) given (front_taken n (serial t) (start t.header) h.legal.front);
+      history = s.of_trace;
+      alone = λ other k. law.one t other h (is_served t given none) k s.of_trace;
+      serial = s;
+      placed = λ n. law.placed h.header (take n h.entries) header (front n);
+      permitted = λ n. law.permitted h.header (take n h.entries) header (front n);
+      passes = λ before later e is. law.passes h.header before later e (subst (λ (es : List Entry). IsLegalFront h.header es) is s.of_trace.legal.0);
     }
 
-abbrev TheText : Option (List ℕ) → Option (List ℕ) → Trace → Type 0
-TheText old new t = (es : List Entry) × IsTheHistory t es × Appends old new (history_text t.header es)
+-- ---- what `step` read
+none_later : (t s : Trace) (later : Option ℕ) → unless_later t later ≡ Ok s → (t ≡ s) × (later ≡ None)
+none_later t s None is = (cc, refl)
+none_later t s (Some line) is = absurd (cc)
 
-the_text : (old new : Option (List ℕ)) (t : Trace) → IsTrace t → Appends old new (answer_text t) → TheText old new t
-unfolding answer_text
-the_text old new t given a = (serial t, the_history t given, a)
+served_step : (reading : Result Trace (ℕ × Code)) (t : Trace) → served_by Step reading ≡ Ok t → (reading ≡ Ok t) × (first_later t ≡ None)
+served_step (Err refusal) t is = absurd (cc)
+served_step (Ok s) t is =
+    let n = none_later s t (first_later s) is in
+    (ap (λ (x : Trace). Ok x) n.0, ap first_later (sym n.0) ∙ n.1)
 
-of_trace : Accepted → (left old new : Option (List ℕ)) → OfTrace left (λ t. Appends old new (answer_text t)) → OfTrace left (TheText old new)
-of_trace law None old new h = tt
-of_trace law (Some text) old new (t, is, a) = (t, is, the_text old new t (law text t is) a)
+step_reads : (text : List ℕ) (t : Trace) → input_of Step text ≡ Ok t → (reading_of text ≡ Ok t) × (first_later t ≡ None)
+unfolding input_of
+step_reads text t is = served_step (reading_of text) t is
 
-pub headlined : Accepted → (s : Status) (e : Ends) (a b : Option (List ℕ)) (m n : ℕ) → Answers s e a b m n → s ≡ status.Done → Headline e
-headlined law status.Done e a b m n w is = (w.0.1, of_trace law e.left_old e.out_old e.out_new w.0.2)
-headlined law status.ReadFault e a b m n w is = absurd (cc)
-headlined law status.Usage e a b m n w is = absurd (cc)
-headlined law (status.Refused line code) e a b m n w is = absurd (cc)
-headlined law status.WriteFault e a b m n w is = absurd (cc)
-headlined law status.NoMemory e a b m n w is = absurd (cc)
+-- ---- the headline
+abbrev TheText : Side → Trace → Type 0
+TheText out t = (h : History) × IsTheHistory t h × Took out (history_text h.header h.entries)
+
+the_text : Laws → (out : Side) (text : List ℕ) (t : Trace) → input_of Step text ≡ Ok t → (answer : List ℕ) × IsOutput Step t answer × Took out answer → TheText out t
+the_text law out text t is (answer, (h, serial, same), took) =
+    let r = step_reads text t is in
+    (h, the_history law t h (law.accepted text t r.0) r.1 serial, subst (λ (bytes : List ℕ). Took out bytes) same took)
+
+of_trace : Laws → (left : Option (List ℕ)) (out : Side) → IfSome left (λ text. (t : Trace) × (input_of Step text ≡ Ok t) × ((answer : List ℕ) × IsOutput Step t answer × Took out answer)) → IfSome left (λ text. (t : Trace) × (input_of Step text ≡ Ok t) × TheText out t)
+of_trace law None out h = tt
+of_trace law (Some text) out (t, is, a) = (t, is, the_text law out text t is a)
+
+step_done : Laws → (c : Call) (work : Work) → work ≡ Step → IsAtEnd c.source.after × OfTrace work c (TookOutput c work) → Headline c
+step_done law c Step is w = (w.0, of_trace law c.source.before c.out w.1)
+step_done law c Topo is w = absurd (cc)
+
+pub headlined : Laws → (s : Status) (c : Call) (error : Side) → Answers s c error → s ≡ status.Done → work_of c.words ≡ Some Step → Headline c
+headlined law status.Done c error w is step =
+    let same : Some w.0.0 ≡ Some Step = sym w.0.1 ∙ step in
+    step_done law c w.0.0 (cc) w.0.2
+headlined law status.ReadFault c error w is step = absurd (cc)
+headlined law status.Usage c error w is step = absurd (cc)
+headlined law (status.Refused line code) c error w is step = absurd (cc)
+headlined law status.WriteFault c error w is step = absurd (cc)
+headlined law status.NoMemory c error w is step = absurd (cc)

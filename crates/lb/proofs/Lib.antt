@@ -1,12 +1,5 @@
-pub mod Words
+pub mod TooLong
 pub mod Reporting
-pub mod Sound
-pub mod Passing
-pub mod Choosing
-pub mod Keeping
-pub mod Uniqueness
-pub mod Legality
+pub mod Serving
+pub mod Building
 pub mod Headlines
-pub mod Flows
-pub mod Placing
-pub mod Permitting

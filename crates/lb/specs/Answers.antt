@@ -1,22 +1,27 @@
--- What each status of the program says, of its words, its source and its sinks.
-use Rattle.std.specs.Prelude.{◌≡◌, ◌⊎◌, ℕ, List, [], ◌∷◌, ◌++◌, take, codes, Ok, Err, Some, IfSome}
+-- What each status of the program says of its words, its source and its sinks.
+use Rattle.std.specs.Prelude.{◌≡◌, ◌⊎◌, ℕ, List, [], ◌∷◌, ◌++◌, codes, Result, Ok, Err, Some, None, IfSome}
 use Rattle.std.specs.declared.option.Option.{Option}
 use Rattle.std.specs.Fmt.{decimal}
 use Rattle.std.specs.Io.KnownBytes.{Appends, IsAtEnd}
 use Rattle.lb_io.specs.Faults.{Rose}
 use Rattle.lb_io.specs.Moved.{AppendsFront}
+use Rattle.lb_core.specs.declared.history.History.{History}
 use Rattle.lb_trace.specs.declared.trace.Code.{Code}
+use Rattle.lb_trace.specs.declared.trace.Code.TheVariants.{Later}
 use Rattle.lb_trace.specs.declared.trace.Trace.{Trace}
 use Rattle.lb_trace.specs.Codes.{code_word}
 use Rattle.lb_trace.specs.Grammar.{reading_of}
+use Rattle.lb_serial.specs.Serial.{IsSerialHistory}
+use Rattle.lb_record.specs.History.{history_text}
+use Rattle.lb_topo.specs.Text.{topology_text}
 use Rattle.lb.specs.declared.status.Status.{Status}
 use Rattle.lb.specs.declared.status.Status.TheVariants as status
-use Rattle.lb.specs.declared.entry.Entry.{Entry}
-use Rattle.lb.specs.Legal.{start, run, IsHistoryOf}
-use Rattle.lb.specs.Placing.{Placed, Permitted}
-use Rattle.lb.specs.Serial.{serial}
-use Rattle.lb.specs.Text.{history_text}
+use Rattle.lb.specs.declared.words.Work.{Work}
+use Rattle.lb.specs.declared.words.Work.TheVariants.{Step, Topo}
+use Rattle.lb.specs.Words.{work_of}
+use Rattle.lb.specs.Later.{first_later}
 
+-- ---- statuses
 -- the exit status
 abbrev pub status_number : Status → ℕ
 status_number status.Done = 0
@@ -35,74 +40,106 @@ status_text (status.Refused line code) = codes "lb: line " ++ (decimal line ++ (
 status_text status.WriteFault = codes "lb: write fault\n"
 status_text status.NoMemory = codes "lb: no memory\n"
 
-abbrev pub IsStep : List (List ℕ) → Type 0
-IsStep words = words ≡ codes "step" ∷ []
+-- ---- what a call found and left
+-- a source or a sink before and after a call: the bytes that it holds, where it tells them, and its
+-- count of faults
+pub record Side : Type 0 where
+  pub before : Option (List ℕ)
+  pub after : Option (List ℕ)
+  pub faults_before : ℕ
+  pub faults_after : ℕ
 
--- the text of the serial history of a trace
-unfoldable pub answer_text : Trace → List ℕ
-answer_text t = history_text t.header (serial t)
+abbrev pub side : Option (List ℕ) → Option (List ℕ) → ℕ → ℕ → Side
+side before after faults_before faults_after =
+    record { before = before; after = after; faults_before = faults_before; faults_after = faults_after }
 
--- what the call found and left: the bytes of each end where it tells them, and its count of faults
-pub record Ends : Type 0 where
+abbrev pub IsUntouched : Side → Type 0
+IsUntouched s = s.after ≡ s.before
+
+abbrev pub HadFault : Side → Type 0
+HadFault s = Rose s.faults_before s.faults_after
+
+abbrev pub Took : Side → List ℕ → Type 0
+Took s bytes = Appends s.before s.after bytes
+
+-- the words of a call, what its source had left, and what its out sink took
+pub record Call : Type 0 where
   pub words : List (List ℕ)
-  pub left_old : Option (List ℕ)
-  pub left_new : Option (List ℕ)
-  pub read_old : ℕ
-  pub read_new : ℕ
-  pub out_old : Option (List ℕ)
-  pub out_new : Option (List ℕ)
-  pub wrote_old : ℕ
-  pub wrote_new : ℕ
+  pub source : Side
+  pub out : Side
 
--- the input is a trace, and P holds of it
-abbrev pub OfTrace : Option (List ℕ) → (Trace → Type 0) → Type 0
-OfTrace left P = IfSome left (λ text. (t : Trace) × (reading_of text ≡ Ok t) × P t)
+abbrev pub call_of : List (List ℕ) → Side → Side → Call
+call_of words source out = record { words = words; source = source; out = out }
 
--- the out sink took nothing, or after a fault a front of the answer
-abbrev pub TookFront : Ends → Type 0
-TookFront e = (e.out_new ≡ e.out_old) ⊎ ((IsStep e.words) × (Rose e.wrote_old e.wrote_new) × OfTrace e.left_old (λ t. AppendsFront e.out_old e.out_new (answer_text t)))
+-- ---- the works
+abbrev pub unless_later : Trace → Option ℕ → Result Trace (ℕ × Code)
+unless_later t None = Ok t
+unless_later t (Some line) = Err (line, Later)
+
+-- the trace that was read, as far as the work serves it yet
+abbrev pub served_by : Work → Result Trace (ℕ × Code) → Result Trace (ℕ × Code)
+served_by Topo reading = reading
+served_by Step (Err refusal) = Err refusal
+served_by Step (Ok t) = unless_later t (first_later t)
+
+-- the trace that the work reads from a text, or the line and the code of the refusal
+unfoldable pub input_of : Work → List ℕ → Result Trace (ℕ × Code)
+input_of work text = served_by work (reading_of text)
+
+-- the text that the work writes for a trace
+abbrev pub IsOutput : Work → Trace → List ℕ → Type 0
+IsOutput Step t text = (h : History) × IsSerialHistory t h × (text ≡ history_text h.header h.entries)
+IsOutput Topo t text = text ≡ topology_text t
+
+-- the words ask for a work, and P holds of it
+abbrev pub OfWork : Call → (Work → Type 0) → Type 0
+OfWork c P = (work : Work) × (work_of c.words ≡ Some work) × P work
+
+-- the source told a trace that the work serves, and P holds of it
+abbrev pub OfTrace : Work → Call → (Trace → Type 0) → Type 0
+OfTrace work c P = IfSome c.source.before (λ text. (t : Trace) × (input_of work text ≡ Ok t) × P t)
+
+-- the out sink took the whole text of the work
+abbrev pub TookOutput : Call → Work → Trace → Type 0
+TookOutput c work t = (text : List ℕ) × IsOutput work t text × Took c.out text
+
+-- the out sink took a front of it
+abbrev pub TookFront : Call → Work → Trace → Type 0
+TookFront c work t = (text : List ℕ) × IsOutput work t text × AppendsFront c.out.before c.out.after text
+
+-- the out sink took nothing, or had a fault and took a front
+abbrev pub TookNoMore : Call → Type 0
+TookNoMore c = IsUntouched c.out ⊎ (HadFault c.out × OfWork c (λ work. OfTrace work c (TookFront c work)))
 
 -- the work alone, before its status is reported
-abbrev pub Works : Status → Ends → Type 0
-Works status.Done e = (IsStep e.words) × (IsAtEnd e.left_new) × OfTrace e.left_old (λ t. Appends e.out_old e.out_new (answer_text t))
-Works status.ReadFault e = (IsStep e.words) × (Rose e.read_old e.read_new) × (e.out_new ≡ e.out_old)
-Works status.Usage e = (IsStep e.words → ⊥) × (e.left_new ≡ e.left_old) × (e.out_new ≡ e.out_old)
-Works (status.Refused line code) e = (IsStep e.words) × (IfSome e.left_old (λ text. reading_of text ≡ Err (line, code))) × (e.out_new ≡ e.out_old)
-Works status.WriteFault e = (IsStep e.words) × (Rose e.wrote_old e.wrote_new) × TookFront e
-Works status.NoMemory e = e.out_new ≡ e.out_old
+abbrev pub Works : Status → Call → Type 0
+Works status.Done c = OfWork c (λ work. IsAtEnd c.source.after × OfTrace work c (TookOutput c work))
+Works status.ReadFault c = OfWork c (λ work. HadFault c.source) × IsUntouched c.out
+Works status.Usage c = (work_of c.words ≡ None) × IsUntouched c.source × IsUntouched c.out
+Works (status.Refused line code) c = OfWork c (λ work. IfSome c.source.before (λ text. input_of work text ≡ Err (line, code))) × IsUntouched c.out
+Works status.WriteFault c = HadFault c.out × OfWork c (λ work. OfTrace work c (TookFront c work))
+Works status.NoMemory c = IsUntouched c.out
 
--- a status is reported to the error sink
-abbrev pub Reports : Status → Status → Option (List ℕ) → Option (List ℕ) → ℕ → ℕ → Type 0
-Reports was now err_old err_new before after =
-    ((now ≡ was) × Appends err_old err_new (status_text was))
-    ⊎ (((now ≡ status.WriteFault) × (was ≡ status.Done → ⊥) × Rose before after)
-    ⊎ ((line : ℕ) × (code : Code) × (was ≡ status.Refused line code) × (now ≡ status.NoMemory) × Appends err_old err_new (status_text status.NoMemory)))
-
+-- ---- the report
 -- the error sink took the status's text
-abbrev pub Told : Status → Option (List ℕ) → Option (List ℕ) → Type 0
-Told s err_old err_new = Appends err_old err_new (status_text s)
+abbrev pub Told : Status → Side → Type 0
+Told s error = Took error (status_text s)
 
--- the whole call
-abbrev pub Answers : Status → Ends → Option (List ℕ) → Option (List ℕ) → ℕ → ℕ → Type 0
-Answers status.WriteFault e err_old err_new before after = (((IsStep e.words) × (Rose e.wrote_old e.wrote_new) × Told status.WriteFault err_old err_new) ⊎ Rose before after) × TookFront e
-Answers s e err_old err_new before after = Works s e × Told s err_old err_new
+-- a status is reported to the error sink, and this one stands then
+abbrev pub Reports : Status → Status → Side → Type 0
+Reports was now error =
+    ((now ≡ was) × Told was error)
+    ⊎ (((now ≡ status.WriteFault) × (was ≡ status.Done → ⊥) × HadFault error)
+    ⊎ ((line : ℕ) × (code : Code) × (was ≡ status.Refused line code) × (now ≡ status.NoMemory) × Told status.NoMemory error))
 
--- where nothing failed, a trace is answered
-abbrev pub Completes : Status → Ends → ℕ → ℕ → Type 0
-Completes s e before after =
-    (text : List ℕ) (t : Trace) → IsStep e.words → e.left_old ≡ Some text → reading_of text ≡ Ok t
-    → (Rose e.read_old e.read_new → ⊥) → (Rose e.wrote_old e.wrote_new → ⊥) → (Rose before after → ⊥)
+-- ---- the whole call
+abbrev pub Answers : Status → Call → Side → Type 0
+Answers status.WriteFault c error = ((HadFault c.out × Told status.WriteFault error) ⊎ HadFault error) × TookNoMore c
+Answers s c error = Works s c × Told s error
+
+-- where nothing failed, a trace that the work serves is answered
+abbrev pub Completes : Status → Call → Side → Type 0
+Completes s c error =
+    (work : Work) (text : List ℕ) (t : Trace) → work_of c.words ≡ Some work → c.source.before ≡ Some text → input_of work text ≡ Ok t
+    → (HadFault c.source → ⊥) → (HadFault c.out → ⊥) → (HadFault error → ⊥)
     → (s ≡ status.Done) ⊎ (s ≡ status.NoMemory)
-
--- the history of a trace: legal, with the trace's rows, each once, in order; the only such one; the
--- serial one; and after each of its entries every task stands at one place, where it may be
-pub record IsTheHistory (t : Trace) (es : List Entry) : Type 0 where
-  pub history : IsHistoryOf t es
-  pub alone : (fs : List Entry) → IsHistoryOf t fs → fs ≡ es
-  pub one_by_one : es ≡ serial t
-  pub placed : (n : ℕ) → Placed t.header (run (take n es) (start t.header))
-  pub permitted : (n : ℕ) → Permitted (run (take n es) (start t.header))
-
--- the text of the history of a trace is what the out sink grew by
-abbrev pub Headline : Ends → Type 0
-Headline e = (IsAtEnd e.left_new) × OfTrace e.left_old (λ t. (es : List Entry) × IsTheHistory t es × Appends e.out_old e.out_new (history_text t.header es))

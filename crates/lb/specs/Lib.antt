@@ -1,12 +1,4 @@
 pub mod Words
-pub mod Stage
-pub mod Service
-pub mod Rules
-pub mod After
-pub mod Legal
-pub mod Choices
-pub mod Placing
-pub mod Serial
-pub mod Text
-pub mod Fronts
+pub mod Later
 pub mod Answers
+pub mod Headline

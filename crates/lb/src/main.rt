@@ -1,16 +1,11 @@
 //! A load balancer's machine, run over a trace.
 #![tactic(auto)]
 
-mod course;
-mod entry;
-mod laws;
+mod later;
 mod once;
-mod places;
-mod serial;
-mod state;
 mod status;
-mod text;
 mod top;
+mod words;
 
 use lb_io::{OpenGate, ReadSource, WriteSink};
 use status::{Status, report};

@@ -1,46 +1,70 @@
-ghost use Rattle.std.specs.Prelude.{◌≡◌, ◌≤◌, ◌⊎◌, ◌↔◌, ℕ, length, IfOk, [], ◌∷◌, ◌++◌, map, codes, Some, Ok, IsTrue, string_bytes};
-ghost use Rattle.lb_io.specs.Faults.{Rose};
-ghost use Rattle.lb_trace.specs.declared.trace.Trace.{Trace as TraceOf};
-ghost use Rattle.lb_trace.specs.Grammar.{reading_of};
-ghost use Rattle.lb.specs.Answers.{IsStep, Works, Answers, Completes, Headline, answer_text};
-ghost use Rattle.std.specs.Io.KnownBytes.{Appends};
+ghost use Rattle.std.specs.Prelude.{◌≡◌, map, Some, None, IfOk, string_bytes};
+ghost use Rattle.lb_trace.specs.Accepted.{IsTrace};
+ghost use Rattle.lb_trace.specs.Grammar.{Gives};
+ghost use Rattle.lb.specs.Words.{work_of};
+ghost use Rattle.lb.specs.Later.{first_later};
+ghost use Rattle.lb.specs.Answers.{side, call_of, input_of, IsOutput, Works, Answers, Completes};
+ghost use Rattle.lb.specs.Headline.{Headline};
 
-use crate::serial::serial;
+use crate::later::first_later;
 use crate::status::{Status, report};
-use crate::text::history_text;
+use crate::words::{Work, work_of};
 use lb_base::NoMemory;
+use lb_core::laws::{permitted, placed};
 use lb_io::{ReadError, Sink, Source, read_all, write_all};
+use lb_record::history_text;
+use lb_serial::laws::one_history;
+use lb_serial::serial;
+use lb_topo::topology_text;
 use lb_trace::laws::accepted;
-use lb_trace::{Code, Trace, TraceError};
+use lb_trace::{Code, MAX_BYTES, Trace, TraceError};
 use std::alloc::Global;
 
-fn is_step(words: &[String]) -> bool
-    ensures { IsTrue result ↔ IsStep (map string_bytes words.now) }
+// The trace that the work reads from a text.
+#[tactic(auto, unfolding(crate::specs::Answers::input_of))]
+fn input_of(alloc: Global, work: Work, text: &[u8]) -> Result<Trace, TraceError>
+    ensures value { Gives result (input_of work text.now) }
+    ensures accepted { IfOk result (λ trace. IsTrace trace) }
+    ensures served { work ≡ Work.Step → IfOk result (λ trace. first_later trace ≡ None) }
 {
-    match words {
-        [word] => word.as_str() == "step",
-        _ => false,
+    accepted();
+    let trace = Trace::read(alloc, text)?;
+    match work {
+        Work::Topo => Ok(trace),
+        Work::Step => match first_later(&trace) {
+            Some(line) => Err(TraceError::Refused {
+                line,
+                code: Code::Later,
+            }),
+            None => Ok(trace),
+        },
     }
 }
 
-#[tactic(auto, unfolding(crate::specs::Answers::answer_text))]
-fn answer_text(alloc: Global, trace: &Trace) -> Result<String, NoMemory>
-    requires { length trace.now.header.tasks ≤ 4096 }
-    ensures { IfOk result (λ text. string_bytes text ≡ answer_text trace.now) }
+// The text that the work writes for a trace.
+fn output_of(alloc: Global, work: Work, trace: &Trace) -> Result<Vec<u8>, NoMemory>
+    requires accepted { IsTrace trace.now }
+    requires served { work ≡ Work.Step → first_later trace.now ≡ None }
+    ensures { IfOk result (λ text. IsOutput work trace.now text.items) }
 {
-    let entries = serial(alloc, trace)?;
-    Ok(history_text(alloc, &trace.header, &entries)?)
+    match work {
+        Work::Topo => topology_text(alloc, trace),
+        Work::Step => {
+            let history = serial(alloc, trace)?;
+            history_text(alloc, &history.header, history.entries.as_slice())
+        }
+    }
 }
 
 // The work of the words, before its status is reported.
 fn work<S: Source, O: Sink>(alloc: Global, words: &[String], src: &mut S, out: &mut O) -> Status
-    ensures { Works result (record { words = map string_bytes words.now; left_old = S.left src.old; left_new = S.left src.new; read_old = S.faults src.old; read_new = S.faults src.new; out_old = O.taken out.old; out_new = O.taken out.new; wrote_old = O.faults out.old; wrote_new = O.faults out.new }) }
+    ensures { Works result (call_of (map string_bytes words.now) (side (S.left src.old) (S.left src.new) (S.faults src.old) (S.faults src.new)) (side (O.taken out.old) (O.taken out.new) (O.faults out.old) (O.faults out.new))) }
 {
-    if !is_step(words) {
+    let Some(work) = work_of(words) else {
         return Status::Usage;
-    }
-    let bytes = match read_all(alloc, src, 33_554_432) {
-        Ok(bytes) => bytes,
+    };
+    let text = match read_all(alloc, src, MAX_BYTES) {
+        Ok(text) => text,
         Err(ReadError::ReadFault) => return Status::ReadFault,
         Err(ReadError::NoMemory) => return Status::NoMemory,
         Err(ReadError::TooLong) => {
@@ -50,22 +74,21 @@ fn work<S: Source, O: Sink>(alloc: Global, words: &[String], src: &mut S, out: &
             };
         }
     };
-    let trace = match Trace::read(alloc, &bytes) {
+    let trace = match input_of(alloc, work, &text) {
         Ok(trace) => trace,
         Err(TraceError::NoMemory) => return Status::NoMemory,
         Err(TraceError::Refused { line, code }) => return Status::Refused { line, code },
     };
-    accepted();
-    let Ok(text) = answer_text(alloc, &trace) else {
+    let Ok(answer) = output_of(alloc, work, &trace) else {
         return Status::NoMemory;
     };
-    match write_all(out, text.as_bytes()) {
+    match write_all(out, &answer) {
         Ok(()) => Status::Done,
         Err(_) => Status::WriteFault,
     }
 }
 
-/// Does the work of the words, and answers how it ended.
+/// Does the work of the words on one thread, and answers how it ended.
 pub fn once<S: Source, O: Sink, E: Sink>(
     alloc: Global,
     words: &[String],
@@ -73,13 +96,14 @@ pub fn once<S: Source, O: Sink, E: Sink>(
     out: &mut O,
     err: &mut E,
 ) -> Status
-    ensures answers { Answers result (record { words = map string_bytes words.now; left_old = S.left src.old; left_new = S.left src.new; read_old = S.faults src.old; read_new = S.faults src.new; out_old = O.taken out.old; out_new = O.taken out.new; wrote_old = O.faults out.old; wrote_new = O.faults out.new })
-        (E.taken err.old) (E.taken err.new) (E.faults err.old) (E.faults err.new) }
-    ensures completes { Completes result (record { words = map string_bytes words.now; left_old = S.left src.old; left_new = S.left src.new; read_old = S.faults src.old; read_new = S.faults src.new; out_old = O.taken out.old; out_new = O.taken out.new; wrote_old = O.faults out.old; wrote_new = O.faults out.new })
-        (E.faults err.old) (E.faults err.new) }
-    ensures headline { result ≡ Status.Done → Headline (record { words = map string_bytes words.now; left_old = S.left src.old; left_new = S.left src.new; read_old = S.faults src.old; read_new = S.faults src.new; out_old = O.taken out.old; out_new = O.taken out.new; wrote_old = O.faults out.old; wrote_new = O.faults out.new }) }
+    ensures answers { Answers result (call_of (map string_bytes words.now) (side (S.left src.old) (S.left src.new) (S.faults src.old) (S.faults src.new)) (side (O.taken out.old) (O.taken out.new) (O.faults out.old) (O.faults out.new))) (side (E.taken err.old) (E.taken err.new) (E.faults err.old) (E.faults err.new)) }
+    ensures completes { Completes result (call_of (map string_bytes words.now) (side (S.left src.old) (S.left src.new) (S.faults src.old) (S.faults src.new)) (side (O.taken out.old) (O.taken out.new) (O.faults out.old) (O.faults out.new))) (side (E.taken err.old) (E.taken err.new) (E.faults err.old) (E.faults err.new)) }
+    ensures headline { result ≡ Status.Done → work_of (map string_bytes words.now) ≡ Some Work.Step → Headline (call_of (map string_bytes words.now) (side (S.left src.old) (S.left src.new) (S.faults src.old) (S.faults src.new)) (side (O.taken out.old) (O.taken out.new) (O.faults out.old) (O.faults out.new))) }
 {
     accepted();
+    placed();
+    permitted();
+    one_history();
     let status = work(alloc, words, src, out);
     report(alloc, status, err)
 }

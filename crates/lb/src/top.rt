@@ -1,9 +1,11 @@
-ghost use Rattle.std.specs.Prelude.{◌≡◌, map, string_bytes};
-ghost use Rattle.std.specs.Io.KnownBytes.{Appends};
-ghost use Rattle.lb.specs.Answers.{Answers, Completes, Headline};
+ghost use Rattle.std.specs.Prelude.{◌≡◌, map, Some, string_bytes};
+ghost use Rattle.lb.specs.Words.{work_of};
+ghost use Rattle.lb.specs.Answers.{side, call_of, Answers, Completes};
+ghost use Rattle.lb.specs.Headline.{Headline};
 
 use crate::once::once;
 use crate::status::Status;
+use crate::words::Work;
 use lb_io::{Gate, Sink, Source};
 use std::alloc::Global;
 use std::sync::Wait;
@@ -19,11 +21,9 @@ pub fn top<R: Threads + Wait + Sync, S: Source, O: Sink, E: Sink, G: Gate>(
     err: &mut E,
     _gate: &G,
 ) -> Status
-    ensures answers { Answers result (record { words = map string_bytes words.now; left_old = S.left src.old; left_new = S.left src.new; read_old = S.faults src.old; read_new = S.faults src.new; out_old = O.taken out.old; out_new = O.taken out.new; wrote_old = O.faults out.old; wrote_new = O.faults out.new })
-        (E.taken err.old) (E.taken err.new) (E.faults err.old) (E.faults err.new) }
-    ensures completes { Completes result (record { words = map string_bytes words.now; left_old = S.left src.old; left_new = S.left src.new; read_old = S.faults src.old; read_new = S.faults src.new; out_old = O.taken out.old; out_new = O.taken out.new; wrote_old = O.faults out.old; wrote_new = O.faults out.new })
-        (E.faults err.old) (E.faults err.new) }
-    ensures headline { result ≡ Status.Done → Headline (record { words = map string_bytes words.now; left_old = S.left src.old; left_new = S.left src.new; read_old = S.faults src.old; read_new = S.faults src.new; out_old = O.taken out.old; out_new = O.taken out.new; wrote_old = O.faults out.old; wrote_new = O.faults out.new }) }
+    ensures answers { Answers result (call_of (map string_bytes words.now) (side (S.left src.old) (S.left src.new) (S.faults src.old) (S.faults src.new)) (side (O.taken out.old) (O.taken out.new) (O.faults out.old) (O.faults out.new))) (side (E.taken err.old) (E.taken err.new) (E.faults err.old) (E.faults err.new)) }
+    ensures completes { Completes result (call_of (map string_bytes words.now) (side (S.left src.old) (S.left src.new) (S.faults src.old) (S.faults src.new)) (side (O.taken out.old) (O.taken out.new) (O.faults out.old) (O.faults out.new))) (side (E.taken err.old) (E.taken err.new) (E.faults err.old) (E.faults err.new)) }
+    ensures headline { result ≡ Status.Done → work_of (map string_bytes words.now) ≡ Some Work.Step → Headline (call_of (map string_bytes words.now) (side (S.left src.old) (S.left src.new) (S.faults src.old) (S.faults src.new)) (side (O.taken out.old) (O.taken out.new) (O.faults out.old) (O.faults out.new))) }
 {
     once(alloc, words, src, out, err)
 }
