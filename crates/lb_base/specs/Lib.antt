@@ -3,3 +3,4 @@ pub mod Sets
 pub mod Weight
 pub mod Figures
 pub mod Greatest
+pub mod Room

@@ -1,4 +1,4 @@
-ghost use Rattle.std.specs.Prelude.{◌≡◌, [], ◌∷◌, ◌++◌, ◌<◌, ◌↔◌, length, slice_get, IsTrue, IfOk, OnOk, OnErr, Some};
+ghost use Rattle.std.specs.Prelude.{◌≡◌, [], ◌∷◌, ◌++◌, ◌<◌, ◌↔◌, length, slice_get, set, IsTrue, IfOk, OnOk, OnErr, Some};
 
 use crate::memory::NoMemory;
 use std::alloc::{AllocError, Global};
@@ -62,6 +62,14 @@ impl<T> Items<T> {
 }
 
 impl<T: Drop> Items<T> {
+    /// Puts another item at place `i`, from 0.
+    pub fn set(&mut self, i: usize, item: T)
+        requires { i < length self.old }
+        ensures { self.new ≡ set self.old i item }
+    {
+        self.items[i] = item;
+    }
+
     /// Adds an item at the end. A refusal leaves the list as it was.
     pub fn push(&mut self, item: T) -> Result<(), NoMemory>
         ensures ok { OnOk result (self.new ≡ self.old ++ item ∷ []) }

@@ -2,6 +2,7 @@
 //! plain types that the balancing rules pass to one another.
 #![tactic(auto)]
 
+mod buffer;
 mod figure;
 mod group;
 mod items;
@@ -14,6 +15,7 @@ mod tests;
 mod view;
 mod weight;
 
+pub use buffer::Buffer;
 pub use figure::Fig;
 pub use group::{GroupType, Stats};
 pub use items::Items;

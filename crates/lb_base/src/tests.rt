@@ -1,13 +1,5 @@
-use crate::{Items, Mask, weight_of_nice};
+use crate::{Buffer, Items, Mask};
 use std::test::Fail;
-
-#[test]
-fn the_ends_of_the_table_of_weights(rt: HostRuntime) -> Result<(), Fail> {
-    for (nice, weight) in [(-20, 88_761), (-1, 1_277), (0, 1_024), (19, 15)] {
-        assert_eq!(rt; weight_of_nice(nice), weight);
-    }
-    Ok(())
-}
 
 #[test]
 fn lists_grow(rt: HostRuntime) -> Result<(), Fail> {
@@ -19,10 +11,23 @@ fn lists_grow(rt: HostRuntime) -> Result<(), Fail> {
     }
     assert_eq!(rt; masks.len(), 2);
     assert_eq!(rt; *masks.get(0), Mask { bits: 8 });
+    masks.set(0, Mask::one(2));
+    assert_eq!(rt; masks.as_slice(), [Mask::one(2), Mask::one(1)].as_slice());
     let same = Items::from_slice(alloc, masks.as_slice());
     assert_eq!(rt;
         same.is_ok_and(|same| same.as_slice() == masks.as_slice()),
         true
     );
+    Ok(())
+}
+
+#[test]
+fn buffers_grow_into_their_room(rt: HostRuntime) -> Result<(), Fail> {
+    let mut masks = Buffer::new(rt.alloc());
+    masks.reserve(2)?;
+    masks.push_reserved(Mask::one(3));
+    masks.push_reserved(Mask::one(1));
+    masks.set(0, Mask::one(2));
+    assert_eq!(rt; masks.as_slice(), [Mask::one(2), Mask::one(1)].as_slice());
     Ok(())
 }

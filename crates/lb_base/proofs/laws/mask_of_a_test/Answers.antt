@@ -1,4 +1,4 @@
-use Rattle.lb_base.proofs.Where.{mask_where_has}
+use Rattle.lb_base.proofs.Sets.{mask_where_has}
 use Rattle.lb_base.proofs.laws.mask_of_a_test.Goals as goal
 
 pub returns : goal.returns

@@ -1,41 +1,66 @@
--- What the searches over all CPUs and over all candidates find.
-use Rattle.std.proofs.Common.{◌≡◌, ℕ, zero, suc, ◌+◌, ◌<◌, nat_lt, Bool, true, false, not, ◌&&◌, ◌||◌, Option, Some, None, refl, sym, ap, subst, arith, inl, inr, add-one}
-use Rattle.std.proofs.lemmas.Bool.{cases_Bool, cases_lt, both_ways, and_parts, and_from, and_left, and_right, lt-ltb, le-ltb, false_from_ne_true, not-true}
-use Rattle.lb_base.specs.declared.mask.Mask.{Mask}
-use Rattle.lb_base.specs.Mask.{has, HasNoneFrom, IsFirstFrom}
-use Rattle.lb_base.specs.Sets.{least, least_above}
-use Rattle.lb_base.specs.Greatest.{IsFirstGreatest, Picks, IsRanking, is_first_greatest, first_greatest}
+-- The first of the greatest, for whoever tries candidates one after the other: one more candidate is
+-- passed over, is the first, stays below or takes the place; there is one answer, and it is the one
+-- that the definition finds.
+use Rattle.std.proofs.Common.{◌≡◌, ℕ, zero, suc, ◌+◌, ◌<◌, Bool, true, false, not, ◌||◌, Option, Some, None, refl, sym, ap, subst, arith, below_more, inl, inr, add-one}
+use Rattle.std.proofs.lemmas.Bool.{cases_Bool, cases_order, both_ways, and_parts, and_from, false_from_ne_true, not-true}
+use Rattle.lb_base.specs.Greatest.{IsFirstGreatest, NonePasses, Picks, IsRanking, is_first_greatest, first_greatest}
 use Rattle.lb_base.proofs.Ranges.{find_none, find_least, all_at, all_of}
-use Rattle.lb_base.proofs.Trial.{Picks-skips, Picks-first, Picks-keeps, Picks-takes, IsFirstGreatest-unique}
 
--- ---- the least CPU
+-- ---- one more candidate
 
-pub least_none : (m : Mask) → HasNoneFrom m 0 → least m ≡ None
-unfolding least
-least_none m none = find_none (has m) 0 64 (λ k lo hi. none k lo)
+level : (above : ℕ → ℕ → Bool) (n : ℕ) → IsRanking above → above n n ≡ false
+level above n order = elim (cases_Bool (above n n)) [ inl t ↦ order.one_way n n t | inr f ↦ f ]
 
-pub least_first : (m : Mask) (c : ℕ) → IsFirstFrom m 0 c → least m ≡ Some c
-unfolding least
-least_first m c at = find_least (has m) 0 64 c at.from at.in_range at.there at.least
+pub Picks-skips : (p : ℕ → Bool) (above : ℕ → ℕ → Bool) (n : ℕ) (o : Option ℕ) → Picks p above n o → p n ≡ false → Picks p above (n + 1) o
+Picks-skips p above n None none fails = below_more _ _ none fails
+Picks-skips p above n (Some b) h fails = record {
+  within = omega (arith, h.within);
+  passes = h.passes;
+  greatest = below_more _ _ h.greatest (λ passes. absurd (both_ways (p n) fails passes));
+  first = h.first;
+}
 
-pub least_above_none : (m : Mask) (cpu : ℕ) → HasNoneFrom m (cpu + 1) → least_above m cpu ≡ None
-unfolding least_above
-least_above_none m cpu none =
-    find_none (λ k. nat_lt cpu k && has m k) 0 64 (λ k lo hi. elim (cases_lt cpu k) [
-      | inl above ↦ and_right (nat_lt cpu k) (has m k) (none k (omega (arith, above)))
-      | inr below ↦ and_left (nat_lt cpu k) (has m k) (le-ltb cpu k below)
-    ])
+pub Picks-first : (p : ℕ → Bool) (above : ℕ → ℕ → Bool) (n : ℕ) → IsRanking above → NonePasses p n → p n ≡ true → IsFirstGreatest p above (n + 1) n
+Picks-first p above n order none passes = record {
+  within = omega arith;
+  passes = passes;
+  greatest = below_more _ _ (λ k lt some. absurd (both_ways (p k) (none k lt) some)) (λ _. level above n order);
+  first = λ k lt some. absurd (both_ways (p k) (none k lt) some);
+}
 
-pub least_above_first : (m : Mask) (cpu c : ℕ) → IsFirstFrom m (cpu + 1) c → least_above m cpu ≡ Some c
-unfolding least_above
-least_above_first m cpu c at =
-    find_least (λ k. nat_lt cpu k && has m k) 0 64 c (omega arith) at.in_range (and_from (nat_lt cpu c) (has m c) (lt-ltb cpu c (omega (arith, at.from))) at.there)
-    (λ k lo hi. elim (cases_lt cpu k) [
-      | inl above ↦ and_right (nat_lt cpu k) (has m k) (at.least k (omega (arith, above)) hi)
-      | inr below ↦ and_left (nat_lt cpu k) (has m k) (le-ltb cpu k below)
-    ])
+pub Picks-keeps : (p : ℕ → Bool) (above : ℕ → ℕ → Bool) (n b : ℕ) → IsFirstGreatest p above n b → above n b ≡ false → IsFirstGreatest p above (n + 1) b
+Picks-keeps p above n b h below = record {
+  within = omega (arith, h.within);
+  passes = h.passes;
+  greatest = below_more _ _ h.greatest (λ _. below);
+  first = h.first;
+}
 
--- ---- the first of the greatest
+-- what is above the greatest so far is above each
+tops : (above : ℕ → ℕ → Bool) (n b k : ℕ) → IsRanking above → above n b ≡ true → above k b ≡ false → above n k ≡ true
+tops above n b k order over level =
+    elim (cases_Bool (above n k)) [ inl t ↦ t | inr f ↦ absurd (both_ways (above n b) (order.chain n k b f level) over) ]
+
+pub Picks-takes : (p : ℕ → Bool) (above : ℕ → ℕ → Bool) (n b : ℕ) → IsRanking above → IsFirstGreatest p above n b → p n ≡ true → above n b ≡ true → IsFirstGreatest p above (n + 1) n
+Picks-takes p above n b order h passes over = record {
+  within = omega arith;
+  passes = passes;
+  greatest = below_more _ _ (λ k lt some. order.one_way n k (tops above n b k order over (h.greatest k lt some))) (λ _. level above n order);
+  first = λ k lt some. tops above n b k order over (h.greatest k lt some);
+}
+
+-- there is one answer
+pub IsFirstGreatest-unique : (p : ℕ → Bool) (above : ℕ → ℕ → Bool) (n b c : ℕ) → IsFirstGreatest p above n b → IsFirstGreatest p above n c → b ≡ c
+IsFirstGreatest-unique p above n b c h k =
+    elim (cases_order b c) [
+      | inl e ↦ e
+      | inr o ↦ elim o [
+        | inl lt ↦ absurd (both_ways (above c b) (h.greatest c k.within k.passes) (k.first b lt h.passes))
+        | inr gt ↦ absurd (both_ways (above b c) (k.greatest b h.within h.passes) (h.first c gt k.passes))
+      ]
+    ]
+
+-- ---- the definition finds it
 
 -- a test that spares those who are no candidates
 spared : (p q : Bool) → (p ≡ true → q ≡ true) → (not p || q) ≡ true
