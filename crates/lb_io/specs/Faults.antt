@@ -1,6 +1,6 @@
 -- Sources and sinks count their faults. A count never falls, and stands still at its type's last
--- value; a call answers a failure only where the count rose in that call.
-use Rattle.std.specs.Prelude.{ℕ, ◌≡◌, ◌+◌, ◌-◌, ◌^◌, ◌<◌, ◌≤◌, ◌⊎◌, min, Result, OnErr}
+-- value; a call answers a failure only where the count rose in that call, and else leaves it.
+use Rattle.std.specs.Prelude.{ℕ, ◌≡◌, ◌+◌, ◌-◌, ◌^◌, ◌<◌, ◌≤◌, ◌⊎◌, min, Result, OnErr, OnOk}
 
 -- the count after one fault more
 abbrev pub counted : ℕ → ℕ
@@ -10,7 +10,8 @@ counted n = min (n + 1) (2 ^ 64 - 1)
 abbrev pub Rose : ℕ → ℕ → Type 0
 Rose before now = (before < now) ⊎ (now ≡ 2 ^ 64 - 1)
 
--- the count has not fallen, and an Err comes only where it rose
+-- the count has not fallen, an Err comes only where it rose, and an Ok only where it stayed
 pub record CountsFaults {T E : Type 0} (before now : ℕ) (result : Result T E) : Type 0 where
   pub kept : before ≤ now
   pub rose : OnErr result (Rose before now)
+  pub still : OnOk result (now ≡ before)

@@ -14,7 +14,7 @@ pub trait Source {
     /// The bytes that are left to be read, or None where the source does not tell them.
     ghost left: { Self → Option (List ℕ) };
 
-    /// The number of faults so far.
+    /// The number of faults so far. A call that does not fail leaves it.
     ghost faults: { Self → ℕ };
 
     /// Moves the first bytes that are left into the front of `buf`, and answers how many. 0 for a
@@ -30,7 +30,7 @@ pub trait Sink {
     /// The bytes that were taken, or None where the sink does not tell them.
     ghost taken: { Self → Option (List ℕ) };
 
-    /// The number of faults so far.
+    /// The number of faults so far. A call that does not fail leaves it.
     ghost faults: { Self → ℕ };
 
     /// Takes a front of `bytes`, and answers its length: at least 1 for a piece that is not empty.

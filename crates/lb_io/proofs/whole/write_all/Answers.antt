@@ -1,4 +1,4 @@
-use Rattle.std.proofs.Common.{arith, length-drop}
+use Rattle.std.proofs.Common.{arith, length-drop, ◌∙◌}
 use Rattle.std.proofs.lemmas.List.{take_rest}
 use Rattle.std.proofs.lemmas.Result.{err_from_is_err_and}
 use Rattle.lb_io.proofs.OneAfterAnother.{appends_kept, appends_next}
@@ -14,5 +14,5 @@ loop-done-preserved g c =
     let most = rw take_rest at c.in_ok-done.ensures.bound.most in record {
       within = omega (arith, most, length-drop c.loop-done.done c.args.bytes.now);
       wrote = appends_next _ _ _ c.args.bytes.now c.loop-done.done c.in_ok-done.field-0 c.loop-done.invariant.wrote (rw take_rest at c.in_ok-done.ensures.bytes);
-      counts = omega (arith, c.in_ok-done.ensures.cause.kept);
+      counts = c.in_ok-done.ensures.cause.still ∙ c.loop-done.invariant.counts;
     }
