@@ -6,7 +6,7 @@ use Rattle.std.specs.List.{range_with_len}
 use Rattle.std.proofs.lemmas.Bool.{cases_eq}
 use Rattle.std.proofs.lemmas.List.Elements.{filter_passes, filter-append, All-filter, All-from_get_or, Contains-append_left, Contains-push}
 use Rattle.std.proofs.lemmas.List.FromFn.{length-range_with_len, get_or-range_with_len}
-use Rattle.lb_base.proofs.Members.{range_more}
+use Rattle.lb_base.proofs.Ranges.{range_more}
 
 -- the places below n that pass
 abbrev pub places : (ℕ → Bool) → ℕ → List ℕ

@@ -3,6 +3,7 @@
 use Rattle.std.specs.Prelude.{◌≡◌, ℕ, ◌<◌, ◌≤◌, ◌↔◌, true, false, IsTrue, List, ◌++◌, length, map, All, Contains, IsPermutation}
 use Rattle.lb_base.specs.declared.view.TaskView.{TaskView}
 use Rattle.lb_base.specs.Mask.{has}
+use Rattle.lb_detach.specs.declared.examination.TheConstants.{EXAMINED_AT_MOST}
 use Rattle.lb_detach.specs.declared.Env.{Env}
 use Rattle.lb_detach.specs.Rules.{fails_mask}
 use Rattle.lb_detach.specs.Picks.{task_at, taken, refused_at, ends, examined, picked_ids, kept_ids, some_pinned, all_pinned}
@@ -12,13 +13,13 @@ abbrev pub picked_places : Env → List TaskView → List ℕ
 picked_places env list = taken env list (examined env list)
 
 -- each picked task may run at the destination, was not running, was examined and is taken by the rule,
--- and there are at most 32 of them
+-- and there are no more of them than one pull examines
 pub record IsSound (env : Env) (list : List TaskView) : Type 0 where
   pub permitted : All (λ i. has (task_at list i).mask env.to ≡ true) (picked_places env list)
   pub not_running : All (λ i. (task_at list i).running ≡ false) (picked_places env list)
   pub by_rule : All (λ i. refused_at env list i ≡ false) (picked_places env list)
   pub inside : All (λ i. i < examined env list) (picked_places env list)
-  pub few : length (picked_ids env list) ≤ 32
+  pub few : length (picked_ids env list) ≤ EXAMINED_AT_MOST
 
 -- each examined task that the rule takes is picked, and the examination ends at the least place at
 -- which it may

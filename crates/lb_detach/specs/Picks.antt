@@ -4,6 +4,7 @@
 use Rattle.std.specs.Prelude.{ℕ, zero, suc, ◌-◌, ◌==◌, nat_lt, nat_le, Bool, false, not, ◌&&◌, ◌||◌, if◌then◌else◌, List, ◌++◌, length, take, map, filter, reverse}
 use Rattle.std.specs.List.{range_with_len, slice_index_or, position_or_len}
 use Rattle.lb_base.specs.declared.view.TaskView.{TaskView}
+use Rattle.lb_detach.specs.declared.examination.TheConstants.{EXAMINED_AT_MOST}
 use Rattle.lb_detach.specs.declared.Env.{Env}
 use Rattle.lb_detach.specs.Rules.{fails_mask, amount_of, refuses}
 
@@ -39,14 +40,14 @@ unfoldable pub free : Env → List TaskView → ℕ → List ℕ
 free env list n = filter (λ i. not (fails_mask env (task_at list i))) (range_with_len 0 n)
 
 -- the examination ends before the i-th task: nothing is left to move, or the source would have nobody
--- left for an idle destination, or a newly-idle turn has its task, or 32 were examined of which one
+-- left for an idle destination, or a newly-idle turn has its task, or enough were examined of which one
 -- may run at the destination
 unfoldable pub ends : Env → List TaskView → ℕ → Bool
 ends env list i =
     left_before env list i == 0
     || (env.idle && nat_le (length list - length (taken env list i)) 1)
     || (env.newly && nat_lt 0 (length (taken env list i)))
-    || (nat_le 32 i && nat_lt 0 (length (free env list i)))
+    || (nat_le EXAMINED_AT_MOST i && nat_lt 0 (length (free env list i)))
 
 -- how many tasks are examined: the first place at which the examination ends, or all
 unfoldable pub examined : Env → List TaskView → ℕ

@@ -7,8 +7,9 @@ use crate::picked::Picked;
 use crate::refusal::{amount, is_refused, may_run};
 use lb_base::TaskView;
 
-// After so many tasks the examination goes on only while none of them may run at the destination.
-const EXAMINED_AT_MOST: usize = 32;
+/// After so many tasks the examination goes on only while none of them may run at the destination. So
+/// no more leave by one pull.
+pub const EXAMINED_AT_MOST: usize = 32;
 
 // How far an examination has come.
 #[derive(Clone, Copy, Drop)]
@@ -24,7 +25,7 @@ struct Progress {
 // The examination ends here, where so many tasks were taken of so many that were awake.
 fn is_over(env: &Env, at: &Progress, taken: usize, awake: usize) -> bool
     requires { taken ≤ awake }
-    ensures { result ≡ (at.now.left == 0 || (env.now.idle && nat_le (awake - taken) 1) || (env.now.newly && nat_lt 0 taken) || (nat_le 32 at.now.examined && nat_lt 0 at.now.free)) }
+    ensures { result ≡ (at.now.left == 0 || (env.now.idle && nat_le (awake - taken) 1) || (env.now.newly && nat_lt 0 taken) || (nat_le EXAMINED_AT_MOST at.now.examined && nat_lt 0 at.now.free)) }
 {
     at.left == 0
         || (env.idle && awake - taken <= 1)

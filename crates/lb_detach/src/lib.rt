@@ -7,7 +7,7 @@ pub mod laws;
 mod picked;
 mod refusal;
 
-pub use examination::picks;
+pub use examination::{EXAMINED_AT_MOST, picks};
 use lb_base::MoveKind;
 pub use picked::Picked;
 

@@ -4,6 +4,7 @@
 use Rattle.std.specs.Prelude.{ℕ, ◌+◌, ◌-◌, ◌*◌, ◌^◌, min, max, nat_lt, nat_le, Bool, false, ◌||◌, if◌then◌else◌, Option, Some, None}
 use Rattle.lb_base.specs.declared.shape.Kind.{Kind}
 use Rattle.lb_base.specs.declared.shape.Kind.TheVariants.{Idle}
+use Rattle.lb_interval.specs.declared.TheConstants.{BUSY_FACTOR, WAIT_PER_CPU, PINNED_BELOW}
 use Rattle.lb_interval.specs.declared.Counters.{Counters}
 use Rattle.lb_interval.specs.declared.Outcome.{Outcome}
 use Rattle.lb_interval.specs.declared.Outcome.TheVariants.{NotMine, Balanced, Moved, Pinned, Failed, Asking}
@@ -14,7 +15,7 @@ fresh_counters weight now = record { last = now; interval = weight; failures = 0
 
 -- how long a position waits; `busy` says that somebody is awake on the CPU
 abbrev pub wait_of : ℕ → Bool → ℕ → ℕ
-wait_of interval busy cpus = min (max (if busy then interval * 16 - 1 else interval) 1) (100 * cpus)
+wait_of interval busy cpus = min (max (if busy then interval * BUSY_FACTOR - 1 else interval) 1) (WAIT_PER_CPU * cpus)
 
 -- whether a position is due
 abbrev pub is_due : Counters → Bool → ℕ → ℕ → Bool
@@ -43,7 +44,7 @@ abbrev pub interval_after : Outcome → ℕ → ℕ → ℕ
 interval_after NotMine interval weight = interval
 interval_after Balanced interval weight = if nat_lt interval (2 * weight) then 2 * interval else interval
 interval_after (Moved n) interval weight = weight
-interval_after Pinned interval weight = if nat_lt interval (2 * weight) || nat_lt interval 512 then 2 * interval else interval
+interval_after Pinned interval weight = if nat_lt interval (2 * weight) || nat_lt interval PINNED_BELOW then 2 * interval else interval
 interval_after Failed interval weight = weight
 interval_after Asking interval weight = weight
 

@@ -7,6 +7,15 @@ ghost use Rattle.lb_interval.specs.After.{fresh_counters, is_due, failures_after
 
 use lb_base::Kind;
 
+/// A busy CPU waits so many intervals, less a millisecond.
+pub const BUSY_FACTOR: u128 = 16;
+
+/// No position waits longer than so many milliseconds for each CPU of the machine.
+pub const WAIT_PER_CPU: u128 = 100;
+
+/// An interval below so many milliseconds is doubled where affinity hinders.
+pub const PINNED_BELOW: u64 = 512;
+
 /// The balance counters of a position (docs/rules/counters.md).
 #[derive(Clone, Copy, Debug, PartialEq, Eq)]
 pub struct Counters {
@@ -58,11 +67,11 @@ pub fn due(c: &Counters, busy: bool, cpus: u32, now_ms: u64) -> bool
 {
     let plain = u128::from(c.interval);
     let stretched = if busy {
-        (plain * 16).saturating_sub(1)
+        (plain * BUSY_FACTOR).saturating_sub(1)
     } else {
         plain
     };
-    let wait = stretched.max(1).min(100 * u128::from(cpus));
+    let wait = stretched.max(1).min(WAIT_PER_CPU * u128::from(cpus));
     u128::from(c.last) + wait <= u128::from(now_ms)
 }
 
@@ -136,7 +145,7 @@ fn interval(outcome: Outcome, interval: u64, weight: u32) -> u64
             }
         }
         Outcome::Pinned => {
-            if interval < 2 * weight || interval < 512 {
+            if interval < 2 * weight || interval < PINNED_BELOW {
                 2 * interval
             } else {
                 interval
