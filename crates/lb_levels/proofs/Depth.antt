@@ -9,15 +9,16 @@ use Rattle.std.proofs.lemmas.List.Folds.{list_any_at, Any-from_list_any}
 use Rattle.std.proofs.lemmas.List.Sums.{length-filter, count_by-le-length}
 use Rattle.std.proofs.lemmas.List.FromFn.{length-range_with_len}
 use Rattle.std.proofs.lemmas.List.{get_or_default, length-map}
-use Rattle.lb_base.proofs.Ranges.{all_at, all_of}
+use Rattle.lb_base.proofs.Ranges.{all_at, all_of, nothing_found, find-filter, one_passes}
 use Rattle.lb_base.specs.declared.shape.LevelName.TheVariants.{Numa}
 use Rattle.lb_levels.specs.declared.cpu_row.CpuRow.{CpuRow}
-use Rattle.lb_levels.specs.Rows.{distances_at, distance, own_distance, is_entry, distances_of, is_within, is_inside, is_apart, are_nested, is_nested_at, first_not_nested, is_bad_entry, is_bad_distance, IsSquare}
+use Rattle.lb_levels.specs.declared.limits.TheConstants.{MAX_LEVELS}
+use Rattle.lb_levels.specs.Rows.{nodes_in_range, distances_at, distance, own_distance, is_entry, distances_of, is_within, is_inside, is_apart, are_nested, is_nested_at, first_not_nested, is_bad_entry, is_bad_distance, IsSquare}
 use Rattle.lb_levels.specs.Faults.{nodes_of, first_bad_row, fault_of}
 use Rattle.lb_levels.specs.Spans.{is_far, levels_of}
-use Rattle.lb_levels.proofs.Finding.{nothing_found, find-filter, one_passes}
 use Rattle.lb_levels.proofs.Tables.{bad_row_is}
-use Rattle.lb_levels.proofs.FaultOrder.{good, some_nodes, fits_length, fits_square}
+use Rattle.lb_levels.proofs.FaultOrder.{good, fits_length, fits_square}
+use Rattle.lb_levels.proofs.Nodes.{some_nodes, few_nodes}
 
 -- what the distances of a machine keep
 pub record IsMetric (table : List (List ℕ)) : Type 0 where
@@ -96,16 +97,16 @@ pair_nested table d a b nested in_a in_b =
 reached : (table : List (List ℕ)) (d a b c : ℕ) → are_nested table d a b ≡ true → b < length table → c < length table → distance table a b ≤ d → distance table b b ≤ d → distance table b c ≤ d → distance table a c ≤ d
 unfolding is_inside is_apart
 reached table d a b c nested in_b in_c ab bb bc =
-    elim (or_cases _ _ nested) [
+    elim (or_cases (is_inside table d a b && is_inside table d b a) (is_apart table d a b) nested) [
       | inl same ↦
-          let inside = all_at (λ k. not (is_within table d b k) || is_within table d a k) 0 (length table) (and_parts _ _ same).1 c (omega arith) (omega (arith, in_c)) in
-          elim (or_cases _ _ inside) [
-            | inl out ↦ absurd (both_ways _ (not-true _ out) (le-leb _ _ bc))
+          let inside = all_at (λ k. not (is_within table d b k) || is_within table d a k) 0 (length table) (and_parts (is_inside table d a b) (is_inside table d b a) same).1 c (omega arith) (omega (arith, in_c)) in
+          elim (or_cases (not (is_within table d b c)) (is_within table d a c) inside) [
+            | inl out ↦ absurd (both_ways (is_within table d b c) (not-true _ out) (le-leb _ _ bc))
             | inr within ↦ leb-true _ _ within
           ]
       | inr apart ↦
           let out = all_at (λ k. not (is_within table d a k && is_within table d b k)) 0 (length table) apart b (omega arith) (omega (arith, in_b)) in
-          elim (and_cases _ _ (not-true _ out)) [
+          elim (and_cases (is_within table d a b) (is_within table d b b) (not-true _ out)) [
             | inl not_a ↦ absurd (both_ways _ not_a (le-leb _ _ ab))
             | inr not_b ↦ absurd (both_ways _ not_b (le-leb _ _ bb))
           ]
@@ -312,3 +313,7 @@ pub few_levels : (cpus : List CpuRow) (table : List (List ℕ)) → 0 < length c
 unfolding levels_of
 few_levels cpus table some fine =
     omega (arith, few_far cpus table some fine, length-map (filter (is_far table) (range_with_len 0 256)) (λ d. Numa d))
+
+pub most_levels : (cpus : List CpuRow) (table : List (List ℕ)) → 0 < length cpus → fault_of cpus table ≡ None → nodes_in_range cpus ≡ true → length (levels_of table) ≤ MAX_LEVELS
+most_levels cpus table some fine nodes =
+    omega (arith, few_levels cpus table some fine, few_nodes cpus nodes, fits_length (nodes_of cpus) table (some_nodes cpus some) (good cpus table fine).fits)

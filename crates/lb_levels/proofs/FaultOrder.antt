@@ -1,14 +1,14 @@
 -- The faults in their order, and what a machine without a fault has.
-use Rattle.std.proofs.Common.{◌≡◌, ℕ, zero, suc, ◌<◌, ◌≤◌, max, ltb, true, not, List, [], ◌∷◌, length, take, Option, Some, None, refl, sym, ◌∙◌, ap, arith, inl, inr}
-use Rattle.std.specs.Prelude.{is_none}
+use Rattle.std.proofs.Common.{◌≡◌, ℕ, ◌<◌, ◌≤◌, max, List, [], length, Option, Some, None, refl, sym, ◌∙◌, ap, arith, inl, inr}
 use Rattle.std.specs.Option.{option_map}
-use Rattle.std.proofs.lemmas.Bool.{cases_lt, and_parts, ltb-true, or_parts, or_from, not-false, eqb-true, eq-eqb, lt-leb, both_ways}
+use Rattle.std.proofs.lemmas.Bool.{cases_lt, or_parts, not-false, eqb-true, both_ways}
 use Rattle.std.proofs.lemmas.List.{get_or_past}
 use Rattle.lb_levels.specs.declared.cpu_row.CpuRow.{CpuRow}
 use Rattle.lb_levels.specs.declared.faults.MachineError.TheVariants.{BadCpu, BadDistance, NotNested}
-use Rattle.lb_levels.specs.Rows.{nodes_in_range, row_at, distances_at, cpu_clashes, is_bad_distance, first_not_nested, IsSquare, AllHaveNodes}
-use Rattle.lb_levels.specs.Faults.{or_else, nodes_of, first_clash, is_misfit, first_misfit, first_bad_row, fault_of, IsMachine}
-use Rattle.lb_levels.proofs.Finding.{nothing_found, not_found}
+use Rattle.lb_levels.specs.Rows.{distances_at, first_not_nested, IsSquare, AllHaveNodes}
+use Rattle.lb_levels.specs.Faults.{or_else, nodes_of, first_clash, is_misfit, first_misfit, first_bad_row, fault_of}
+use Rattle.lb_base.proofs.Ranges.{nothing_found}
+use Rattle.lb_levels.proofs.Nodes.{some_nodes, node_below}
 use Rattle.lb_levels.proofs.Tables.{past_is_misfit}
 
 pub clash_first : (cpus : List CpuRow) (table : List (List ℕ)) (cpu : ℕ) → first_clash cpus ≡ Some cpu → Some (BadCpu cpu) ≡ fault_of cpus table
@@ -55,21 +55,6 @@ good cpus table e =
       nested = unmapped (λ d. NotNested d) _ third.1;
     }
 
-pub some_nodes : (cpus : List CpuRow) → 0 < length cpus → 0 < nodes_of cpus
-some_nodes [] some = absurd (omega (arith, some))
-some_nodes (row ∷ rows) some = omega arith
-
-pub few_nodes : (cpus : List CpuRow) → nodes_in_range cpus ≡ true → nodes_of cpus ≤ 16
-few_nodes [] each = omega arith
-few_nodes (row ∷ rows) each =
-    let parts = and_parts (ltb row.node 16) (nodes_in_range rows) each in
-    omega (arith, ltb-true row.node 16 parts.0, few_nodes rows parts.1)
-
-node_below : (cpus : List CpuRow) (cpu : ℕ) → cpu < length cpus → (row_at cpus cpu).node < nodes_of cpus
-node_below [] cpu lt = absurd (omega (arith, lt))
-node_below (row ∷ rows) zero lt = omega arith
-node_below (row ∷ rows) (suc cpu) lt = omega (arith, node_below rows cpu (omega (arith, lt)))
-
 -- a table that fits has a row for each node, and an entry for each in each
 fits_row : (nodes : ℕ) (table : List (List ℕ)) → first_misfit nodes table ≡ None → (a : ℕ) → a < nodes → length (distances_at table a) ≡ nodes
 unfolding first_misfit
@@ -99,37 +84,3 @@ fits_square nodes table some fits a lt =
 pub fits_nodes : (cpus : List CpuRow) (table : List (List ℕ)) → 0 < length cpus → first_misfit (nodes_of cpus) table ≡ None → AllHaveNodes cpus table
 fits_nodes cpus table some fits cpu lt =
     omega (arith, node_below cpus cpu lt, fits_length (nodes_of cpus) table (some_nodes cpus some) fits)
-
--- no fault is to be a machine
-pub no_fault_to : (cpus : List CpuRow) (table : List (List ℕ)) → 0 < length cpus → fault_of cpus table ≡ None → IsMachine cpus table
-unfolding first_clash first_bad_row
-no_fault_to cpus table some fine =
-    let none = good cpus table fine in
-    let nodes = some_nodes cpus some in
-    record {
-      cpus_stand = nothing_found (λ k. cpu_clashes (take k cpus) (row_at cpus k)) (length cpus) none.no_clash;
-      rows = fits_length (nodes_of cpus) table nodes none.fits;
-      square = fits_square (nodes_of cpus) table nodes none.fits;
-      rows_stand = nothing_found (λ a. is_bad_distance (take a table) (distances_at table a)) (length table) none.good_rows;
-      nested = ap is_none none.nested;
-    }
-
-none_from_is_none : {X : Type 0} (o : Option X) → is_none o ≡ true → o ≡ None
-none_from_is_none None e = refl
-none_from_is_none (Some x) e = absurd (cc)
-
-square_fits : (nodes : ℕ) (table : List (List ℕ)) → length table ≡ nodes → IsSquare table → first_misfit nodes table ≡ None
-unfolding first_misfit
-square_fits nodes table rows square =
-    sym (not_found (is_misfit nodes table) (max nodes (length table)) (λ a lt.
-    let within : a < length table = omega (arith, lt, rows) in
-    or_from _ _ (lt-leb nodes a (omega (arith, within, rows))) (ap not (eq-eqb _ _ (square a within ∙ rows)))))
-
-pub no_fault_from : (cpus : List CpuRow) (table : List (List ℕ)) → 0 < length cpus → IsMachine cpus table → fault_of cpus table ≡ None
-unfolding first_clash first_bad_row
-no_fault_from cpus table some m =
-    sym (not_nested_first cpus table None
-    (sym (not_found (λ k. cpu_clashes (take k cpus) (row_at cpus k)) (length cpus) m.cpus_stand))
-    (square_fits (nodes_of cpus) table m.rows m.square)
-    (sym (not_found (λ a. is_bad_distance (take a table) (distances_at table a)) (length table) m.rows_stand))
-    (none_from_is_none _ m.nested))

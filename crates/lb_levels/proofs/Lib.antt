@@ -1,8 +1,8 @@
-pub mod Finding
+pub mod Nodes
 pub mod Tables
-pub mod MaskTests
 pub mod FaultOrder
 pub mod SpanTables
 pub mod Overlaps
+pub mod NoFault
 pub mod Depth
 pub mod Together

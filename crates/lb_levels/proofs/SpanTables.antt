@@ -1,46 +1,15 @@
 -- The tables of levels and spans: one more step of making them, and what stands at a place.
-use Rattle.std.proofs.Common.{◌≡◌, ℕ, ◌+◌, ◌<◌, eqb, ltb, Bool, true, false, ◌&&◌, ◌||◌, List, [], ◌∷◌, ◌++◌, length, map, Some, refl, sym, ◌∙◌, ap, arith, inl, inr}
-use Rattle.std.specs.Prelude.{filter}
+use Rattle.std.proofs.Common.{◌≡◌, ℕ, ◌<◌, List, [], length, Some, sym, ◌∙◌, ap, arith}
 use Rattle.std.specs.List.{range_with_len, slice_get}
-use Rattle.std.proofs.lemmas.Bool.{cases_order, lt-ltb, le-ltb, eq-eqb, ne_eqb}
-use Rattle.std.proofs.lemmas.List.{append-nil, length-map, map_push, get_or-map}
-use Rattle.std.proofs.lemmas.List.Elements.{filter-append}
+use Rattle.std.proofs.lemmas.List.{length-map, get_or-map}
 use Rattle.std.proofs.lemmas.List.FromFn.{length-range_with_len, get_or-map-range_with_len}
 use Rattle.std.proofs.lemmas.Option.{get_or_from_slice_get}
 use Rattle.lb_base.specs.declared.mask.Mask.{Mask}
 use Rattle.lb_base.specs.declared.shape.LevelName.{LevelName}
 use Rattle.lb_base.specs.declared.shape.LevelName.TheVariants.{Smt}
 use Rattle.lb_base.specs.Mask.{no_cpus}
-use Rattle.lb_base.proofs.Members.{range_more}
 use Rattle.lb_levels.specs.declared.cpu_row.CpuRow.{CpuRow}
 use Rattle.lb_levels.specs.Spans.{levels_of, level_at, span_of, spans_at, spans_of}
-
--- a test of the numbers below k, and one more number
-pub one_joins : (s : ℕ → Bool) (k i : ℕ) → ((ltb i k && s i) || (eqb i k && s k)) ≡ (ltb i (k + 1) && s i)
-one_joins s k i =
-    elim (cases_order i k) [
-      | inl same ↦ rw (le-ltb i k (omega (arith, same)), eq-eqb i k same, lt-ltb i (k + 1) (omega (arith, same)), ap s same) refl
-      | inr other ↦ elim other [
-        | inl below ↦ rw (lt-ltb i k below, ne_eqb i k (λ e. omega (arith, e, below)), lt-ltb i (k + 1) (omega (arith, below))) (or_false (s i))
-        | inr above ↦ rw (le-ltb i k (omega (arith, above)), ne_eqb i k (λ e. omega (arith, e, above)), le-ltb i (k + 1) (omega (arith, above))) refl
-      ]
-    ]
-  where
-    or_false : (b : Bool) → (b || false) ≡ b
-    or_false true = refl
-    or_false false = refl
-
-upto : (n : ℕ) → range_with_len 0 (n + 1) ≡ range_with_len 0 n ++ n ∷ []
-upto n = range_more 0 n ∙ ap (λ (x : ℕ). range_with_len 0 n ++ x ∷ []) (let z : 0 + n ≡ n = omega arith in z)
-
-pub filter_more : (p : ℕ → Bool) (n : ℕ) → p n ≡ true → filter p (range_with_len 0 (n + 1)) ≡ filter p (range_with_len 0 n) ++ n ∷ []
-filter_more p n passes = ap (filter p) (upto n) ∙ filter-append p (range_with_len 0 n) (n ∷ []) ∙ rw passes refl
-
-pub filter_same : (p : ℕ → Bool) (n : ℕ) → p n ≡ false → filter p (range_with_len 0 (n + 1)) ≡ filter p (range_with_len 0 n)
-filter_same p n fails = ap (filter p) (upto n) ∙ filter-append p (range_with_len 0 n) (n ∷ []) ∙ rw fails (append-nil (filter p (range_with_len 0 n)))
-
-pub map_range_more : {X : Type 0} (f : ℕ → X) (n : ℕ) → map f (range_with_len 0 (n + 1)) ≡ map f (range_with_len 0 n) ++ f n ∷ []
-map_range_more f n = ap (map f) (upto n) ∙ map_push f (range_with_len 0 n) n
 
 pub length-spans_of : (cpus : List CpuRow) (table : List (List ℕ)) → length (spans_of cpus table) ≡ length (levels_of table)
 unfolding spans_of

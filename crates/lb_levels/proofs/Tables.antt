@@ -1,16 +1,10 @@
--- Tables of distances row by row: a row within the whole table, and the nodes that a list of CPUs
--- names.
-use Rattle.std.proofs.Common.{◌≡◌, ℕ, ◌+◌, ◌<◌, max, Bool, true, List, [], ◌∷◌, ◌++◌, length, take, refl, sym, arith, inl, inr}
+-- Tables of distances row by row: a row within the whole table.
+use Rattle.std.proofs.Common.{◌≡◌, ℕ, ◌+◌, ◌<◌, Bool, true, List, [], ◌∷◌, length, take, refl, sym, arith, inl, inr}
 use Rattle.std.specs.List.{range_with_len, list_any}
 use Rattle.std.proofs.lemmas.Bool.{cases_lt, le-ltb, le-leb}
 use Rattle.std.proofs.lemmas.List.{get_or-take, take_more, length-take-le}
-use Rattle.lb_levels.specs.declared.cpu_row.CpuRow.{CpuRow}
 use Rattle.lb_levels.specs.Rows.{distances_at, is_bad_entry, is_bad_distance, IsSquare}
-use Rattle.lb_levels.specs.Faults.{nodes_of, is_misfit}
-
-pub nodes_of-push : (rows : List CpuRow) (row : CpuRow) → nodes_of (rows ++ row ∷ []) ≡ max (nodes_of rows) (row.node + 1)
-nodes_of-push [] row = omega arith
-nodes_of-push (first ∷ rows) row = omega (arith, nodes_of-push rows row)
+use Rattle.lb_levels.specs.Faults.{is_misfit}
 
 pub same_any : (p q : ℕ → Bool) (xs : List ℕ) → ((k : ℕ) → p k ≡ q k) → list_any p xs ≡ list_any q xs
 same_any p q [] same = refl

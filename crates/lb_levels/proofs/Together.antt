@@ -12,12 +12,12 @@ use Rattle.lb_base.specs.declared.shape.LevelName.{LevelName}
 use Rattle.lb_base.specs.declared.shape.LevelName.TheVariants.{Smt, Mc, Pkg, Numa}
 use Rattle.lb_base.specs.Mask.{has, IsSubset}
 use Rattle.lb_base.proofs.Members.{same_mask}
-use Rattle.lb_base.proofs.Where.{mask_where_has}
+use Rattle.lb_base.proofs.Sets.{mask_where_has}
 use Rattle.lb_levels.specs.declared.cpu_row.CpuRow.{CpuRow}
 use Rattle.lb_levels.specs.Rows.{row_at, no_row, clashes, cpu_clashes, distance, own_distance}
 use Rattle.lb_levels.specs.Faults.{first_clash, fault_of}
 use Rattle.lb_levels.specs.Spans.{is_far, levels_of, level_at, shares, span_of}
-use Rattle.lb_levels.proofs.Finding.{nothing_found}
+use Rattle.lb_base.proofs.Ranges.{nothing_found}
 use Rattle.lb_levels.proofs.FaultOrder.{good, fits_nodes}
 use Rattle.lb_levels.proofs.Depth.{IsMetric, metric}
 

@@ -1,9 +1,10 @@
 -- What keeps the rows of CPUs and the table of distances from being a machine, and what keeps masks
 -- from parting its CPUs: the first fault that there is, and where it is.
-use Rattle.std.specs.Prelude.{◌≡◌, ℕ, ◌+◌, ◌<◌, ◌==◌, nat_le, max, Bool, true, false, not, ◌||◌, Option, Some, None, is_some, option_and_then, List, [], ◌∷◌, length, take, find}
+use Rattle.std.specs.Prelude.{◌≡◌, ℕ, ◌+◌, ◌<◌, ◌≤◌, ◌==◌, nat_le, max, Bool, true, false, not, ◌||◌, Option, Some, None, is_some, option_and_then, List, [], ◌∷◌, length, take, find}
 use Rattle.std.specs.List.{range_with_len, slice_index_or, list_all}
 use Rattle.std.specs.Option.{option_map}
 use Rattle.lb_base.specs.declared.mask.Mask.{Mask}
+use Rattle.lb_base.specs.declared.mask.TheConstants.{MAX_CPUS}
 use Rattle.lb_base.specs.Mask.{no_cpus}
 use Rattle.lb_base.specs.Sets.{is_below, are_apart, are_disjoint}
 use Rattle.lb_levels.specs.declared.cpu_row.CpuRow.{CpuRow}
@@ -77,6 +78,12 @@ pub record IsMachine (cpus : List CpuRow) (table : List (List ℕ)) : Type 0 whe
   pub square : IsSquare table
   pub rows_stand : (a : ℕ) → a < length table → is_bad_distance (take a table) (distances_at table a) ≡ false
   pub nested : is_nested table ≡ true
+
+-- a machine can be read of the rows and the table: there is a CPU and not too many, and no fault
+pub record CanBeRead (cpus : List CpuRow) (table : List (List ℕ)) : Type 0 where
+  pub some : 0 < length cpus
+  pub few : length cpus ≤ MAX_CPUS
+  pub good : fault_of cpus table ≡ None
 
 -- the masks part a machine's CPUs: each has CPUs of the machine alone, and no two share one
 pub record ArePartition (cpus : ℕ) (parts : List Mask) : Type 0 where

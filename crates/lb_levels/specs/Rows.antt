@@ -1,9 +1,10 @@
 -- When the rows of CPUs and the table of distances describe a machine: which CPU cannot stand
 -- beside those before it, which row of distances cannot stand below those before it, and at which
 -- distance the nodes are not nested.
-use Rattle.std.specs.Prelude.{◌≡◌, ℕ, ◌<◌, ◌==◌, nat_lt, nat_le, Bool, not, ◌&&◌, ◌||◌, Option, is_none, List, [], ◌∷◌, ◌++◌, length, filter, find}
+use Rattle.std.specs.Prelude.{◌≡◌, ℕ, ◌+◌, ◌<◌, ◌==◌, nat_lt, nat_le, Bool, not, ◌&&◌, ◌||◌, Option, is_none, List, [], ◌∷◌, ◌++◌, length, filter, find}
 use Rattle.std.specs.List.{range_with_len, slice_index_or, list_any, list_all}
 use Rattle.lb_levels.specs.declared.cpu_row.CpuRow.{CpuRow}
+use Rattle.lb_levels.specs.declared.limits.TheConstants.{MAX_NODES, MAX_DISTANCE}
 
 -- the rows of a machine's CPUs, and the distances between its nodes
 pub record Layout : Type 0 where
@@ -13,13 +14,13 @@ pub record Layout : Type 0 where
 abbrev pub layout_of : List CpuRow → List (List ℕ) → Layout
 layout_of cpus distances = record { cpus = cpus; distances = distances }
 
--- nodes are numbered below 16
+-- nodes are numbered below so many as there can be
 abbrev pub nodes_in_range : List CpuRow → Bool
-nodes_in_range cpus = list_all (λ row. nat_lt row.node 16) cpus
+nodes_in_range cpus = list_all (λ row. nat_lt row.node MAX_NODES) cpus
 
--- distances are below 256
+-- no distance is above the greatest that there can be
 abbrev pub distances_in_range : List (List ℕ) → Bool
-distances_in_range table = list_all (λ row. list_all (λ d. nat_lt d 256) row) table
+distances_in_range table = list_all (λ row. list_all (λ d. nat_lt d (MAX_DISTANCE + 1)) row) table
 
 -- stands where a CPU has no row
 abbrev pub no_row : CpuRow
@@ -69,9 +70,9 @@ is_bad_distance earlier row =
 abbrev pub is_entry : List (List ℕ) → ℕ → Bool
 is_entry table d = list_any (λ row. list_any (λ e. e == d) row) table
 
--- the distances of the table, rising; they are below 256
+-- the distances of the table, rising
 unfoldable pub distances_of : List (List ℕ) → List ℕ
-distances_of table = filter (is_entry table) (range_with_len 0 256)
+distances_of table = filter (is_entry table) (range_with_len 0 (MAX_DISTANCE + 1))
 
 -- node b is within distance d of node a
 abbrev pub is_within : List (List ℕ) → ℕ → ℕ → ℕ → Bool

@@ -4,6 +4,7 @@
 mod cpu_row;
 mod faults;
 pub mod laws;
+mod limits;
 mod machine;
 mod parts;
 mod rows;
@@ -13,5 +14,6 @@ mod tests;
 
 pub use cpu_row::CpuRow;
 pub use faults::{MachineError, PartsFault};
+pub use limits::{MAX_DISTANCE, MAX_LEVELS, MAX_NODES};
 pub use machine::Machine;
 pub use parts::parts_fault;

@@ -5,9 +5,10 @@ ghost use Rattle.lb_levels.specs.Spans.{levels_of, level_at, span_of};
 
 use crate::cpu_row::CpuRow;
 use crate::faults::MachineError;
+use crate::limits::{MAX_LEVELS, MAX_NODES};
 use crate::rows::{first_bad_row, first_clash, first_misfit, first_not_nested, nodes_of};
 use crate::span::{levels_of, spans_of};
-use lb_base::{Items, LevelName, Mask, NoMemory};
+use lb_base::{Items, LevelName, MAX_CPUS, Mask, NoMemory};
 use std::alloc::Global;
 use std::marker::Model;
 
@@ -43,7 +44,7 @@ impl Machine {
         distances: &[Items<u32>],
     ) -> Result<Machine, MachineError>
         requires some { 0 < length cpus.now }
-        requires few { length cpus.now ≤ 64 }
+        requires few { length cpus.now ≤ MAX_CPUS }
         requires nodes { nodes_in_range cpus.now ≡ true }
         requires distances { distances_in_range distances.now ≡ true }
 
@@ -64,8 +65,8 @@ impl Machine {
         distances: &[Items<u32>],
     ) -> Result<Machine, NoMemory>
         requires some { 0 < length cpus.now }
-        requires few { length cpus.now ≤ 64 }
-        requires nodes { length distances.now ≤ 16 }
+        requires few { length cpus.now ≤ MAX_CPUS }
+        requires nodes { length distances.now ≤ MAX_NODES }
         requires good { fault_of cpus.now distances.now ≡ None }
         ensures { IfOk result (λ machine. machine ≡ layout_of cpus.now distances.now) }
     {
@@ -79,20 +80,20 @@ impl Machine {
         })
     }
 
-    /// How many CPUs there are, 1 to 64.
+    /// How many CPUs there are, 1 to `MAX_CPUS`.
     pub fn cpus(&self) -> u32
         ensures count { result ≡ length self.now.cpus }
         ensures some { 0 < length self.now.cpus }
-        ensures few { length self.now.cpus ≤ 64 }
+        ensures few { length self.now.cpus ≤ MAX_CPUS }
         ensures good { fault_of self.now.cpus self.now.distances ≡ None }
     {
         self.cpus.len() as u32
     }
 
-    /// How many levels there are, 3 to 18.
+    /// How many levels there are, 3 to `MAX_LEVELS`.
     pub fn levels(&self) -> u32
         ensures count { result ≡ length (levels_of self.now.distances) }
-        ensures few { length (levels_of self.now.distances) ≤ 18 }
+        ensures few { length (levels_of self.now.distances) ≤ MAX_LEVELS }
     {
         self.names.len() as u32
     }
@@ -118,7 +119,7 @@ impl Machine {
 // The first fault of the rows and the table.
 fn fault_of(cpus: &[CpuRow], distances: &[Items<u32>]) -> Option<MachineError>
     requires some { 0 < length cpus.now }
-    requires few { length cpus.now ≤ 64 }
+    requires few { length cpus.now ≤ MAX_CPUS }
     requires nodes { nodes_in_range cpus.now ≡ true }
     ensures { result ≡ fault_of cpus.now distances.now }
 {

@@ -5,7 +5,7 @@ ghost use Rattle.lb_levels.specs.Faults.{first_past, first_sharing, first_overla
 
 use crate::faults::PartsFault;
 use crate::machine::Machine;
-use lb_base::Mask;
+use lb_base::{MAX_CPUS, Mask};
 
 /// The first fault of a list of masks that are to part the machine's CPUs, or None where each of
 /// its masks has CPUs of the machine alone and no two share one (docs/rules/domains.md).
@@ -21,7 +21,7 @@ pub fn parts_fault(machine: &Machine, parts: &[Mask]) -> Option<PartsFault>
 
 // Whether a mask has a CPU past the machine.
 fn has_past(mask: Mask, cpus: u32) -> bool
-    requires { cpus ≤ 64 }
+    requires { cpus ≤ MAX_CPUS }
     ensures { result ≡ not (is_below mask cpus) }
 {
     mask.without(Mask::all(cpus)).first().is_some()
@@ -29,7 +29,7 @@ fn has_past(mask: Mask, cpus: u32) -> bool
 
 // The first mask that has a CPU past the machine.
 fn first_past(cpus: u32, parts: &[Mask]) -> Option<u32>
-    requires machine { cpus ≤ 64 }
+    requires machine { cpus ≤ MAX_CPUS }
     requires few { length parts.now < 2 ^ 32 }
     ensures { result ≡ first_past cpus parts.now }
 {

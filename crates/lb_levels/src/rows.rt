@@ -6,7 +6,8 @@ ghost use Rattle.lb_levels.specs.Rows.{nodes_in_range, clashes, cpu_clashes, dis
 ghost use Rattle.lb_levels.specs.Faults.{nodes_of, first_clash, is_misfit, first_misfit, first_bad_row};
 
 use crate::cpu_row::CpuRow;
-use lb_base::Items;
+use crate::limits::{MAX_DISTANCE, MAX_NODES};
+use lb_base::{Items, MAX_CPUS};
 
 fn clashes(a: CpuRow, b: CpuRow) -> bool
     ensures { result ≡ clashes a b }
@@ -24,7 +25,7 @@ fn cpu_clashes(earlier: &[CpuRow], row: CpuRow) -> bool
 
 // The first CPU that cannot stand beside those before it.
 pub(crate) fn first_clash(cpus: &[CpuRow]) -> Option<u32>
-    requires { length cpus.now ≤ 64 }
+    requires { length cpus.now ≤ MAX_CPUS }
     ensures { result ≡ first_clash cpus.now }
 {
     for cpu in 0..cpus.len() {
@@ -39,7 +40,7 @@ pub(crate) fn first_clash(cpus: &[CpuRow]) -> Option<u32>
 pub(crate) fn nodes_of(cpus: &[CpuRow]) -> u32
     requires { nodes_in_range cpus.now ≡ true }
     ensures count { result ≡ nodes_of cpus.now }
-    ensures few { result ≤ 16 }
+    ensures few { result ≤ MAX_NODES }
 {
     let mut nodes = 0;
     for row in cpus {
@@ -61,7 +62,7 @@ fn is_misfit(nodes: usize, distances: &[Items<u32>], a: usize) -> bool
 // The first row that is missing, too many or of the wrong size.
 pub(crate) fn first_misfit(nodes: u32, distances: &[Items<u32>]) -> Option<u32>
     requires some { 0 < nodes }
-    requires few { nodes ≤ 16 }
+    requires few { nodes ≤ MAX_NODES }
     ensures { result ≡ first_misfit nodes distances.now }
 {
     for a in 0..nodes {
@@ -120,7 +121,7 @@ fn is_bad_row(distances: &[Items<u32>], a: usize) -> bool
 // The first row that cannot stand below those before it.
 pub(crate) fn first_bad_row(distances: &[Items<u32>]) -> Option<u32>
     requires square { IsSquare distances.now }
-    requires few { length distances.now ≤ 16 }
+    requires few { length distances.now ≤ MAX_NODES }
     ensures { result ≡ first_bad_row distances.now }
 {
     for a in 0..distances.len() {
@@ -246,7 +247,7 @@ pub(crate) fn first_not_nested(distances: &[Items<u32>]) -> Option<u32>
     requires square { IsSquare distances.now }
     ensures { result ≡ first_not_nested distances.now }
 {
-    for d in 0..256 {
+    for d in 0..MAX_DISTANCE + 1 {
         if is_entry(distances, d) && !is_nested_at(distances, d) {
             return Some(d);
         }

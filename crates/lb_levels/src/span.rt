@@ -6,8 +6,9 @@ ghost use Rattle.lb_levels.specs.Rows.{AllHaveNodes, IsSquare};
 ghost use Rattle.lb_levels.specs.Spans.{is_far, levels_of, shares, span_of, spans_at};
 
 use crate::cpu_row::CpuRow;
+use crate::limits::MAX_DISTANCE;
 use crate::rows::{distance, is_entry};
-use lb_base::{Items, LevelName, Mask, NoMemory};
+use lb_base::{Items, LevelName, MAX_CPUS, Mask, NoMemory};
 use std::alloc::Global;
 
 // Whether some node is at distance `d` from another.
@@ -32,7 +33,7 @@ pub(crate) fn levels_of(
     names.push(LevelName::Smt)?;
     names.push(LevelName::Mc)?;
     names.push(LevelName::Pkg)?;
-    for d in 0..256 {
+    for d in 0..MAX_DISTANCE + 1 {
         if is_far(distances, d) {
             names.push(LevelName::Numa(d))?;
         }
@@ -57,7 +58,7 @@ fn shares(distances: &[Items<u32>], level: LevelName, a: CpuRow, b: CpuRow) -> b
 
 // The mask, with the CPU too if it joins.
 fn joined(span: Mask, cpu: u32, joins: bool) -> Mask
-    requires { cpu < 64 }
+    requires { cpu < MAX_CPUS }
     ensures { (k : ℕ) → has result k ≡ (has span k || (k == cpu && joins)) }
 {
     if joins { span.or(Mask::one(cpu)) } else { span }
@@ -67,7 +68,7 @@ fn joined(span: Mask, cpu: u32, joins: bool) -> Mask
 fn span_of(cpus: &[CpuRow], distances: &[Items<u32>], level: LevelName, cpu: usize) -> Mask
     requires square { IsSquare distances.now }
     requires nodes { AllHaveNodes cpus.now distances.now }
-    requires few { length cpus.now ≤ 64 }
+    requires few { length cpus.now ≤ MAX_CPUS }
     requires in_range { cpu < length cpus.now }
     ensures { result ≡ span_of cpus.now distances.now level cpu }
 {
@@ -88,7 +89,7 @@ fn spans_at(
 ) -> Result<Items<Mask>, NoMemory>
     requires square { IsSquare distances.now }
     requires nodes { AllHaveNodes cpus.now distances.now }
-    requires few { length cpus.now ≤ 64 }
+    requires few { length cpus.now ≤ MAX_CPUS }
     ensures { IfOk result (λ spans. spans ≡ spans_at cpus.now distances.now level) }
 {
     let mut spans = Items::new(alloc);
@@ -107,7 +108,7 @@ pub(crate) fn spans_of(
 ) -> Result<Items<Items<Mask>>, NoMemory>
     requires square { IsSquare distances.now }
     requires nodes { AllHaveNodes cpus.now distances.now }
-    requires few { length cpus.now ≤ 64 }
+    requires few { length cpus.now ≤ MAX_CPUS }
     ensures { IfOk result (λ spans. spans ≡ map (spans_at cpus.now distances.now) levels.now) }
 {
     let mut spans = Items::new(alloc);

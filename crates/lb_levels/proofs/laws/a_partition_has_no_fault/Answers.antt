@@ -1,5 +1,5 @@
-use Rattle.lb_levels.proofs.Overlaps.{no_fault_to, no_fault_from}
+use Rattle.lb_levels.proofs.NoFault.{partition_from_no_fault, no_fault_from_partition}
 use Rattle.lb_levels.proofs.laws.a_partition_has_no_fault.Goals as goal
 
 pub returns : goal.returns
-returns c = λ cpus parts. (no_fault_to cpus parts, no_fault_from cpus parts)
+returns c = λ cpus parts. (partition_from_no_fault cpus parts, no_fault_from_partition cpus parts)

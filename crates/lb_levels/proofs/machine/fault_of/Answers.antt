@@ -1,6 +1,7 @@
 use Rattle.std.proofs.Common.{ℕ, ◌<◌, sym, ◌∙◌, ap, arith, Some, None}
 use Rattle.lb_levels.specs.Faults.{first_misfit}
-use Rattle.lb_levels.proofs.FaultOrder.{clash_first, misfit_first, bad_row_first, not_nested_first, some_nodes, fits_length, fits_square}
+use Rattle.lb_levels.proofs.FaultOrder.{clash_first, misfit_first, bad_row_first, not_nested_first, fits_length, fits_square}
+use Rattle.lb_levels.proofs.Nodes.{some_nodes}
 use Rattle.lb_levels.proofs.machine.fault_of.Goals as goal
 
 pub returns-in-Some : goal.returns-in-Some

@@ -1,7 +1,7 @@
 use Rattle.std.proofs.Common.{not, length, arith, rules}
 use Rattle.lb_base.specs.Sets.{is_below}
 use Rattle.lb_levels.specs.Faults.{part_at, first_past}
-use Rattle.lb_levels.proofs.Finding.{found, not_found}
+use Rattle.lb_base.proofs.Ranges.{found, not_found}
 use Rattle.lb_levels.proofs.parts.first_past.Goals as goal
 
 pub returns-then-has_past : goal.returns-then-has_past

@@ -1,7 +1,7 @@
 use Rattle.std.proofs.Common.{not, arith, rules}
 use Rattle.lb_base.specs.Sets.{are_apart}
 use Rattle.lb_levels.specs.Faults.{part_at, first_sharing}
-use Rattle.lb_levels.proofs.Finding.{found, not_found}
+use Rattle.lb_base.proofs.Ranges.{found, not_found}
 use Rattle.lb_levels.proofs.parts.first_sharing.Goals as goal
 
 pub returns-then-shares : goal.returns-then-shares

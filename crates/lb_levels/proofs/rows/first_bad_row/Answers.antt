@@ -1,7 +1,7 @@
 use Rattle.std.proofs.Common.{length, take, arith, rules}
 use Rattle.lb_levels.specs.Rows.{distances_at, is_bad_distance}
 use Rattle.lb_levels.specs.Faults.{first_bad_row}
-use Rattle.lb_levels.proofs.Finding.{found, not_found}
+use Rattle.lb_base.proofs.Ranges.{found, not_found}
 use Rattle.lb_levels.proofs.rows.first_bad_row.Goals as goal
 
 pub returns-then-is_bad_row : goal.returns-then-is_bad_row

@@ -1,7 +1,7 @@
 use Rattle.std.proofs.Common.{length, take, arith, rules}
 use Rattle.lb_levels.specs.Rows.{row_at, cpu_clashes}
 use Rattle.lb_levels.specs.Faults.{first_clash}
-use Rattle.lb_levels.proofs.Finding.{found, not_found}
+use Rattle.lb_base.proofs.Ranges.{found, not_found}
 use Rattle.lb_levels.proofs.rows.first_clash.Goals as goal
 
 pub returns-then-cpu_clashes : goal.returns-then-cpu_clashes

@@ -1,6 +1,6 @@
 use Rattle.std.proofs.Common.{length, max, arith, rules}
 use Rattle.lb_levels.specs.Faults.{is_misfit, first_misfit}
-use Rattle.lb_levels.proofs.Finding.{found, not_found}
+use Rattle.lb_base.proofs.Ranges.{found, not_found}
 use Rattle.lb_levels.proofs.Tables.{past_is_misfit}
 use Rattle.lb_levels.proofs.rows.first_misfit.Goals as goal
 

@@ -1,7 +1,7 @@
 use Rattle.std.proofs.Common.{◌&&◌, not, arith, rules, sym, ◌∙◌}
 use Rattle.std.specs.List.{range_with_len}
 use Rattle.lb_levels.specs.Rows.{is_entry, is_nested_at, distances_of, first_not_nested}
-use Rattle.lb_levels.proofs.Finding.{found, not_found, find-filter}
+use Rattle.lb_base.proofs.Ranges.{found, not_found, find-filter}
 use Rattle.lb_levels.proofs.rows.first_not_nested.Goals as goal
 
 pub returns-then-not-is_nested_at : goal.returns-then-not-is_nested_at

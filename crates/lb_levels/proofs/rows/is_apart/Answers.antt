@@ -1,6 +1,6 @@
 use Rattle.std.proofs.Common.{◌&&◌, not, length, arith, rules}
 use Rattle.lb_levels.specs.Rows.{is_within, is_apart}
-use Rattle.lb_levels.proofs.Finding.{all_pass, one_fails}
+use Rattle.lb_base.proofs.Ranges.{all_pass, one_fails}
 use Rattle.lb_levels.proofs.rows.is_apart.Goals as goal
 
 pub returns-then-is_shared : goal.returns-then-is_shared

@@ -1,6 +1,6 @@
 use Rattle.std.proofs.Common.{length, arith, rules, ◌∙◌, sym}
 use Rattle.lb_levels.specs.Rows.{is_bad_entry}
-use Rattle.lb_levels.proofs.Finding.{one_passes, none_passes}
+use Rattle.lb_base.proofs.Ranges.{one_passes, none_passes}
 use Rattle.lb_levels.proofs.Tables.{bad_row_is}
 use Rattle.lb_levels.proofs.rows.is_bad_row.Goals as goal
 

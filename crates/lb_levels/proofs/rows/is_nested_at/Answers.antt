@@ -1,7 +1,7 @@
 use Rattle.std.proofs.Common.{length, arith, rules}
 use Rattle.std.specs.List.{range_with_len, list_all}
 use Rattle.lb_levels.specs.Rows.{are_nested, is_nested_at}
-use Rattle.lb_levels.proofs.Finding.{all_pass, one_fails}
+use Rattle.lb_base.proofs.Ranges.{all_pass, one_fails}
 use Rattle.lb_levels.proofs.rows.is_nested_at.Goals as goal
 
 pub returns-then-not-is_nested_with_all : goal.returns-then-not-is_nested_with_all

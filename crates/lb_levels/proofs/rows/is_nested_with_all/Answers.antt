@@ -1,6 +1,6 @@
 use Rattle.std.proofs.Common.{length, arith, rules}
 use Rattle.lb_levels.specs.Rows.{are_nested}
-use Rattle.lb_levels.proofs.Finding.{all_pass, one_fails}
+use Rattle.lb_base.proofs.Ranges.{all_pass, one_fails}
 use Rattle.lb_levels.proofs.rows.is_nested_with_all.Goals as goal
 
 pub returns-then-not-are_nested : goal.returns-then-not-are_nested

@@ -4,7 +4,7 @@ use Rattle.std.proofs.lemmas.List.{take_more}
 use Rattle.std.proofs.lemmas.List.Sums.{AllPass-from_list_all}
 use Rattle.lb_levels.specs.Rows.{no_row}
 use Rattle.lb_levels.specs.Faults.{nodes_of}
-use Rattle.lb_levels.proofs.Tables.{nodes_of-push}
+use Rattle.lb_levels.proofs.Nodes.{nodes_of-push}
 use Rattle.lb_levels.proofs.rows.nodes_of.Goals as goal
 
 pub loop-row-preserved : goal.loop-row-preserved

@@ -5,7 +5,7 @@ use Rattle.std.proofs.lemmas.Grind.{common_steps}
 use Rattle.lb_base.specs.declared.shape.LevelName.{LevelName}
 use Rattle.lb_base.specs.declared.shape.LevelName.TheVariants.{Smt, Mc, Pkg, Numa}
 use Rattle.lb_levels.specs.Spans.{is_far, levels_of}
-use Rattle.lb_levels.proofs.SpanTables.{filter_more, filter_same}
+use Rattle.lb_base.proofs.Ranges.{filter_more, filter_same}
 use Rattle.lb_levels.proofs.span.levels_of.Goals.{then-is_far+in_ok-push-4, else-is_far}
 use Rattle.lb_levels.proofs.span.levels_of.Goals as goal
 

@@ -1,8 +1,8 @@
 use Rattle.std.proofs.Common.{◌≡◌, ℕ, Bool, ltb, eqb, ◌&&◌, ◌||◌, length, ◌∙◌, ap, arith}
 use Rattle.lb_levels.specs.Rows.{row_at}
 use Rattle.lb_levels.specs.Spans.{shares, span_of}
-use Rattle.lb_levels.proofs.MaskTests.{same_where}
-use Rattle.lb_levels.proofs.SpanTables.{one_joins}
+use Rattle.lb_base.proofs.Sets.{same_where}
+use Rattle.lb_base.proofs.Ranges.{one_joins}
 use Rattle.lb_levels.proofs.span.span_of.Goals as goal
 
 pub loop-k-preserved : goal.loop-k-preserved

@@ -1,7 +1,7 @@
 use Rattle.std.proofs.Common.{◌≡◌, ℕ, length, map, ◌∙◌, ap, arith}
 use Rattle.std.specs.List.{range_with_len}
 use Rattle.lb_levels.specs.Spans.{span_of, spans_at}
-use Rattle.lb_levels.proofs.SpanTables.{map_range_more}
+use Rattle.lb_base.proofs.Ranges.{map_range_more}
 use Rattle.lb_levels.proofs.span.spans_at.Goals as goal
 
 pub loop-cpu-preserved : goal.loop-cpu-preserved

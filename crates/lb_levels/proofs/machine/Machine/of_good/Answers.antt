@@ -2,7 +2,8 @@ use Rattle.std.proofs.Common.{List, map, ◌∙◌, ap, arith}
 use Rattle.lb_base.specs.declared.shape.LevelName.{LevelName}
 use Rattle.lb_levels.specs.Faults.{nodes_of}
 use Rattle.lb_levels.specs.Spans.{spans_at, spans_of}
-use Rattle.lb_levels.proofs.FaultOrder.{good, some_nodes, fits_length, fits_square, fits_nodes}
+use Rattle.lb_levels.proofs.FaultOrder.{good, fits_length, fits_square, fits_nodes}
+use Rattle.lb_levels.proofs.Nodes.{some_nodes}
 use Rattle.lb_levels.proofs.machine.Machine.of_good.Goals as goal
 
 pub levels_of-requires-clause-square : goal.levels_of-requires-clause-square

@@ -1,6 +1,7 @@
 use Rattle.std.proofs.Common.{sym, ◌∙◌, arith}
 use Rattle.lb_levels.specs.Faults.{nodes_of}
-use Rattle.lb_levels.proofs.FaultOrder.{good, some_nodes, few_nodes, fits_length}
+use Rattle.lb_levels.proofs.FaultOrder.{good, fits_length}
+use Rattle.lb_levels.proofs.Nodes.{some_nodes, few_nodes}
 use Rattle.lb_levels.proofs.machine.Machine.read.Goals as goal
 
 pub of_good-requires-clause-nodes : goal.of_good-requires-clause-nodes
