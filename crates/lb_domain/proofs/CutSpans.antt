@@ -1,25 +1,23 @@
 -- The spans of a machine cut to a partition mask: at each level they fall into those of the level
 -- below, and from level to level they grow.
-use Rattle.std.proofs.Common.{◌≡◌, ℕ, zero, suc, ◌<◌, ◌≤◌, eqb, true, List, length, None, refl, sym, ◌∙◌, ap, arith}
+use Rattle.std.proofs.Common.{◌≡◌, ℕ, zero, suc, ◌<◌, ◌≤◌, eqb, true, List, length, refl, sym, ◌∙◌, ap, arith}
 use Rattle.std.proofs.lemmas.Bool.{and_parts, and_from, eqb-true, eq-eqb}
 use Rattle.std.proofs.lemmas.Nat.{one_shl}
 use Rattle.lb_base.specs.declared.mask.Mask.{Mask}
+use Rattle.lb_base.specs.declared.mask.TheConstants.{MAX_CPUS}
 use Rattle.lb_base.specs.Mask.{has, only, both, IsSubset}
 use Rattle.lb_base.proofs.Bits.{bit_set, bit_set_one}
 use Rattle.lb_levels.specs.declared.cpu_row.CpuRow.{CpuRow}
-use Rattle.lb_levels.specs.Faults.{fault_of}
-use Rattle.lb_levels.specs.Spans.{levels_of, level_at, span_of}
-use Rattle.lb_levels.proofs.Together.{span_own, span_same, span_grow}
+use Rattle.lb_levels.specs.Spans.{levels_of, level_at, span_of, SpansPartAndGrow}
 use Rattle.lb_domain.specs.Domains.{cut_span}
 use Rattle.lb_domain.specs.Steps.{step_span}
 use Rattle.lb_domain.proofs.Rings.{has_both, in_span}
 use Rattle.lb_domain.proofs.Groupings.{IsGrouping}
 
--- a machine of at most 64 CPUs without a fault
+-- a machine has no more CPUs than there can be, and its spans part and grow
 pub record IsSound (cpus : List CpuRow) (table : List (List ℕ)) : Type 0 where
-  pub some : 0 < length cpus
-  pub few : length cpus ≤ 64
-  pub good : fault_of cpus table ≡ None
+  pub few : length cpus ≤ MAX_CPUS
+  pub spans : SpansPartAndGrow cpus table
 
 has_only : (cpu k : ℕ) → cpu < 64 → has (only cpu) k ≡ eqb k cpu
 unfolding has only
@@ -40,16 +38,16 @@ cut_from cpus table part level cpu k in_whole in_part = has_both (span_of cpus t
 cut_same : (cpus : List CpuRow) (table : List (List ℕ)) (part : Mask) → IsSound cpus table → (level cpu k : ℕ) → level < length (levels_of table) → cpu < length cpus → has (cut_span cpus table part (level_at table level) cpu) k ≡ true → cut_span cpus table part (level_at table level) k ≡ cut_span cpus table part (level_at table level) cpu
 unfolding cut_span
 cut_same cpus table part s level cpu k in_levels in_cpus there =
-    ap (λ (m : Mask). both m part) (span_same cpus table s.some s.few s.good level cpu k in_levels in_cpus (in_cut cpus table part level cpu k there).0)
+    ap (λ (m : Mask). both m part) (s.spans.same level cpu k in_levels in_cpus (in_cut cpus table part level cpu k there).0)
 
 pub cut_own : (cpus : List CpuRow) (table : List (List ℕ)) (part : Mask) → IsSound cpus table → (level cpu : ℕ) → level < length (levels_of table) → cpu < length cpus → has part cpu ≡ true → has (cut_span cpus table part (level_at table level) cpu) cpu ≡ true
 cut_own cpus table part s level cpu in_levels in_cpus in_part =
-    cut_from cpus table part level cpu cpu (span_own cpus table s.some s.few s.good level cpu in_levels in_cpus) in_part
+    cut_from cpus table part level cpu cpu (s.spans.own level cpu in_levels in_cpus) in_part
 
 pub cut_grow : (cpus : List CpuRow) (table : List (List ℕ)) (part : Mask) → IsSound cpus table → (lower upper cpu : ℕ) → lower < upper → upper < length (levels_of table) → cpu < length cpus → IsSubset (cut_span cpus table part (level_at table lower) cpu) (cut_span cpus table part (level_at table upper) cpu)
 cut_grow cpus table part s lower upper cpu lt in_levels in_cpus k there =
     let at = in_cut cpus table part lower cpu k there in
-    cut_from cpus table part upper cpu k (span_grow cpus table s.some s.few s.good lower upper cpu lt in_levels in_cpus k at.0) at.1
+    cut_from cpus table part upper cpu k (s.spans.grow lower upper cpu lt in_levels in_cpus k at.0) at.1
 
 -- the CPU k is of a cut span, and of the machine
 in_machine : (cpus : List CpuRow) (table : List (List ℕ)) (part : Mask) (level cpu k : ℕ) → has (cut_span cpus table part (level_at table level) cpu) k ≡ true → k < length cpus

@@ -9,8 +9,8 @@ use Rattle.std.proofs.lemmas.List.Folds.{list_all-append, list_any-append}
 use Rattle.lb_base.specs.declared.mask.Mask.{Mask}
 use Rattle.lb_base.specs.Mask.{has, members, members_below, no_cpus}
 use Rattle.lb_base.specs.Sets.{least, are_apart, are_disjoint}
-use Rattle.lb_levels.proofs.Finding.{found_at, nothing_found}
-use Rattle.lb_levels.proofs.MaskTests.{apart_from}
+use Rattle.lb_base.proofs.Ranges.{found_at, nothing_found}
+use Rattle.lb_base.proofs.Sets.{apart_from}
 use Rattle.lb_domain.specs.Domains.{is_first, firsts, groups_of}
 use Rattle.lb_domain.proofs.Filters.{filter-filter}
 

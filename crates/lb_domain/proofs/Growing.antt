@@ -3,11 +3,12 @@
 use Rattle.std.proofs.Common.{◌≡◌, ℕ, zero, suc, ◌<◌, eqb, Bool, true, false, List, [], ◌∷◌, length, Option, Some, None, refl, sym, ◌∙◌, ap, subst, arith, inl, inr}
 use Rattle.std.specs.List.{slice_index_or}
 use Rattle.std.proofs.lemmas.Bool.{cases_Bool, both_ways, and_parts, not-true, eq-eqb}
+use Rattle.std.proofs.lemmas.List.Folds.{list_any_at}
 use Rattle.lb_base.specs.declared.mask.Mask.{Mask}
 use Rattle.lb_base.specs.declared.shape.Shape.{Shape}
 use Rattle.lb_base.specs.declared.shape.LevelName.{LevelName}
 use Rattle.lb_base.specs.declared.shape.LevelName.TheVariants.{Smt}
-use Rattle.lb_base.specs.Mask.{has, only, IsSubset}
+use Rattle.lb_base.specs.Mask.{has, only, no_cpus, IsSubset}
 use Rattle.lb_base.proofs.Members.{same_mask}
 use Rattle.lb_levels.specs.declared.cpu_row.CpuRow.{CpuRow}
 use Rattle.lb_levels.specs.Spans.{levels_of, level_at}
@@ -37,7 +38,12 @@ falls_on span_at cpu group level levels zero at = record { there = at.there; fal
 falls_on span_at cpu group level levels (suc i) at = record { there = at.there; falls = at.falls }
 
 from_part : (group : ℕ → Mask) (cpu : ℕ) (shape : Shape) → ArePart group shape.span cpu (groups_of group shape.span cpu) → IsParted cpu (record { shape = shape; groups = groups_of group shape.span cpu })
-from_part group cpu shape part = record { own = part.own; apart = part.apart; whole = part.whole }
+from_part group cpu shape part = record {
+  own = part.own;
+  apart = part.apart;
+  whole = part.whole;
+  inside = λ i within k there. part.whole k ∙ list_any_at (λ m. has m k) (groups_of group shape.span cpu) i no_cpus within there;
+}
 
 all_parted : (span_at : LevelName → ℕ → Mask) (cpu : ℕ) (group : ℕ → Mask) (below : Option Shape) (levels : List LevelName) → ((i : ℕ) → i < length levels → FallsApart span_at cpu group levels i) → (position : ℕ) → position < length (domains_from span_at cpu group below levels) → IsParted cpu (domain_at (domains_from span_at cpu group below levels) position)
 unfolding below_level

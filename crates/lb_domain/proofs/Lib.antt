@@ -6,3 +6,4 @@ pub mod Sizes
 pub mod Groupings
 pub mod CutSpans
 pub mod Growing
+pub mod Positions

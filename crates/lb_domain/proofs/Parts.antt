@@ -10,7 +10,7 @@ use Rattle.lb_base.specs.Mask.{has}
 use Rattle.lb_base.specs.Sets.{are_apart, are_disjoint}
 use Rattle.lb_base.proofs.Bits.{bit_set_zero}
 use Rattle.lb_levels.specs.declared.cpu_row.CpuRow.{CpuRow}
-use Rattle.lb_levels.proofs.MaskTests.{apart_at}
+use Rattle.lb_base.proofs.Sets.{apart_at}
 use Rattle.lb_domain.specs.Domains.{part_of, domains_in, domains_of, topology_of}
 use Rattle.lb_domain.specs.Steps.{own_parts, AreLeaders, LeadWithin}
 

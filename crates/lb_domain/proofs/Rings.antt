@@ -1,16 +1,16 @@
 -- The CPUs that lead in a span, and the spans step by step.
-use Rattle.std.proofs.Common.{◌≡◌, ℕ, zero, suc, ◌+◌, ◌-◌, ◌<◌, ◌≤◌, leb, ltb, Bool, true, false, ◌&&◌, not, List, [], ◌∷◌, ◌++◌, length, map, Option, Some, None, refl, sym, ◌∙◌, ap, arith, inl, inr, add-one}
-use Rattle.std.specs.Prelude.{MatchOption, filter, unwrap_or}
+use Rattle.std.proofs.Common.{◌≡◌, ℕ, zero, suc, ◌+◌, ◌-◌, ◌<◌, leb, ltb, Bool, true, false, ◌&&◌, not, List, [], ◌∷◌, ◌++◌, length, map, Option, refl, sym, ◌∙◌, ap, arith, inl, inr, add-one}
+use Rattle.std.specs.Prelude.{filter, unwrap_or}
 use Rattle.std.specs.List.{slice_index_or}
 use Rattle.std.proofs.lemmas.List.{append-nil, append_assoc, map_push, map-append}
 use Rattle.std.proofs.lemmas.Bool.{cases_Bool, and_parts, ltb-true}
 use Rattle.lb_base.specs.declared.mask.Mask.{Mask}
 use Rattle.lb_base.specs.declared.shape.LevelName.{LevelName}
-use Rattle.lb_base.specs.Mask.{has, members, members_below, no_cpus, both, HasNoneFrom, IsFirstFrom}
+use Rattle.lb_base.specs.Mask.{has, members, members_below, no_cpus, both}
 use Rattle.lb_base.specs.Sets.{least}
 use Rattle.lb_base.proofs.Bits.{bit_set_and}
-use Rattle.lb_base.proofs.Members.{members_below_gap, members_below_yes, members_below_none}
-use Rattle.lb_base.proofs.Where.{mask_where_has}
+use Rattle.lb_base.proofs.Sets.{mask_where_has}
+use Rattle.lb_base.proofs.Walks.{passed, IsAt, Finds, walk_starts, walk_steps}
 use Rattle.lb_levels.specs.declared.cpu_row.CpuRow.{CpuRow}
 use Rattle.lb_levels.specs.Rows.{row_at}
 use Rattle.lb_levels.specs.Spans.{shares, span_of, level_at}
@@ -60,39 +60,16 @@ leaders_first cpus table part leaders step level cpu m lead within is =
 
 -- ---- over the CPUs of a mask, one by one
 
--- how far a walk has come
-abbrev pub place : Option ℕ → ℕ
-place None = 64
-place (Some k) = k
-
--- the walk stands at a CPU of the mask, or at its end
-abbrev pub IsNext : Mask → Option ℕ → Type 0
-IsNext m None = Unit {0}
-IsNext m (Some k) = (k < 64) × (has m k ≡ true)
-
-pub first_next : (m : Mask) (o : Option ℕ) (n : ℕ) → n ≤ 64 → MatchOption o (HasNoneFrom m n) (λ c. IsFirstFrom m n c) → IsNext m o
-first_next m None n small none = tt
-first_next m (Some k) n small at = (at.in_range, at.there)
-
--- no CPU is passed over
-pub none_between : (m : Mask) (o : Option ℕ) (n : ℕ) → n ≤ 64 → MatchOption o (HasNoneFrom m n) (λ c. IsFirstFrom m n c) → members_below m (place o) ≡ members_below m n
-none_between m None n small none =
-    let e : n + (64 - n) ≡ 64 = omega arith in
-    ap (members_below m) (sym e) ∙ members_below_gap m n (64 - n) (λ i lo hi. none i lo)
-none_between m (Some k) n small at =
-    let e : n + (k - n) ≡ k = omega (arith, at.from) in
-    ap (members_below m) (sym e) ∙ members_below_gap m n (k - n) (λ i lo hi. at.least i lo (omega (arith, hi, at.from)))
-
 -- what is pushed when the walk goes on from a CPU
-pub walk_on : (f : ℕ → Mask) (m : Mask) (base groups : List Mask) (cpu : ℕ) (o : Option ℕ) → cpu < 64 → has m cpu ≡ true → groups ≡ base ++ map f (members_below m cpu) → MatchOption o (HasNoneFrom m (cpu + 1)) (λ c. IsFirstFrom m (cpu + 1) c) → groups ++ f cpu ∷ [] ≡ base ++ map f (members_below m (place o))
-walk_on f m base groups cpu o small there pushed next =
+pub walk_on : (f : ℕ → Mask) (m : Mask) (base groups : List Mask) (cpu : ℕ) (o : Option ℕ) → IsAt m cpu → groups ≡ base ++ map f (members_below m cpu) → Finds m (cpu + 1) o → groups ++ f cpu ∷ [] ≡ base ++ map f (members_below m (passed o))
+walk_on f m base groups cpu o at pushed next =
     ap (λ (g : List Mask). g ++ f cpu ∷ []) pushed
     ∙ append_assoc base (map f (members_below m cpu)) (f cpu ∷ [])
-    ∙ ap (λ (g : List Mask). base ++ g) (sym (map_push f (members_below m cpu) cpu) ∙ ap (map f) (sym (members_below_yes m cpu there) ∙ sym (none_between m o (cpu + 1) (omega (arith, small)) next)))
+    ∙ ap (λ (g : List Mask). base ++ g) (sym (map_push f (members_below m cpu) cpu) ∙ ap (map f) (sym (walk_steps m cpu o at next)))
 
-pub walk_from : (f : ℕ → Mask) (m : Mask) (base : List Mask) (o : Option ℕ) → MatchOption o (HasNoneFrom m 0) (λ c. IsFirstFrom m 0 c) → base ≡ base ++ map f (members_below m (place o))
+pub walk_from : (f : ℕ → Mask) (m : Mask) (base : List Mask) (o : Option ℕ) → Finds m 0 o → base ≡ base ++ map f (members_below m (passed o))
 walk_from f m base o next =
-    sym (append-nil base) ∙ ap (λ (g : List Mask). base ++ g) (sym (ap (map f) (none_between m o 0 (omega arith) next ∙ members_below_none m)))
+    sym (append-nil base) ∙ ap (λ (g : List Mask). base ++ g) (sym (ap (map f) (walk_starts m o next)))
 
 -- the later groups and then the earlier ones are the ring
 pub ring_is : (f : ℕ → Mask) (leaders before later earlier : Mask) (own cpu : ℕ) → own ≡ unwrap_or (least (f cpu)) 0 → ((k : ℕ) → has before k ≡ ltb k own) → ((k : ℕ) → has later k ≡ (has leaders k && not (has before k))) → ((k : ℕ) → has earlier k ≡ (has leaders k && has before k)) → map f (members later) ++ map f (members earlier) ≡ ring_of f (members leaders) cpu

@@ -1,4 +1,4 @@
--- How many domains a CPU has, and how many groups a domain.
+-- How many domains a CPU has, and how many groups a domain. For callers too.
 use Rattle.std.proofs.Common.{◌≡◌, ℕ, zero, suc, ◌<◌, ◌≤◌, leb, ltb, Bool, true, false, not, List, [], ◌∷◌, ◌++◌, length, Option, Some, None, refl, sym, ◌∙◌, ap, arith, inl, inr}
 use Rattle.std.specs.Prelude.{filter, unwrap_or}
 use Rattle.std.specs.List.{range_with_len, slice_index_or}
@@ -14,6 +14,7 @@ use Rattle.lb_base.specs.Mask.{members, only}
 use Rattle.lb_base.specs.Sets.{least}
 use Rattle.lb_base.proofs.Members.{length-members_le}
 use Rattle.lb_levels.specs.declared.cpu_row.CpuRow.{CpuRow}
+use Rattle.lb_levels.specs.declared.limits.TheConstants.{MAX_LEVELS}
 use Rattle.lb_levels.specs.Spans.{levels_of}
 use Rattle.lb_domain.specs.declared.domain.Domain.{Domain}
 use Rattle.lb_domain.specs.Domains.{part_of, cut_span, is_first, firsts, ring_of, groups_of, is_kept, shape_above, domains_from, domains_in, domains_of, topology_of, domains_at, domain_at, no_domain}
@@ -88,7 +89,7 @@ pub groups_few : (cpus : List CpuRow) (table : List (List ℕ)) (parts : List Ma
 unfolding domains_of
 groups_few cpus table parts cpu position lt = in_groups cpus table (part_of parts cpu) cpu position lt
 
-pub small : (cpus : List CpuRow) (table : List (List ℕ)) (parts : List Mask) → length (levels_of table) ≤ 18 → IsSmall (topology_of cpus table parts)
+pub small : (cpus : List CpuRow) (table : List (List ℕ)) (parts : List Mask) → length (levels_of table) ≤ MAX_LEVELS → IsSmall (topology_of cpus table parts)
 small cpus table parts few = record {
   domains = λ cpu lt. let at = topology_at cpus table parts cpu (omega (arith, lt, length-topology_of cpus table parts)) in omega (arith, ap length at, domains_few cpus table parts cpu, few);
   groups = λ cpu position lt within.

@@ -3,3 +3,4 @@ pub mod Parted
 pub mod Steps
 pub mod Errors
 pub mod Topologies
+pub mod Laws

@@ -7,6 +7,7 @@ use Rattle.lb_base.specs.declared.mask.Mask.{Mask}
 use Rattle.lb_base.specs.Mask.{has, no_cpus, only}
 use Rattle.lb_base.specs.Sets.{least}
 use Rattle.lb_levels.specs.declared.cpu_row.CpuRow.{CpuRow}
+use Rattle.lb_levels.specs.declared.limits.TheConstants.{MAX_LEVELS}
 use Rattle.lb_levels.specs.Spans.{levels_of, level_at}
 use Rattle.lb_domain.specs.Domains.{part_of, cut_span, is_first}
 
@@ -27,7 +28,7 @@ own_parts n parts = map (part_of parts) (range_with_len 0 n)
 -- for each step below the uppermost level, the CPUs that lead
 pub record AreLeaders (cpus : List CpuRow) (table : List (List ℕ)) (own : List (Option Mask)) (leaders : List Mask) : Type 0 where
   pub steps : length leaders ≡ length (levels_of table)
-  pub few : length leaders ≤ 18
+  pub few : length leaders ≤ MAX_LEVELS
   pub lead : (step : ℕ) → step < length leaders → (k : ℕ) → has (slice_index_or leaders step no_cpus) k ≡ (nat_lt k (length own) && leads cpus table (slice_index_or own k None) step k)
 
 -- for each of these steps, the CPUs of the part that lead within it

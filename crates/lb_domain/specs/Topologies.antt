@@ -1,8 +1,22 @@
--- How large a topology can be.
+-- What a topology shows: the domains of every CPU, and the masks that they are within. How large it
+-- can be.
 use Rattle.std.specs.Prelude.{ℕ, ◌<◌, ◌≤◌, List, length}
+use Rattle.lb_base.specs.declared.mask.Mask.{Mask}
+use Rattle.lb_base.specs.declared.mask.TheConstants.{MAX_CPUS}
+use Rattle.lb_levels.specs.declared.cpu_row.CpuRow.{CpuRow}
+use Rattle.lb_levels.specs.declared.limits.TheConstants.{MAX_LEVELS}
 use Rattle.lb_domain.specs.declared.domain.Domain.{Domain}
-use Rattle.lb_domain.specs.Domains.{domains_at, domain_at}
+use Rattle.lb_domain.specs.Domains.{domains_at, domain_at, topology_of}
+
+pub record DomainsWithin : Type 0 where
+  pub masks : List Mask
+  pub all : List (List Domain)
+
+-- the domains of every CPU within these masks
+abbrev pub domains_within : List CpuRow → List (List ℕ) → List Mask → DomainsWithin
+domains_within cpus table parts = record { masks = parts; all = topology_of cpus table parts }
 
 pub record IsSmall (all : List (List Domain)) : Type 0 where
-  pub domains : (cpu : ℕ) → cpu < length all → length (domains_at all cpu) ≤ 18
-  pub groups : (cpu position : ℕ) → cpu < length all → position < length (domains_at all cpu) → length (domain_at (domains_at all cpu) position).groups ≤ 64
+  pub domains : (cpu : ℕ) → cpu < length all → length (domains_at all cpu) ≤ MAX_LEVELS
+  pub groups : (cpu position : ℕ) → cpu < length all → position < length (domains_at all cpu)
+      → length (domain_at (domains_at all cpu) position).groups ≤ MAX_CPUS

@@ -10,8 +10,9 @@ ghost use Rattle.lb_domain.specs.Steps.{step_span, own_parts, LeadWithin};
 
 use crate::domain::Domain;
 use crate::ring::{all_leaders, ring, step_span};
-use lb_base::{Items, LevelName, Mask, NoMemory, Shape};
-use lb_levels::Machine;
+use lb_base::{Items, LevelName, MAX_CPUS, Mask, NoMemory, Shape};
+use lb_levels::laws::a_partition_has_no_fault;
+use lb_levels::{MAX_LEVELS, Machine};
 use std::alloc::Global;
 
 // Whether the span is kept above this domain.
@@ -55,10 +56,10 @@ fn domain_at(
     below: Option<Shape>,
     level: u32,
 ) -> Result<Option<Domain>, NoMemory>
-    requires few { length machine.now.cpus ≤ 64 }
+    requires few { length machine.now.cpus ≤ MAX_CPUS }
     requires cpu { cpu < length machine.now.cpus }
     requires level { level < length (levels_of machine.now.distances) }
-    requires few_levels { length (levels_of machine.now.distances) ≤ 18 }
+    requires few_levels { length (levels_of machine.now.distances) ≤ MAX_LEVELS }
     requires leaders { LeadWithin machine.now.cpus machine.now.distances part leaders.now }
     requires position { position_above below ≤ level }
     ensures { IfOk result (λ domain. domain ≡ kept_domain (step_span machine.now.cpus machine.now.distances part level) cpu below (level_at machine.now.distances level) (cut_span machine.now.cpus machine.now.distances part (level_at machine.now.distances level) cpu)) }
@@ -102,7 +103,7 @@ fn domains_in(
     part: Option<Mask>,
     cpu: u32,
 ) -> Result<Items<Domain>, NoMemory>
-    requires few { length machine.now.cpus ≤ 64 }
+    requires few { length machine.now.cpus ≤ MAX_CPUS }
     requires cpu { cpu < length machine.now.cpus }
     requires leaders { (own : Mask) → part ≡ Some own → LeadWithin machine.now.cpus machine.now.distances own leaders.now }
     ensures { IfOk result (λ domains. domains ≡ domains_in machine.now.cpus machine.now.distances part cpu) }
@@ -134,7 +135,7 @@ fn live_parts(alloc: Global, parts: &[Mask]) -> Result<Items<Mask>, NoMemory>
 
 // The part that has the CPU.
 fn part_of(parts: &[Mask], cpu: u32) -> Option<Mask>
-    requires { cpu < 64 }
+    requires { cpu < MAX_CPUS }
     ensures { result ≡ part_of parts.now cpu }
 {
     for part in parts {
@@ -147,7 +148,7 @@ fn part_of(parts: &[Mask], cpu: u32) -> Option<Mask>
 
 // The part of each CPU below `cpus`.
 fn own_parts(alloc: Global, cpus: u32, parts: &[Mask]) -> Result<Items<Option<Mask>>, NoMemory>
-    requires { cpus ≤ 64 }
+    requires { cpus ≤ MAX_CPUS }
     ensures { IfOk result (λ own. own ≡ own_parts cpus parts.now) }
 {
     let mut own = Items::new(alloc);
@@ -185,6 +186,8 @@ pub(crate) fn topology_of(
     ensures value { IfOk result (λ all. all ≡ topology_of machine.now.cpus machine.now.distances parts.now) }
     ensures small { IfOk result IsSmall }
 {
+    // no two of the masks share a CPU
+    a_partition_has_no_fault();
     let live = live_parts(alloc, parts)?;
     let own = own_parts(alloc, machine.cpus(), live.as_slice())?;
     let leaders = all_leaders(alloc, machine, own.as_slice())?;

@@ -1,18 +1,41 @@
 //! What holds of the domains of every CPU, as laws: each function's contract is the law, and its
-//! body is empty.
-ghost use Rattle.std.specs.Prelude.{◌≡◌, ℕ, ◌<◌, ◌≤◌, None, List, length};
-ghost use Rattle.lb_base.specs.declared.mask.Mask.{Mask};
-ghost use Rattle.lb_levels.specs.declared.cpu_row.CpuRow.{CpuRow};
-ghost use Rattle.lb_levels.specs.Faults.{fault_of};
-ghost use Rattle.lb_domain.specs.Domains.{domains_of, domain_at};
-ghost use Rattle.lb_domain.specs.Parted.{IsParted, IsWithin};
+//! body only calls the laws that it rests on.
+ghost use Rattle.lb_domain.specs.Laws.{AreOfLevels, AreFew, StandInOrder, LieInside, GroupsPart, SpansGrow};
 
-/// The groups of a domain part its span, and the first has the CPU.
-pub fn groups_part_the_span()
-    ensures { (cpus : List CpuRow) → (table : List (List ℕ)) → (parts : List Mask) → 0 < length cpus → length cpus ≤ 64 → fault_of cpus table ≡ None → (cpu position : ℕ) → cpu < length cpus → position < length (domains_of cpus table parts cpu) → IsParted cpu (domain_at (domains_of cpus table parts cpu) position) }
+use lb_levels::laws::{levels_are_few, spans_part_and_grow};
+
+/// A CPU has at most as many domains as the machine has levels, so at most `MAX_LEVELS`.
+pub fn domains_are_few()
+    ensures of_levels { AreOfLevels }
+    ensures most { AreFew }
+{
+    // the machine has at most so many levels
+    levels_are_few();
+}
+
+/// The domains of a CPU stand at their positions: the one at position p has position p.
+pub fn domains_stand_in_order()
+    ensures { StandInOrder }
 {}
+
+/// The span of a domain lies within the machine, and within the mask that has the CPU.
+pub fn spans_lie_inside()
+    ensures { LieInside }
+{}
+
+/// The groups of a domain part its span: no two share a CPU, and together they are the span. The
+/// first has the CPU.
+pub fn groups_part_the_span()
+    ensures { GroupsPart }
+{
+    // the spans of each level are the groups of the level above it
+    spans_part_and_grow();
+}
 
 /// From position to position the span grows: it has every CPU that it had below, and others.
 pub fn spans_grow()
-    ensures { (cpus : List CpuRow) → (table : List (List ℕ)) → (parts : List Mask) → 0 < length cpus → length cpus ≤ 64 → fault_of cpus table ≡ None → (cpu lower upper : ℕ) → cpu < length cpus → lower < upper → upper < length (domains_of cpus table parts cpu) → IsWithin (domain_at (domains_of cpus table parts cpu) lower).shape.span (domain_at (domains_of cpus table parts cpu) upper).shape.span }
-{}
+    ensures { SpansGrow }
+{
+    // from level to level it does
+    spans_part_and_grow();
+}

@@ -7,13 +7,13 @@ ghost use Rattle.lb_levels.specs.Spans.{levels_of};
 ghost use Rattle.lb_domain.specs.Domains.{is_first, ring_of};
 ghost use Rattle.lb_domain.specs.Steps.{step_span, leads, AreLeaders};
 
-use lb_base::{Items, Mask, NoMemory};
+use lb_base::{Items, MAX_CPUS, Mask, NoMemory};
 use lb_levels::Machine;
 use std::alloc::Global;
 
 // The span of a CPU at a step, within its part.
 pub(crate) fn step_span(machine: &Machine, part: Mask, step: u32, cpu: u32) -> Mask
-    requires few { length machine.now.cpus ≤ 64 }
+    requires few { length machine.now.cpus ≤ MAX_CPUS }
     requires step { step ≤ length (levels_of machine.now.distances) }
     requires cpu { cpu < length machine.now.cpus }
     ensures { result ≡ step_span machine.now.cpus machine.now.distances part step cpu }
@@ -37,7 +37,7 @@ fn is_first(mask: Mask, cpu: u32) -> bool
 // The first CPU of a mask, or 0 where it has none.
 fn first_or_zero(mask: Mask) -> u32
     ensures first { result ≡ unwrap_or (least mask) 0 }
-    ensures in_range { result < 64 }
+    ensures in_range { result < MAX_CPUS }
 {
     match mask.first() {
         Some(first) => first,
@@ -47,7 +47,7 @@ fn first_or_zero(mask: Mask) -> u32
 
 // Whether the CPU has a part, and is the first of its span there.
 fn leads(machine: &Machine, part: Option<Mask>, step: u32, cpu: u32) -> bool
-    requires few { length machine.now.cpus ≤ 64 }
+    requires few { length machine.now.cpus ≤ MAX_CPUS }
     requires step { step ≤ length (levels_of machine.now.distances) }
     requires cpu { cpu < length machine.now.cpus }
     ensures { result ≡ leads machine.now.cpus machine.now.distances part step cpu }
@@ -60,7 +60,7 @@ fn leads(machine: &Machine, part: Option<Mask>, step: u32, cpu: u32) -> bool
 
 // The mask, with the CPU too if it joins.
 fn joined(mask: Mask, cpu: u32, joins: bool) -> Mask
-    requires { cpu < 64 }
+    requires { cpu < MAX_CPUS }
     ensures { (k : ℕ) → has result k ≡ (has mask k || (k == cpu && joins)) }
 {
     if joins { mask.or(Mask::one(cpu)) } else { mask }
@@ -104,7 +104,7 @@ fn push_spans(
     step: u32,
     leaders: Mask,
 ) -> Result<(), NoMemory>
-    requires few { length machine.now.cpus ≤ 64 }
+    requires few { length machine.now.cpus ≤ MAX_CPUS }
     requires step { step ≤ length (levels_of machine.now.distances) }
     requires cpus { (k : ℕ) → has leaders k ≡ true → k < length machine.now.cpus }
     ensures { OnOk result (groups.new ≡ groups.old ++ map (step_span machine.now.cpus machine.now.distances part step) (members leaders)) }
@@ -126,7 +126,7 @@ pub(crate) fn ring(
     leaders: Mask,
     cpu: u32,
 ) -> Result<Items<Mask>, NoMemory>
-    requires few { length machine.now.cpus ≤ 64 }
+    requires few { length machine.now.cpus ≤ MAX_CPUS }
     requires step { step ≤ length (levels_of machine.now.distances) }
     requires cpus { (k : ℕ) → has leaders k ≡ true → k < length machine.now.cpus }
     requires cpu { cpu < length machine.now.cpus }

@@ -1,6 +1,6 @@
 use Rattle.std.proofs.Common.{◌≡◌, ℕ, List, map, length, None, ◌∙◌, ap, arith}
 use Rattle.std.specs.List.{range_with_len, slice_index_or}
-use Rattle.lb_levels.proofs.SpanTables.{map_range_more}
+use Rattle.lb_base.proofs.Ranges.{map_range_more}
 use Rattle.lb_domain.specs.declared.domain.Domain.{Domain}
 use Rattle.lb_domain.specs.Domains.{domains_in}
 use Rattle.lb_domain.proofs.build.domains_of_all.Goals as goal

@@ -1,6 +1,6 @@
 use Rattle.std.proofs.Common.{◌≡◌, ℕ, map, ◌∙◌, ap, arith}
 use Rattle.std.specs.List.{range_with_len}
-use Rattle.lb_levels.proofs.SpanTables.{map_range_more}
+use Rattle.lb_base.proofs.Ranges.{map_range_more}
 use Rattle.lb_domain.specs.Domains.{part_of}
 use Rattle.lb_domain.specs.Steps.{own_parts}
 use Rattle.lb_domain.proofs.build.own_parts.Goals as goal

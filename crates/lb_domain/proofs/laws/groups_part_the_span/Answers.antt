@@ -2,5 +2,5 @@ use Rattle.lb_domain.proofs.Growing.{domains_parted}
 use Rattle.lb_domain.proofs.laws.groups_part_the_span.Goals as goal
 
 pub returns : goal.returns
-returns c cpus table parts some few good cpu position in_cpus within =
-    domains_parted cpus table parts (record { some = some; few = few; good = good }) cpu position in_cpus within
+returns c cpus table parts can cpu in_cpus position within =
+    domains_parted cpus table parts (record { few = can.few; spans = c.spans_part_and_grow.ensures cpus table can }) cpu position in_cpus within

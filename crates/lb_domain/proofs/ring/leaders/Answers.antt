@@ -1,6 +1,6 @@
 use Rattle.std.proofs.Common.{◌≡◌, ℕ, Bool, ltb, eqb, ◌&&◌, ◌||◌, length, None, ◌∙◌, ap, arith}
 use Rattle.std.specs.List.{slice_index_or}
-use Rattle.lb_levels.proofs.SpanTables.{one_joins}
+use Rattle.lb_base.proofs.Ranges.{one_joins}
 use Rattle.lb_domain.specs.Steps.{leads}
 use Rattle.lb_domain.proofs.ring.leaders.Goals as goal
 

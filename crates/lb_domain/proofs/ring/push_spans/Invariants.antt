@@ -1,14 +1,15 @@
 use Rattle.std.proofs.Common.{◌≡◌, ◌-◌, ◌++◌, map}
+use Rattle.lb_base.specs.declared.mask.TheConstants.{MAX_CPUS}
 use Rattle.lb_base.specs.Mask.{members_below}
 use Rattle.lb_domain.specs.Steps.{step_span}
-use Rattle.lb_domain.proofs.Rings.{place, IsNext}
+use Rattle.lb_base.proofs.Walks.{passed, Stands}
 use Rattle.lb_domain.proofs.ring.push_spans.Given as goal
 
 abbrev pub invariant-loop-next : goal.invariant-loop-next
 invariant-loop-next l = record {
-  next : IsNext l.leaders l.next;
-  pushed : l.groups ≡ l.initial.groups ++ map (step_span l.machine.cpus l.machine.distances l.part l.step) (members_below l.leaders (place l.next));
+  next : Stands l.leaders l.next;
+  pushed : l.groups ≡ l.initial.groups ++ map (step_span l.machine.cpus l.machine.distances l.part l.step) (members_below l.leaders (passed l.next));
 }
 
 abbrev pub decreases-loop-next : goal.decreases-loop-next
-decreases-loop-next l = 64 - place l.next
+decreases-loop-next l = MAX_CPUS - passed l.next
