@@ -11,7 +11,7 @@ use Rattle.lb_base.specs.Mask.{has}
 use Rattle.lb_base.specs.Figures.{fig_at}
 use Rattle.lb_busiest.specs.Sources.{value_of, may_be_source, has_more, source_of}
 use Rattle.lb_base.specs.Greatest.{IsRanking, Picks}
-use Rattle.lb_base.proofs.Searches.{first_greatest_picks, picks_first_greatest}
+use Rattle.lb_base.proofs.Greatest.{first_greatest_picks, picks_first_greatest}
 use Rattle.lb_base.specs.declared.mask.TheConstants.{MAX_CPUS}
 use Rattle.lb_busiest.specs.Ranking.{busiest_of, may_be_busiest, rank, is_busier_within, is_busier, stats_at, is_busier_at}
 

@@ -3,9 +3,10 @@
 use Rattle.std.proofs.Common.{◌≡◌, ℕ, zero, suc, ◌+◌, ◌-◌, ◌<◌, ◌≤◌, Bool, true, false, Option, Some, None, MatchOption, subst, arith}
 use Rattle.lb_base.specs.declared.mask.Mask.{Mask}
 use Rattle.lb_base.specs.declared.mask.TheConstants.{MAX_CPUS}
-use Rattle.lb_base.specs.Mask.{has, HasNoneFrom, IsFirstFrom}
+use Rattle.lb_base.specs.Mask.{has}
 use Rattle.lb_base.specs.Greatest.{Picks}
-use Rattle.lb_base.proofs.Trial.{Picks-skips}
+use Rattle.lb_base.proofs.Greatest.{Picks-skips}
+use Rattle.lb_base.proofs.Walks.{Finds}
 
 -- the walk stands at c, and the best of the CPUs before it is held
 pub record StandsAt (p : ℕ → Bool) (above : ℕ → ℕ → Bool) (m : Mask) (best : Option ℕ) (c : ℕ) : Type 0 where
@@ -21,10 +22,6 @@ Walks p above m best next = MatchOption next (Picks p above MAX_CPUS best) (Stan
 abbrev pub left : Option ℕ → ℕ
 left None = 0
 left (Some c) = MAX_CPUS - c
-
--- a step from n on finds the next CPU
-abbrev pub Finds : Mask → ℕ → Option ℕ → Type 0
-Finds m n next = MatchOption next (HasNoneFrom m n) (λ c. IsFirstFrom m n c)
 
 pub left_falls : (m : Mask) (c : ℕ) (next : Option ℕ) → c < MAX_CPUS → Finds m (c + 1) next → left next < MAX_CPUS - c
 left_falls m c None room found = omega arith

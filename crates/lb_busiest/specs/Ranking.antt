@@ -6,7 +6,7 @@ use Rattle.std.specs.List.{slice_index_or}
 use Rattle.lb_base.specs.declared.group.Stats.{Stats}
 use Rattle.lb_base.specs.declared.group.GroupType.{GroupType}
 use Rattle.lb_base.specs.declared.group.GroupType.TheVariants.{HasSpare, FullyBusy, Imbalanced, Overloaded}
-use Rattle.lb_base.specs.Greatest.{IsFirstGreatest, first_greatest}
+use Rattle.lb_base.specs.Greatest.{Picks, first_greatest}
 
 -- the types rise
 abbrev pub rank : GroupType → ℕ
@@ -44,9 +44,9 @@ may_be_busiest stats i = nat_lt 0 i && nat_lt 0 (stats_at stats i).nr
 unfoldable pub is_busier_at : List Stats → ℕ → ℕ → Bool
 is_busier_at stats i j = is_busier (stats_at stats i) (stats_at stats j)
 
--- b is the busiest group
-abbrev pub IsBusiest : List Stats → ℕ → Type 0
-IsBusiest stats b = IsFirstGreatest (may_be_busiest stats) (is_busier_at stats) (length stats) b
+-- the answer is the busiest group, or none where no group may be it
+abbrev pub AnswersBusiest : List Stats → Option ℕ → Type 0
+AnswersBusiest stats o = Picks (may_be_busiest stats) (is_busier_at stats) (length stats) o
 
 -- the busiest group, or none where no group may be it
 unfoldable pub busiest_of : List Stats → Option ℕ

@@ -9,7 +9,7 @@ use Rattle.lb_base.specs.declared.view.MoveKind.{MoveKind}
 use Rattle.lb_base.specs.declared.view.MoveKind.TheVariants.{Load, Util, Tasks}
 use Rattle.lb_base.specs.Mask.{has}
 use Rattle.lb_base.specs.Figures.{fig_at}
-use Rattle.lb_base.specs.Greatest.{IsFirstGreatest, first_greatest}
+use Rattle.lb_base.specs.Greatest.{Picks, first_greatest}
 
 -- how much a CPU has of what is to move
 abbrev pub value_of : MoveKind → Fig → ℕ
@@ -33,10 +33,9 @@ may_be_source figs group kind imbalance cpu =
 unfoldable pub has_more : List Fig → MoveKind → ℕ → ℕ → Bool
 has_more figs kind i j = nat_lt (value_of kind (fig_at figs j)) (value_of kind (fig_at figs i))
 
--- the CPU is the source queue
-abbrev pub IsSource : List Fig → Mask → MoveKind → ℕ → ℕ → Type 0
-IsSource figs group kind imbalance cpu =
-    IsFirstGreatest (may_be_source figs group kind imbalance) (has_more figs kind) MAX_CPUS cpu
+-- the answer is the source queue, or none where no CPU may be it
+abbrev pub AnswersSource : List Fig → Mask → MoveKind → ℕ → Option ℕ → Type 0
+AnswersSource figs group kind imbalance o = Picks (may_be_source figs group kind imbalance) (has_more figs kind) MAX_CPUS o
 
 -- the source queue, or none where no CPU may be it
 unfoldable pub source_of : List Fig → Mask → MoveKind → ℕ → Option ℕ

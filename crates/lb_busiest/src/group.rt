@@ -1,6 +1,6 @@
-ghost use Rattle.std.specs.Prelude.{◌≡◌, ◌+◌, ◌<◌, length, MatchOption};
-ghost use Rattle.lb_base.specs.Greatest.{NonePasses, Picks};
-ghost use Rattle.lb_busiest.specs.Ranking.{busiest_of, is_busier, is_busier_at, may_be_busiest, rank, IsBusiest};
+ghost use Rattle.std.specs.Prelude.{◌≡◌, ◌+◌, ◌<◌, length};
+ghost use Rattle.lb_base.specs.Greatest.{Picks};
+ghost use Rattle.lb_busiest.specs.Ranking.{busiest_of, is_busier, is_busier_at, may_be_busiest, rank, AnswersBusiest};
 
 use lb_base::{GroupType, Stats};
 
@@ -10,7 +10,7 @@ use lb_base::{GroupType, Stats};
 /// The local group stands at place 0, and the others follow in ring order.
 pub fn busiest(stats: &[Stats]) -> Option<usize>
     ensures value { result ≡ busiest_of stats.now }
-    ensures first { MatchOption result (NonePasses (may_be_busiest stats.now) (length stats.now)) (IsBusiest stats.now) }
+    ensures first { AnswersBusiest stats.now result }
 {
     let mut best = None;
     for i in 0..stats.len() {

@@ -1,7 +1,7 @@
-ghost use Rattle.std.specs.Prelude.{◌≡◌, ◌+◌, ◌<◌, MatchOption};
+ghost use Rattle.std.specs.Prelude.{◌≡◌, ◌+◌, ◌<◌};
 ghost use Rattle.lb_base.specs.Figures.{AllHaveFigures};
-ghost use Rattle.lb_base.specs.Greatest.{NonePasses, Picks};
-ghost use Rattle.lb_busiest.specs.Sources.{can_give, has_more, may_be_source, source_of, value_of, IsSource};
+ghost use Rattle.lb_base.specs.Greatest.{Picks};
+ghost use Rattle.lb_busiest.specs.Sources.{can_give, has_more, may_be_source, source_of, value_of, AnswersSource};
 
 use lb_base::{Fig, MAX_CPUS, Mask, MoveKind};
 
@@ -12,7 +12,7 @@ use lb_base::{Fig, MAX_CPUS, Mask, MoveKind};
 pub fn source(figs: &[Fig], group: Mask, kind: MoveKind, imbalance: u64) -> Option<u32>
     requires { AllHaveFigures figs.now group }
     ensures value { result ≡ source_of figs.now group kind imbalance }
-    ensures first { MatchOption result (NonePasses (may_be_source figs.now group kind imbalance) MAX_CPUS) (IsSource figs.now group kind imbalance) }
+    ensures first { AnswersSource figs.now group kind imbalance result }
 {
     let mut best = None;
     let mut next = group.first();

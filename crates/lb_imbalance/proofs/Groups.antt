@@ -1,5 +1,5 @@
 -- The groups of a domain without the excluded CPUs: each has figures and small sums, and the local
--- one keeps its CPU.
+-- one keeps its CPU. For callers too.
 use Rattle.std.proofs.Common.{◌≡◌, ℕ, ◌-◌, ◌^◌, ◌<◌, true, false, eqb, w64, List, [], ◌∷◌, length, get_or, sym, ◌∙◌, ap, arith, inl, inr}
 use Rattle.std.specs.Prelude.{All}
 use Rattle.std.proofs.lemmas.Bool.{eqb-false, and_parts, and_from, both_ways, cases_lt}

@@ -7,7 +7,7 @@ use Rattle.lb_base.specs.declared.figure.Fig.{Fig}
 use Rattle.lb_base.specs.Mask.{has}
 use Rattle.lb_base.specs.Figures.{fig_at}
 use Rattle.lb_base.proofs.Ranges.{find_none, find_least}
-use Rattle.lb_stats.proofs.Walk.{passed, IsAt, Finds}
+use Rattle.lb_base.proofs.Walks.{passed, IsAt, Finds}
 use Rattle.lb_imbalance.specs.Destination.{is_idle_in, first_idle}
 
 -- no CPU below n is an idle one of the group

@@ -1,17 +1,15 @@
 -- The decision in words of relations: there is a busiest group or none, and a source queue or
 -- none, and the answer follows from these two and from what the balance test and the imbalance say
 -- of the statistics.
-use Rattle.std.specs.Prelude.{ℕ, ◌≡◌, ◌==◌, Bool, Option, Some, None, MatchOption, MatchBool, List, length}
+use Rattle.std.specs.Prelude.{ℕ, ◌≡◌, ◌==◌, Bool, Option, Some, None, MatchBool, List}
 use Rattle.lb_base.specs.declared.mask.Mask.{Mask}
-use Rattle.lb_base.specs.declared.mask.TheConstants.{MAX_CPUS}
 use Rattle.lb_base.specs.declared.figure.Fig.{Fig}
 use Rattle.lb_base.specs.declared.group.Stats.{Stats}
 use Rattle.lb_base.specs.declared.shape.Shape.{Shape}
 use Rattle.lb_base.specs.declared.shape.Kind.{Kind}
 use Rattle.lb_base.specs.Mask.{without}
-use Rattle.lb_base.specs.Greatest.{NonePasses}
-use Rattle.lb_busiest.specs.Ranking.{stats_at, may_be_busiest, IsBusiest}
-use Rattle.lb_busiest.specs.Sources.{may_be_source, IsSource}
+use Rattle.lb_busiest.specs.Ranking.{stats_at, AnswersBusiest}
+use Rattle.lb_busiest.specs.Sources.{AnswersSource}
 use Rattle.lb_imbalance.specs.declared.decision.Decision.{Decision}
 use Rattle.lb_imbalance.specs.declared.decision.Decision.TheVariants.{NotMine, Balanced, Pull}
 use Rattle.lb_imbalance.specs.declared.imbalance.Imbalance.{Imbalance}
@@ -28,7 +26,7 @@ IsPullFrom imbalance (Some cpu) d = d ≡ Pull cpu imbalance.kind imbalance.amou
 -- an imbalance is pulled from the source queue of a group
 pub record IsPull (figs : List Fig) (group : Mask) (imbalance : Imbalance) (d : Decision) : Type 0 where
   pub source : Option ℕ
-  pub chosen : MatchOption source (NonePasses (may_be_source figs group imbalance.kind imbalance.amount) MAX_CPUS) (IsSource figs group imbalance.kind imbalance.amount)
+  pub chosen : AnswersSource figs group imbalance.kind imbalance.amount source
   pub answer : IsPullFrom imbalance source d
 
 -- an imbalance of 0 is none
@@ -45,7 +43,7 @@ FollowsBusiest shape groups figs busy excluded stats (Some b) d =
 -- the decision of a CPU that may balance follows from the busiest group
 pub record IsChoice (shape : Shape) (groups : List Mask) (figs : List Fig) (busy : Bool) (excluded : Mask) (stats : List Stats) (d : Decision) : Type 0 where
   pub busiest : Option ℕ
-  pub chosen : MatchOption busiest (NonePasses (may_be_busiest stats) (length stats)) (IsBusiest stats)
+  pub chosen : AnswersBusiest stats busiest
   pub answer : FollowsBusiest shape groups figs busy excluded stats busiest d
 
 -- the decision

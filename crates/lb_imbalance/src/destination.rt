@@ -5,7 +5,8 @@ ghost use Rattle.lb_imbalance.specs.Destination.{balancer_of, first_idle, is_bus
 
 use lb_base::{Fig, Kind, MAX_CPUS, Mask};
 
-/// Whether the destination has tasks, and did not become idle just now.
+/// Whether the destination has tasks, and did not become idle just now (docs/rules/decision.md).
+/// `figs` has the figure of each CPU, from CPU 0.
 pub fn busy(kind: Kind, figs: &[Fig], cpu: u32) -> bool
     requires { cpu < length figs.now }
     ensures { result ≡ is_busy kind figs.now cpu }

@@ -11,3 +11,4 @@ mod levels;
 mod tests;
 
 pub use decision::{Decision, decide};
+pub use destination::busy;

@@ -4,8 +4,8 @@
 ghost use Rattle.std.specs.Prelude.{◌≡◌, ℕ, ◌&&◌};
 ghost use Rattle.lb_base.specs.Mask.{has};
 ghost use Rattle.lb_base.specs.Sets.{least};
-ghost use Rattle.lb_base.specs.Figures.{fig_at, AllHaveFigures};
-ghost use Rattle.lb_nohz.specs.Kick.{is_tickless, tickless_cpus};
+ghost use Rattle.lb_base.specs.Figures.{fig_at, AllHaveFigures, is_tickless};
+ghost use Rattle.lb_nohz.specs.Kick.{tickless_cpus};
 
 use lb_base::{Fig, MAX_CPUS, Mask};
 
@@ -35,7 +35,7 @@ pub fn turns(figs: &[Fig], span: Mask) -> Mask
 }
 
 // The tickless flag is bit 0 of a figure's flags.
-#[tactic(auto, unfolding(crate::specs::Kick::is_tickless))]
+#[tactic(auto, unfolding(lb_base::specs::Figures::is_tickless))]
 fn tickless(fig: &Fig) -> bool
     ensures { result ≡ is_tickless fig.now }
 {

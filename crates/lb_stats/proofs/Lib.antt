@@ -1,3 +1,2 @@
 pub mod Flags
-pub mod Walk
 pub mod Running

@@ -11,7 +11,7 @@ use Rattle.lb_base.specs.Figures.{fig_at, total}
 use Rattle.lb_base.proofs.Members.{sum_members_fits}
 use Rattle.lb_stats.specs.declared.statistics.Sums.{Sums}
 use Rattle.lb_stats.specs.Statistics.{is_idle, is_marked, idle_count, any_marked}
-use Rattle.lb_stats.proofs.Walk.{IsAt}
+use Rattle.lb_base.proofs.Walks.{IsAt}
 
 pub record IsSumOver (position : ℕ) (figs : List Fig) (cpus : List ℕ) (s : Sums) : Type 0 where
   pub nr : s.nr ≡ sum_by (λ cpu. (fig_at figs cpu).nr) cpus

@@ -1,10 +1,10 @@
 use Rattle.std.proofs.Common.{◌≡◌, ◌^◌, ◌<◌, ◌&&◌, arith, rules, sym, ◌∙◌, inl, inr}
 use Rattle.std.proofs.lemmas.Bool.{cases_lt, lt-ltb, le-ltb, and_left}
 use Rattle.lb_base.specs.Mask.{has}
-use Rattle.lb_base.specs.Figures.{fig_at}
+use Rattle.lb_base.specs.Figures.{fig_at, is_tickless}
 use Rattle.lb_base.proofs.Members.{has_above, same_mask}
-use Rattle.lb_base.proofs.Where.{mask_where_has}
-use Rattle.lb_nohz.specs.Kick.{is_tickless, tickless_cpus}
+use Rattle.lb_base.proofs.Sets.{mask_where_has}
+use Rattle.lb_nohz.specs.Kick.{tickless_cpus}
 use Rattle.lb_nohz.proofs.turns.Goals as goal
 
 pub returns-clause-value : goal.returns-clause-value

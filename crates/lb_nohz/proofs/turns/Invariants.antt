@@ -1,7 +1,6 @@
 use Rattle.std.proofs.Common.{◌≡◌, ℕ, nat_lt, ◌&&◌}
 use Rattle.lb_base.specs.Mask.{has}
-use Rattle.lb_base.specs.Figures.{fig_at}
-use Rattle.lb_nohz.specs.Kick.{is_tickless}
+use Rattle.lb_base.specs.Figures.{fig_at, is_tickless}
 use Rattle.lb_nohz.proofs.turns.Given as goal
 
 abbrev pub invariant-loop-cpu : goal.invariant-loop-cpu

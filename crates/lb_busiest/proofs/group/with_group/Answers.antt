@@ -1,5 +1,5 @@
 use Rattle.std.proofs.Common.{rules, sym, ◌∙◌}
-use Rattle.lb_base.proofs.Trial.{Picks-first, Picks-takes}
+use Rattle.lb_base.proofs.Greatest.{Picks-first, Picks-takes}
 use Rattle.lb_busiest.proofs.Order.{busier_ranking}
 use Rattle.lb_busiest.proofs.group.with_group.Goals as goal
 

@@ -1,5 +1,5 @@
 use Rattle.std.proofs.Common.{◌+◌, arith}
-use Rattle.lb_stats.proofs.Walk.{stands, IsAt}
+use Rattle.lb_base.proofs.Walks.{stands, IsAt}
 use Rattle.lb_imbalance.proofs.Idle.{none_passed, none_more, first_idle_none, first_idle_some, NoneIdle}
 use Rattle.lb_imbalance.proofs.destination.first_idle.Goals as goal
 use Rattle.lb_imbalance.proofs.destination.first_idle.Goals.{In-Some}

@@ -1,6 +1,6 @@
 use Rattle.std.proofs.Common.{◌-◌}
 use Rattle.lb_base.specs.declared.mask.TheConstants.{MAX_CPUS}
-use Rattle.lb_stats.proofs.Walk.{passed, Stands}
+use Rattle.lb_base.proofs.Walks.{passed, Stands}
 use Rattle.lb_imbalance.proofs.Idle.{NoneIdle}
 use Rattle.lb_imbalance.proofs.destination.first_idle.Given as goal
 

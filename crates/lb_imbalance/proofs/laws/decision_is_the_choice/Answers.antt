@@ -1,8 +1,12 @@
-use Rattle.lb_imbalance.proofs.Chosen.{is_decision, only_decision}
+use Rattle.lb_imbalance.proofs.Chosen.{Laws, is_decision, only_decision}
 use Rattle.lb_imbalance.proofs.laws.decision_is_the_choice.Goals as goal
 
-pub returns-clause-holds : goal.returns-clause-holds
-returns-clause-holds c = is_decision
-
-pub returns-clause-unique : goal.returns-clause-unique
-returns-clause-unique c = only_decision
+pub returns : goal.returns
+returns c =
+    let laws : Laws = record {
+      group_found = c.busiest_group.ensures.found;
+      group_unique = c.busiest_group.ensures.unique;
+      source_found = c.source_queue.ensures.found;
+      source_unique = c.source_queue.ensures.unique;
+    } in
+    record { holds = is_decision laws; unique = only_decision laws }

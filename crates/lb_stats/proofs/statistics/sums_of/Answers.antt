@@ -4,7 +4,7 @@ use Rattle.lb_base.specs.Mask.{members_below}
 use Rattle.lb_base.specs.Figures.{fig_at}
 use Rattle.lb_base.proofs.Members.{members_all}
 use Rattle.lb_stats.specs.Statistics.{is_idle}
-use Rattle.lb_stats.proofs.Walk.{stands, comes_further, walk_starts, walk_steps, IsAt}
+use Rattle.lb_base.proofs.Walks.{stands, comes_further, walk_starts, walk_steps, IsAt}
 use Rattle.lb_stats.proofs.Running.{sums_more, fits, one_at_most, all_summed, IsSumOver}
 use Rattle.lb_stats.proofs.statistics.sums_of.Goals as goal
 use Rattle.lb_stats.proofs.statistics.sums_of.Goals.{In-Some}

@@ -1,7 +1,7 @@
 use Rattle.std.proofs.Common.{◌≤◌, ◌-◌}
 use Rattle.lb_base.specs.declared.mask.TheConstants.{MAX_CPUS}
 use Rattle.lb_base.specs.Mask.{members_below}
-use Rattle.lb_stats.proofs.Walk.{passed, Stands}
+use Rattle.lb_base.proofs.Walks.{passed, Stands}
 use Rattle.lb_stats.proofs.Running.{IsSumOver}
 use Rattle.lb_stats.proofs.statistics.sums_of.Given as goal
 
