@@ -3,6 +3,7 @@
 use Rattle.std.specs.Prelude.{ℕ, Bool, List, ◌||◌, ◌==◌}
 use Rattle.std.specs.Char.{is_ascii_digit, is_ascii_lowercase}
 use Rattle.std.specs.List.{list_all, slice_split}
+use Rattle.lb_text.specs.declared.marks.TheConstants.{COMMA, SEMICOLON, MINUS}
 
 -- the parts of a text between the bytes that are this mark
 abbrev pub parts : ℕ → List ℕ → List (List ℕ)
@@ -10,7 +11,7 @@ parts mark text = slice_split (λ byte. byte == mark) text
 
 -- a digit, a letter from `a` to `z`, a comma, `;` or `-`
 abbrev pub is_plain_byte : ℕ → Bool
-is_plain_byte byte = is_ascii_digit byte || is_ascii_lowercase byte || byte == 44 || byte == 59 || byte == 45
+is_plain_byte byte = is_ascii_digit byte || is_ascii_lowercase byte || byte == COMMA || byte == SEMICOLON || byte == MINUS
 
 abbrev pub is_plain : List ℕ → Bool
 is_plain line = list_all is_plain_byte line

@@ -8,10 +8,19 @@ use Rattle.csv.specs.declared.reader.Trim.TheVariants as trim
 use Rattle.csv.specs.declared.parser.Config.{Config}
 use Rattle.csv.specs.declared.parser.Terminator.TheVariants as terminators
 use Rattle.csv.specs.declared.parser.State.TheVariants as states
+use Rattle.lb_text.specs.declared.marks.TheConstants.{COMMA, LINE_FEED}
 
 -- fields end at commas and lines at line feeds, and no byte is a quote
 abbrev pub plain_config : Config
-plain_config = record { delimiter = 44; quote = 34; escape = None; double_quote = true; quoting = false; comment = None; terminator = terminators.Any 10 }
+plain_config = record {
+  delimiter = COMMA;
+  quote = 34;
+  escape = None;
+  double_quote = true;
+  quoting = false;
+  comment = None;
+  terminator = terminators.Any LINE_FEED;
+}
 
 -- the reader is at the start of a line, and this text is left; lines may differ in how many fields
 -- they have, and no field is trimmed

@@ -6,6 +6,7 @@ ghost use Rattle.lb_fields.specs.Standing.{Stands};
 
 use csv::{ByteRecord, Reader, ReaderBuilder, Terminator};
 use lb_base::NoMemory;
+use lb_text::{COMMA, LINE_FEED};
 use std::alloc::Global;
 
 /// A reader of the fields of a text's lines, which stands at the start of the first one.
@@ -14,14 +15,14 @@ use std::alloc::Global;
 /// reader has the whole text before it wherever the first line is plain.
 pub fn start<'a>(alloc: Global, text: &'a [u8]) -> Reader<&'a [u8]>
     ensures unmarked { strip_bom text.now ≡ text.now → Stands result text.now }
-    ensures plain { (line : List ℕ) (lines : List (List ℕ)) → parts 10 text.now ≡ line ∷ lines
+    ensures plain { (line : List ℕ) (lines : List (List ℕ)) → parts LINE_FEED text.now ≡ line ∷ lines
         → is_plain line ≡ true → Stands result text.now }
 {
     ReaderBuilder::new()
         .has_headers(false)
         .flexible(true)
         .quoting(false)
-        .terminator(Terminator::Any(b'\n'))
+        .terminator(Terminator::Any(LINE_FEED))
         .from_reader(alloc, text)
 }
 
@@ -40,8 +41,8 @@ pub fn next_fields(
 ) -> Result<(), NoMemory>
     requires full { line.now ≢ [] }
     requires plain { is_plain line.now ≡ true }
-    ensures { (tail : List ℕ) → Stands reader.old (line.now ++ 10 ∷ tail)
-        → OnOk result ((fields_of row.new ≡ parts 44 line.now) × Stands reader.new tail) }
+    ensures { (tail : List ℕ) → Stands reader.old (line.now ++ LINE_FEED ∷ tail)
+        → OnOk result ((fields_of row.new ≡ parts COMMA line.now) × Stands reader.new tail) }
 {
     match reader.read_byte_record(row) {
         Ok(_) => Ok(()),

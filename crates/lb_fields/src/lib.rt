@@ -8,6 +8,3 @@ mod plain;
 pub use fields::{next_fields, start};
 pub use lb_text::Parts;
 pub use plain::is_plain;
-
-#[cfg(test)]
-mod tests;

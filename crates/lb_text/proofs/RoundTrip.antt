@@ -1,4 +1,4 @@
--- Why what is written is read back.
+-- Why what is written is read back. What reads lists of CPUs cites `lists_fit`.
 use Rattle.std.proofs.Common.{◌≡◌, ℕ, zero, suc, ◌+◌, ◌-◌, ◌<◌, ◌≤◌, ◌^◌, Bool, true, false, ◌&&◌, ◌||◌, eqb, leb, cond, Option, None, add-one, List, [], ◌∷◌, length, map, Some, refl, sym, ap, subst, ◌∙◌, inl, inr, ◌⊎◌, arith, length-append}
 use Rattle.std.specs.Prelude.{decimal, is_some}
 use Rattle.std.specs.Option.{option_map}
@@ -13,8 +13,8 @@ use Rattle.lb_base.specs.declared.mask.TheConstants.{MAX_CPUS}
 use Rattle.lb_base.specs.Mask.{has, members, members_below, no_cpus}
 use Rattle.lb_base.proofs.Members.{same_mask, has_above}
 use Rattle.lb_text.specs.Lists.{Run, run_has, item_of, items_of, list_of, mask_of_runs}
-use Rattle.lb_base.proofs.Where.{mask_where_has}
-use Rattle.lb_base.proofs.Members.{range_more}
+use Rattle.lb_base.proofs.Sets.{mask_where_has}
+use Rattle.lb_base.proofs.Ranges.{range_more}
 use Rattle.lb_base.specs.Sets.{mask_where}
 use Rattle.std.proofs.lemmas.List.Sums.{sum_by_push}
 use Rattle.std.proofs.Math.Nat.{pow-suc}

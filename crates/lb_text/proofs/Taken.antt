@@ -12,7 +12,7 @@ use Rattle.lb_text.specs.Lists.{item_of, is_item, items_of, list_of, is_list, ma
 use Rattle.lb_base.specs.declared.mask.Mask.{Mask}
 use Rattle.lb_base.specs.Mask.{has, no_cpus}
 use Rattle.lb_base.proofs.Members.{same_mask, has_above}
-use Rattle.lb_base.proofs.Where.{mask_where_has}
+use Rattle.lb_base.proofs.Sets.{mask_where_has}
 use Rattle.lb_text.specs.Numbers.{number_within}
 use Rattle.lb_text.proofs.Items.{split_front, go_item, item_free, none_from, IsBadItem}
 use Rattle.lb_text.proofs.Places.{IsPlaced, first_bad_placed}

@@ -4,13 +4,14 @@ use Rattle.std.specs.Prelude.{ℕ, Bool, not, ◌&&◌, ◌||◌, ◌==◌, nat_
 use Rattle.std.specs.Option.{option_map}
 use Rattle.std.specs.Str.{all_ascii_digits}
 use Rattle.std.specs.Str.Parse.{digits_value, starts_with_minus}
+use Rattle.lb_text.specs.declared.marks.TheConstants.{ZERO}
 
 -- the text is `0`, or digits of which the first is not 0
 abbrev pub is_numeral : List ℕ → Bool
 is_numeral text =
     not (length text == 0)
     && all_ascii_digits text
-    && (length text == 1 || not (slice_index text 0 == 48))
+    && (length text == 1 || not (slice_index text 0 == ZERO))
 
 -- the number from `least` to `most` that the text spells
 unfoldable pub number_within : ℕ → ℕ → List ℕ → Option ℕ

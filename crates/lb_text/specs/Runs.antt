@@ -6,6 +6,7 @@ use Rattle.std.specs.List.{join_with_byte}
 use Rattle.lb_base.specs.declared.mask.Mask.{Mask}
 use Rattle.lb_base.specs.Mask.{members}
 use Rattle.lb_base.specs.Sets.{is_empty}
+use Rattle.lb_text.specs.declared.marks.TheConstants.{MINUS, SEMICOLON}
 use Rattle.lb_text.specs.Lists.{Run}
 
 -- a CPU before runs: it joins the first of them where that begins right above it
@@ -19,15 +20,15 @@ runs_of [] = []
 runs_of (cpu ∷ cpus) = onto_run cpu (runs_of cpus)
 
 abbrev pub run_text : Run → List ℕ
-run_text run = if run.0 == run.1 then decimal run.0 else decimal run.0 ++ 45 ∷ decimal run.1
+run_text run = if run.0 == run.1 then decimal run.0 else decimal run.0 ++ MINUS ∷ decimal run.1
 
 -- the CPUs of a mask; nothing where there are none
 unfoldable pub runs_text : Mask → List ℕ
-runs_text mask = join_with_byte 59 (map run_text (runs_of (members mask)))
+runs_text mask = join_with_byte SEMICOLON (map run_text (runs_of (members mask)))
 
 -- the same, with `-` where there are none
 unfoldable pub list_text : Mask → List ℕ
-list_text mask = if is_empty mask then 45 ∷ [] else runs_text mask
+list_text mask = if is_empty mask then MINUS ∷ [] else runs_text mask
 
 -- each run ends where or after it begins, and the next one begins more than one CPU after it
 abbrev pub AreMaximal : List Run → Type 0

@@ -2,6 +2,7 @@
 -- that one byte more makes of it.
 use Rattle.std.specs.Prelude.{◌≡◌, ℕ, ◌+◌, ◌-◌, ◌*◌, ◌<◌, ◌^◌, ◌==◌, ◌&&◌, not, nat_le, if◌then◌else◌, List, [], Option, Some, None, decimal}
 use Rattle.std.specs.Char.{is_ascii_digit}
+use Rattle.lb_text.specs.declared.marks.TheConstants.{ZERO}
 
 -- the digits so far, and the number that they spell
 abbrev pub Spelled : Option ℕ → List ℕ → Type 0
@@ -10,6 +11,6 @@ Spelled (Some n) text = (text ≡ decimal n) × (n < 2 ^ 64)
 
 -- the number up to `most` with one byte more; no digit follows a leading 0
 abbrev pub number_with : ℕ → Option ℕ → ℕ → Option ℕ
-number_with most None b = if is_ascii_digit b && nat_le (b - 48) most then Some (b - 48) else None
+number_with most None b = if is_ascii_digit b && nat_le (b - ZERO) most then Some (b - ZERO) else None
 number_with most (Some n) b =
-    if is_ascii_digit b && not (n == 0) && nat_le (n * 10 + (b - 48)) most then Some (n * 10 + (b - 48)) else None
+    if is_ascii_digit b && not (n == 0) && nat_le (n * 10 + (b - ZERO)) most then Some (n * 10 + (b - ZERO)) else None

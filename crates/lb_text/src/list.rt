@@ -4,6 +4,7 @@ ghost use Rattle.lb_text.specs.Lists.{item_of, is_item, list_of, is_list};
 ghost use Rattle.lb_text.specs.Prefixes.{IsFirstBad};
 
 use crate::bad_text::BadText;
+use crate::marks::{MINUS, SEMICOLON};
 use crate::number::{number_of, number_within};
 use crate::parts::Parts;
 use lb_base::{MAX_CPUS, Mask};
@@ -23,10 +24,10 @@ fn run_of(first: u32, last: u32) -> Mask
 // The place of the first `-`.
 fn dash_of(item: &[u8]) -> Option<usize>
     ensures { MatchOption result
-        (All (λ b. (b == 45) ≡ false) item.now)
-        (λ i. (i < length item.now) × All (λ b. (b == 45) ≡ false) (take i item.now) × (item.now ≡ take i item.now ++ 45 ∷ drop (i + 1) item.now)) }
+        (All (λ b. (b == MINUS) ≡ false) item.now)
+        (λ i. (i < length item.now) × All (λ b. (b == MINUS) ≡ false) (take i item.now) × (item.now ≡ take i item.now ++ MINUS ∷ drop (i + 1) item.now)) }
 {
-    item.iter().position(|b| *b == b'-')
+    item.iter().position(|b| *b == MINUS)
 }
 
 // The first and the last CPU that an item of a list names.
@@ -64,7 +65,7 @@ pub fn list_of(text: &[u8]) -> Result<Mask, BadText>
         return Ok(mask);
     }
     let mut start = 0;
-    let mut items = Parts::new(text, b';');
+    let mut items = Parts::new(text, SEMICOLON);
     while let Some(item) = items.next_part() {
         let (first, last) = match item_of(item) {
             Ok(run) => run,

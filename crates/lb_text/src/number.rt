@@ -5,6 +5,7 @@ ghost use Rattle.std.specs.Str.Parse.{starts_with_minus};
 ghost use Rattle.lb_text.specs.Scan.{Spelled, number_with};
 
 use crate::bad_text::BadText;
+use crate::marks::{MINUS, ZERO};
 
 // Whether some number from `least` to `most` begins with the digits of `value`.
 fn leads(value: u64, mut least: u64, mut most: u64) -> bool
@@ -28,7 +29,7 @@ fn with_digit(so_far: Option<u64>, byte: u8, most: u64) -> Option<u64>
     if !byte.is_ascii_digit() {
         return None;
     }
-    let digit = u64::from(byte - b'0');
+    let digit = u64::from(byte - ZERO);
     let next = match so_far {
         None => u128::from(digit),
         Some(0) => return None,
@@ -95,9 +96,9 @@ pub fn number_of(text: &[u8], max: u64) -> Result<u64, BadText>
 
 // What follows a minus sign.
 fn behind_minus(text: &[u8]) -> Option<&[u8]>
-    ensures { MatchOption result (starts_with_minus text.now ≡ false) (λ digits. text.now ≡ 45 ∷ digits.now) }
+    ensures { MatchOption result (starts_with_minus text.now ≡ false) (λ digits. text.now ≡ MINUS ∷ digits.now) }
 {
-    if text.is_empty() || text[0] != b'-' {
+    if text.is_empty() || text[0] != MINUS {
         return None;
     }
     Some(&text[1..])
