@@ -7,14 +7,14 @@ use Rattle.std.proofs.lemmas.Bool.{cases_lt, and_parts, and_from, or_parts, lt-l
 use Rattle.std.proofs.lemmas.Nat.{pow_pos}
 use Rattle.std.proofs.Math.Pow.{pow_mono}
 use Rattle.lb_base.specs.declared.mask.Mask.{Mask}
+use Rattle.lb_base.specs.declared.mask.TheConstants.{MAX_CPUS}
 use Rattle.lb_base.specs.Mask.{has, first_cpus}
 use Rattle.lb_base.specs.Sets.{is_below}
 use Rattle.lb_base.proofs.Bits.{bit_set_ones}
 use Rattle.lb_fields.specs.Parts.{is_plain}
 use Rattle.lb_levels.specs.Faults.{nodes_of}
-use Rattle.lb_levels.proofs.FaultOrder.{no_fault_from as machine_from}
-use Rattle.lb_levels.proofs.MaskTests.{members_all}
-use Rattle.lb_levels.proofs.Overlaps.{no_fault_from}
+use Rattle.lb_levels.proofs.NoFault.{no_fault_from_machine, no_fault_from_partition}
+use Rattle.lb_base.proofs.Sets.{all_members}
 use Rattle.lb_trace.specs.declared.trace.TheConstants.{MAX_BYTES}
 use Rattle.lb_trace.specs.declared.trace.Code.{Code}
 use Rattle.lb_trace.specs.declared.trace.Trace.{Trace}
@@ -83,22 +83,23 @@ none_is (Some x) e = absurd (cc)
 -- the mask of all CPUs is a partition
 all_below : (cpus : ℕ) → is_below (first_cpus cpus) cpus ≡ true
 unfolding first_cpus is_below has
-all_below cpus = members_all (λ k. nat_lt k cpus) (first_cpus cpus) (λ k lt there. sym (bit_set_ones cpus k) ∙ there)
+all_below cpus = all_members (λ k. nat_lt k cpus) (first_cpus cpus) (λ k lt there. sym (bit_set_ones cpus k) ∙ there)
 
-all_fit : (cpus : ℕ) → cpus ≤ 64 → is_mask (first_cpus cpus) ≡ true
+all_fit : (cpus : ℕ) → cpus ≤ MAX_CPUS → is_mask (first_cpus cpus) ≡ true
 unfolding first_cpus
 all_fit cpus few = lt-ltb (2 ^ cpus - 1) (2 ^ 64) (omega (arith, pow_mono few, pow_pos cpus))
 
-all_cpus : (cpus : ℕ) → cpus ≤ 64 → is_partition cpus (first_cpus cpus ∷ []) ≡ true
+all_cpus : (cpus : ℕ) → cpus ≤ MAX_CPUS → is_partition cpus (first_cpus cpus ∷ []) ≡ true
 all_cpus cpus few =
-    let fine = no_fault_from cpus (first_cpus cpus ∷ []) (record { below = and_from _ _ (all_below cpus) refl; apart = refl }) in
+    let fine = no_fault_from_partition cpus (first_cpus cpus ∷ []) (record { below = and_from _ _ (all_below cpus) refl; apart = refl }) in
     and_from _ _ (and_from _ _ (all_fit cpus few) refl) (ap is_none fine)
 
-lanes_are : (r : Reading) (o : Option ℕ) → is_some o ≡ true → IfSome o (AreLanes r) → AreLanes r (unwrap_or o 0)
+lanes_are : (r : Reading) (o : Option ℕ) → is_some o ≡ true → IfSome o (AreLanes r.cpus r.distances) → AreLanes r.cpus r.distances (unwrap_or o 0)
 lanes_are r None there are = absurd (cc)
 lanes_are r (Some lanes) there are = are
 
-parts_are : (r : Reading) (o : Option (List Mask)) → length r.cpus ≤ 64 → IfSome o (AreParts r) → is_partition (length r.cpus) (unwrap_or o (first_cpus (length r.cpus) ∷ [])) ≡ true
+parts_are : (r : Reading) (o : Option (List Mask)) → length r.cpus ≤ MAX_CPUS → IfSome o (AreParts r.cpus r.distances)
+    → is_partition (length r.cpus) (unwrap_or o (first_cpus (length r.cpus) ∷ [])) ≡ true
 parts_are r None few are = all_cpus (length r.cpus) few
 parts_are r (Some parts) few are = are.partition
 
@@ -110,24 +111,25 @@ is_trace : (r : Reading) → IsWhole r → IsTrace (trace_of r)
 unfolding trace_of
 is_trace r whole =
     let h = whole.sound in
+    let m = h.machine in
     let lanes = lanes_are r r.lanes whole.lanes h.lanes in
     let some = whole_cpus r lanes.machine in
     let nodes = whole_nodes r lanes.machine in
-    let partition = and_parts _ _ (parts_are r r.parts h.most_cpus h.parts) in
+    let partition = and_parts _ _ (parts_are r r.parts m.most_cpus h.parts) in
     let masks = and_parts _ _ partition.0 in
     let counts = and_parts _ _ masks.0 in
     record {
       header = record {
         some_cpu = some;
-        most_cpus = h.most_cpus;
-        cpus = h.cpus;
-        distances = h.distances;
-        machine = machine_from r.cpus r.distances some (record {
-          cpus_stand = h.cpus_stand;
+        most_cpus = m.most_cpus;
+        cpus = m.cpus;
+        distances = m.distances;
+        machine = no_fault_from_machine r.cpus r.distances some (record {
+          cpus_stand = m.cpus_stand;
           rows = nodes;
-          square = λ a lt. sized_at (nodes_of r.cpus) r.distances h.sizes a lt ∙ sym nodes;
-          rows_stand = h.rows_stand;
-          nested = h.nested nodes;
+          square = λ a lt. sized_at (nodes_of r.cpus) r.distances m.sizes a lt ∙ sym nodes;
+          rows_stand = m.rows_stand;
+          nested = m.nested nodes;
         });
         some_part = leb-true 1 _ counts.0;
         few_parts = ltb-true _ (2 ^ 32) counts.1;
@@ -135,12 +137,12 @@ is_trace r whole =
         parts = none_is _ partition.1;
         some_lane = lanes.some;
         most_lanes = lanes.most;
-        most_tasks = h.most_tasks;
-        tasks = h.tasks;
+        most_tasks = h.tasks.most;
+        tasks = h.tasks.all;
       };
-      most_rows = h.most_rows;
-      rows = h.rows;
-      ticks = h.ticks;
+      most_rows = h.rows.most;
+      rows = h.rows.all;
+      ticks = h.rows.ticks;
       one_part = one_part r.parts (first_cpus (length r.cpus) ∷ []);
     }
 

@@ -8,7 +8,7 @@ use Rattle.std.proofs.lemmas.List.Folds.{list_all-append, list_any-append}
 use Rattle.lb_base.specs.declared.mask.Mask.{Mask}
 use Rattle.lb_base.specs.Mask.{has, no_cpus}
 use Rattle.lb_base.specs.Sets.{are_apart, are_disjoint}
-use Rattle.lb_levels.proofs.MaskTests.{apart_from, apart_at}
+use Rattle.lb_base.proofs.Sets.{apart_from, apart_at}
 
 pub record AreDisjointSoFar (masks : List Mask) (seen : Mask) : Type 0 where
   pub disjoint : are_disjoint masks ≡ true

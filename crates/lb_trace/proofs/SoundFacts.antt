@@ -1,5 +1,6 @@
 -- What was read is sound, from nothing on and with each good line.
-use Rattle.std.proofs.Common.{◌≡◌, ℕ, ◌≤◌, false, List, length, Option, Some, None, Ok, refl, sym, subst, arith}
+use Rattle.std.proofs.Common.{◌≡◌, ℕ, ◌≤◌, false, List, [], length, Option, Some, None, Ok, refl, sym, subst, arith}
+use Rattle.lb_text.specs.declared.marks.TheConstants.{COMMA}
 use Rattle.lb_fields.specs.Parts.{parts}
 use Rattle.lb_levels.specs.Rows.{distances_of, first_not_nested}
 use Rattle.lb_trace.specs.declared.trace.TheConstants.{MAX_BYTES}
@@ -10,10 +11,10 @@ use Rattle.lb_trace.specs.Kinds.{kind_of}
 use Rattle.lb_trace.specs.Tests.{byte_tests, kind_tests, line_tests}
 use Rattle.lb_trace.specs.Grammar.{after, after_line, line_at, nothing_read, trace_of}
 use Rattle.lb_trace.specs.FirstBad.{is_bad}
-use Rattle.lb_trace.specs.Sound.{AreLanes, AreParts, IsSound}
+use Rattle.lb_trace.specs.Sound.{IsSound}
 use Rattle.lb_trace.proofs.FirstCode.{passes}
 use Rattle.lb_trace.proofs.GoodLine.{IsGood, both_good, good_line}
-use Rattle.lb_trace.proofs.SoundLists.{if_some}
+use Rattle.lb_trace.proofs.SoundLists.{no_tasks, no_rows}
 use Rattle.lb_trace.proofs.SoundValues.{few_fields}
 use Rattle.lb_trace.proofs.SoundMachine.{sound_cpu, sound_dist}
 use Rattle.lb_trace.proofs.SoundHeader.{max_fields, sound_parts, sound_lanes, sound_task}
@@ -22,47 +23,26 @@ use Rattle.lb_trace.proofs.SoundRows.{sound_row}
 pub sound_start : IsSound nothing_read
 unfolding first_not_nested distances_of
 sound_start = record {
-  most_cpus = omega arith;
-  cpus = refl;
-  cpus_stand = λ k lt. absurd (omega (arith, lt));
-  most_distances = omega arith;
-  sizes = refl;
-  distances = refl;
-  rows_stand = λ k lt. absurd (omega (arith, lt));
-  nested = λ whole. refl;
+  machine = record {
+    most_cpus = omega arith;
+    cpus = refl;
+    cpus_stand = λ k lt. absurd (omega (arith, lt));
+    most_distances = omega arith;
+    sizes = refl;
+    distances = refl;
+    rows_stand = λ k lt. absurd (omega (arith, lt));
+    nested = λ whole. refl;
+  };
   parts = tt;
   lanes = tt;
-  no_tasks = λ none. refl;
-  most_tasks = omega arith;
-  tasks = refl;
-  no_rows = λ none. refl;
-  most_rows = omega arith;
-  rows = refl;
-  ticks = refl;
+  tasks = no_tasks 0 false [] refl;
+  rows = no_rows (trace_of nothing_read).header false [] refl;
 }
 
 -- the first line says nothing of the machine
 sound_version : (r : Reading) (fields : List (List ℕ)) → IsSound r → IsSound (after r kinds.Version fields)
 unfolding trace_of
-sound_version r fields h = record {
-  most_cpus = h.most_cpus;
-  cpus = h.cpus;
-  cpus_stand = h.cpus_stand;
-  most_distances = h.most_distances;
-  sizes = h.sizes;
-  distances = h.distances;
-  rows_stand = h.rows_stand;
-  nested = h.nested;
-  parts = if_some (AreParts r) _ r.parts h.parts (λ parts are. record { partition = are.partition; machine = are.machine });
-  lanes = if_some (AreLanes r) _ r.lanes h.lanes (λ lanes are. record { some = are.some; most = are.most; machine = are.machine });
-  no_tasks = h.no_tasks;
-  most_tasks = h.most_tasks;
-  tasks = h.tasks;
-  no_rows = h.no_rows;
-  most_rows = h.most_rows;
-  rows = h.rows;
-  ticks = h.ticks;
-}
+sound_version r fields h = record { machine = h.machine; parts = h.parts; lanes = h.lanes; tasks = h.tasks; rows = h.rows }
 
 sound_after : (r : Reading) (kind : LineKind) (fields : List (List ℕ)) → length fields ≤ max_fields → IsSound r → IsGood r kind fields → IsSound (after r kind fields)
 sound_after r kinds.Version fields few h good = sound_version r fields h
@@ -80,8 +60,8 @@ sound_kind r (Some kind) fields few h good = sound_after r kind fields few h (go
 pub sound_line : (r s : Reading) (line : List ℕ) → length line ≤ MAX_BYTES → IsSound r → line_at r false line ≡ Ok s → IsSound s
 unfolding line_at line_tests
 sound_line r s line short h e =
-    let fields = parts 44 line in
-    let few = few_fields 44 line in
+    let fields = parts COMMA line in
+    let few = few_fields COMMA line in
     let passed = passes (line_tests r false line) (after_line r (kind_of fields) fields) s e in
     let good = (both_good (byte_tests r false line) _ passed.good).1 in
     subst IsSound (sym passed.same) (sound_kind r (kind_of fields) fields (omega (arith, few, short)) h good)

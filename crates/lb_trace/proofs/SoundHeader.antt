@@ -5,17 +5,17 @@ use Rattle.std.specs.Prelude.{is_some, is_none}
 use Rattle.std.proofs.lemmas.Bool.{and_parts, and_from, or_parts, lt-ltb, le-leb, ltb-true, leb-true, eqb-true, not-false, both_ways, not_from_false}
 use Rattle.std.proofs.lemmas.List.{length_push, nil_from_length}
 use Rattle.lb_base.specs.Sets.{are_disjoint}
-use Rattle.lb_levels.proofs.Overlaps.{no_fault_from}
-use Rattle.lb_trace.specs.declared.trace.TheConstants.{MAX_BYTES}
+use Rattle.lb_levels.proofs.NoFault.{no_fault_from_partition}
+use Rattle.lb_trace.specs.declared.trace.TheConstants.{MAX_BYTES, MAX_LANES}
 use Rattle.lb_trace.specs.declared.kind.LineKind.TheVariants as kinds
 use Rattle.lb_trace.specs.declared.reading.Reading.{Reading}
 use Rattle.lb_trace.specs.Values.{masks_from, task_of}
 use Rattle.lb_trace.specs.Naming.{has_no_cpu}
 use Rattle.lb_trace.specs.Grammar.{after, trace_of}
-use Rattle.lb_trace.specs.Accepted.{is_partition, is_task, is_row}
-use Rattle.lb_trace.specs.Sound.{AreLanes, AreParts, IsSound}
+use Rattle.lb_trace.specs.Accepted.{is_partition, is_task}
+use Rattle.lb_trace.specs.Sound.{IsSound}
 use Rattle.lb_trace.proofs.GoodLine.{IsGood}
-use Rattle.lb_trace.proofs.SoundLists.{all_push, all_none, if_some}
+use Rattle.lb_trace.proofs.SoundLists.{all_push, no_tasks, no_rows}
 use Rattle.lb_trace.proofs.SoundValues.{number_in, nice_in, list_in, masks_in, length-masks_from}
 
 none_there : {X : Type 0} (o : Option X) → is_none o ≡ true → is_some o ≡ false
@@ -32,7 +32,7 @@ pub partition_in : (r : Reading) (i : ℕ) (fields : List (List ℕ)) → i < le
 partition_in r i fields some few below apart =
     let masks = masks_from i fields in
     let long = length-masks_from i fields in
-    let fine = no_fault_from (length r.cpus) masks (record { below = not-false _ below; apart = not-false _ apart }) in
+    let fine = no_fault_from_partition (length r.cpus) masks (record { below = not-false _ below; apart = not-false _ apart }) in
     and_from _ _
     (and_from _ _ (and_from _ _ (le-leb 1 (length masks) (omega (arith, long, some))) (lt-ltb (length masks) (2 ^ 32) (omega (arith, long, few)))) (masks_in i fields))
     (ap is_none fine)
@@ -43,23 +43,11 @@ sound_parts r fields few h good =
     let lanes = none_there r.lanes place.1 in
     let some = leb-true _ _ good.size in
     record {
-      most_cpus = h.most_cpus;
-      cpus = h.cpus;
-      cpus_stand = h.cpus_stand;
-      most_distances = h.most_distances;
-      sizes = h.sizes;
-      distances = h.distances;
-      rows_stand = h.rows_stand;
-      nested = h.nested;
+      machine = h.machine;
       parts = record { partition = partition_in r 1 fields (omega (arith, some)) few good.cpus good.apart; machine = place.0 };
-      lanes = if_some (AreLanes r) _ r.lanes h.lanes (λ lanes are. record { some = are.some; most = are.most; machine = are.machine });
-      no_tasks = h.no_tasks;
-      most_tasks = h.most_tasks;
+      lanes = h.lanes;
       tasks = h.tasks;
-      no_rows = h.no_rows;
-      most_rows = h.most_rows;
-      rows = all_none (is_row (trace_of (after r kinds.Parts fields)).header) r.rows (h.no_rows lanes);
-      ticks = h.ticks;
+      rows = no_rows (trace_of (after r kinds.Parts fields)).header (is_some r.lanes) r.rows (h.rows.none lanes);
     }
 
 -- ---- the number of lanes
@@ -67,25 +55,13 @@ pub sound_lanes : (r : Reading) (fields : List (List ℕ)) → IsSound r → IsG
 sound_lanes r fields h good =
     let place = and_parts _ _ good.stands in
     let lanes = none_there r.lanes place.1 in
-    let range = number_in 1 1 16 fields good.numbers in
+    let range = number_in 1 1 MAX_LANES fields good.numbers in
     record {
-      most_cpus = h.most_cpus;
-      cpus = h.cpus;
-      cpus_stand = h.cpus_stand;
-      most_distances = h.most_distances;
-      sizes = h.sizes;
-      distances = h.distances;
-      rows_stand = h.rows_stand;
-      nested = h.nested;
-      parts = if_some (AreParts r) _ r.parts h.parts (λ parts are. record { partition = are.partition; machine = are.machine });
+      machine = h.machine;
+      parts = h.parts;
       lanes = record { some = range.0; most = range.1; machine = place.0 };
-      no_tasks = λ none. absurd (cc);
-      most_tasks = h.most_tasks;
-      tasks = h.tasks;
-      no_rows = λ none. absurd (cc);
-      most_rows = h.most_rows;
-      rows = all_none (is_row (trace_of (after r kinds.Lanes fields)).header) r.rows (h.no_rows lanes);
-      ticks = h.ticks;
+      tasks = no_tasks (length r.cpus) true r.tasks (h.tasks.none lanes);
+      rows = no_rows (trace_of (after r kinds.Lanes fields)).header true r.rows (h.rows.none lanes);
     }
 
 -- ---- a task
@@ -102,21 +78,13 @@ sound_task r fields h good =
     let place = and_parts _ _ room.0 in
     let longer = length_push r.tasks (task_of fields) in
     record {
-      most_cpus = h.most_cpus;
-      cpus = h.cpus;
-      cpus_stand = h.cpus_stand;
-      most_distances = h.most_distances;
-      sizes = h.sizes;
-      distances = h.distances;
-      rows_stand = h.rows_stand;
-      nested = h.nested;
-      parts = if_some (AreParts r) _ r.parts h.parts (λ parts are. record { partition = are.partition; machine = are.machine });
-      lanes = if_some (AreLanes r) _ r.lanes h.lanes (λ lanes are. record { some = are.some; most = are.most; machine = are.machine });
-      no_tasks = λ none. absurd (both_ways _ none place.0);
-      most_tasks = omega (arith, longer, ltb-true _ _ room.1);
-      tasks = all_push (is_task (length r.cpus)) r.tasks (task_of fields) h.tasks (task_in r fields good);
-      no_rows = h.no_rows;
-      most_rows = h.most_rows;
-      rows = all_none (is_row (trace_of (after r kinds.Task fields)).header) r.rows (nil_from_length r.rows (eqb-true _ _ place.1));
-      ticks = h.ticks;
+      machine = h.machine;
+      parts = h.parts;
+      lanes = h.lanes;
+      tasks = record {
+        none = λ none. absurd (both_ways _ none place.0);
+        most = omega (arith, longer, ltb-true _ _ room.1);
+        all = all_push (is_task (length r.cpus)) r.tasks (task_of fields) h.tasks.all (task_in r fields good);
+      };
+      rows = no_rows (trace_of (after r kinds.Task fields)).header (is_some r.lanes) r.rows (nil_from_length r.rows (eqb-true _ _ place.1));
     }

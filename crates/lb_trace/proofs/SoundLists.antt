@@ -1,11 +1,15 @@
--- Lists that grow at their end: what each of their items keeps to, and how each stands behind those
--- before it.
-use Rattle.std.proofs.Common.{◌≡◌, ℕ, ◌<◌, Bool, true, false, List, [], ◌∷◌, ◌++◌, length, take, get_or, Option, Some, None, IfSome, refl, sym, ap, ◌∙◌, arith, inl, inr}
+-- Lists that are empty, and lists that grow at their end: what each of their items keeps to, and how
+-- each stands behind those before it.
+use Rattle.std.proofs.Common.{◌≡◌, ℕ, ◌<◌, Bool, true, false, List, [], ◌∷◌, ◌++◌, length, take, get_or, Option, Some, None, IfSome, refl, sym, ap, subst, ◌∙◌, arith, inl, inr}
 use Rattle.std.specs.Prelude.{is_some}
 use Rattle.std.specs.List.{list_all}
 use Rattle.std.proofs.lemmas.Bool.{and_from, and_parts, cases_eq}
 use Rattle.std.proofs.lemmas.List.{length_push, take-append-le, take_at, get_or_append_left, get_or_push}
 use Rattle.std.proofs.lemmas.List.Folds.{list_all-append}
+use Rattle.lb_trace.specs.declared.trace.TaskRow.{TaskRow}
+use Rattle.lb_trace.specs.declared.trace.Row.{Row}
+use Rattle.lb_trace.specs.declared.trace.Header.{Header}
+use Rattle.lb_trace.specs.Sound.{AreTasks, AreRows}
 
 pub all_push : {X : Type 0} (p : X → Bool) (xs : List X) (x : X) → list_all p xs ≡ true → p x ≡ true → list_all p (xs ++ x ∷ []) ≡ true
 all_push p xs x all one = list_all-append p xs (x ∷ []) ∙ and_from _ _ all (and_from _ _ one refl)
@@ -38,3 +42,10 @@ if_some P Q (Some x) holds more = more x holds
 pub is_none_if : {X : Type 0} (P : X → Type 0) (o : Option X) → IfSome o P → ((x : X) → P x → ⊥) → is_some o ≡ false
 is_none_if P None holds never = refl
 is_none_if P (Some x) holds never = absurd (never x holds)
+
+-- ---- no tasks and no rows
+pub no_tasks : (cpus : ℕ) (after_lanes : Bool) (tasks : List TaskRow) → tasks ≡ [] → AreTasks cpus after_lanes tasks
+no_tasks cpus after_lanes tasks none = subst (AreTasks cpus after_lanes) (sym none) (record { none = λ _. refl; most = omega arith; all = refl })
+
+pub no_rows : (h : Header) (after_lanes : Bool) (rows : List Row) → rows ≡ [] → AreRows h after_lanes rows
+no_rows h after_lanes rows none = subst (AreRows h after_lanes) (sym none) (record { none = λ _. refl; most = omega arith; all = refl; ticks = refl })

@@ -11,9 +11,9 @@ use Rattle.lb_trace.specs.Values.{number, lane_in, moment_in, subject_in, comman
 use Rattle.lb_trace.specs.Naming.{is_ticked_beside}
 use Rattle.lb_trace.specs.Grammar.{after, trace_of}
 use Rattle.lb_trace.specs.Accepted.{is_command, is_row}
-use Rattle.lb_trace.specs.Sound.{AreLanes, AreParts, IsSound}
+use Rattle.lb_trace.specs.Sound.{IsSound}
 use Rattle.lb_trace.proofs.GoodLine.{IsGood}
-use Rattle.lb_trace.proofs.SoundLists.{all_push, if_some}
+use Rattle.lb_trace.proofs.SoundLists.{all_push}
 use Rattle.lb_trace.proofs.SoundValues.{number_in, nice_in, list_in}
 use Rattle.lb_trace.proofs.SoundHeader.{max_fields, partition_in}
 use Rattle.lb_trace.proofs.TicksAgree.{Agrees, quiet_agrees, tick_agrees, ticks_agree_push}
@@ -56,21 +56,14 @@ sound_row r kind fields few h good =
     let longer = length_push r.rows (row_of kind fields) in
     let room = leb-false _ _ good.room in
     record {
-      most_cpus = h.most_cpus;
-      cpus = h.cpus;
-      cpus_stand = h.cpus_stand;
-      most_distances = h.most_distances;
-      sizes = h.sizes;
-      distances = h.distances;
-      rows_stand = h.rows_stand;
-      nested = h.nested;
-      parts = if_some (AreParts r) _ r.parts h.parts (λ parts are. record { partition = are.partition; machine = are.machine });
-      lanes = if_some (AreLanes r) _ r.lanes h.lanes (λ lanes are. record { some = are.some; most = are.most; machine = are.machine });
-      no_tasks = h.no_tasks;
-      most_tasks = h.most_tasks;
+      machine = h.machine;
+      parts = h.parts;
+      lanes = h.lanes;
       tasks = h.tasks;
-      no_rows = λ none. absurd (both_ways _ none good.stands);
-      most_rows = omega (arith, longer, room);
-      rows = all_push (is_row (trace_of r).header) r.rows (row_of kind fields) h.rows (row_in r kind fields few good);
-      ticks = ticks_agree_push r.rows (row_of kind fields) h.ticks (ticks_in r kind fields good);
+      rows = record {
+        none = λ none. absurd (both_ways _ none good.stands);
+        most = omega (arith, longer, room);
+        all = all_push (is_row (trace_of r).header) r.rows (row_of kind fields) h.rows.all (row_in r kind fields few good);
+        ticks = ticks_agree_push r.rows (row_of kind fields) h.rows.ticks (ticks_in r kind fields good);
+      };
     }

@@ -1,5 +1,6 @@
 -- The lanes that tick, with a row more.
-use Rattle.std.proofs.Common.{◌≡◌, ℕ, ◌<◌, ◌==◌, Bool, true, false, not, ◌&&◌, ◌||◌, List, [], ◌∷◌, ◌++◌, length, length-set, Option, Some, None, inl, inr, refl, sym, ap, subst, ◌∙◌, arith}
+use Rattle.std.proofs.Common.{◌≡◌, ℕ, ◌<◌, ◌==◌, Bool, true, false, not, ◌&&◌, ◌||◌, List, [], ◌∷◌, ◌++◌, length, length-set, Option, Some, None, OnOk, Ok, Err, inl, inr, refl, sym, ap, subst, ◌∙◌, arith}
+use Rattle.std.specs.Prelude.{Result}
 use Rattle.std.specs.List.{slice_index_or, slice_set, list_any}
 use Rattle.std.proofs.lemmas.Bool.{cases_eq, eqb-true, eq-eqb, ne_eqb, not-false}
 use Rattle.std.proofs.lemmas.List.{get_or-set_other, get_or-replicate, length-replicate}
@@ -8,13 +9,16 @@ use Rattle.std.proofs.lemmas.Grind.{get_or-set_at}
 use Rattle.std.proofs.lemmas.List.Folds.{list_any-append}
 use Rattle.lb_trace.specs.declared.trace.Command.TheVariants as commands
 use Rattle.lb_trace.specs.declared.trace.Row.{Row}
-use Rattle.lb_trace.specs.declared.trace.Code.{Code}
+use Rattle.lb_trace.specs.declared.line_error.LineError.{LineError}
 use Rattle.lb_trace.specs.declared.kind.LineKind.{LineKind}
+use Rattle.lb_trace.specs.declared.kind.LineKind.TheVariants as kinds
+use Rattle.lb_trace.specs.declared.kind.RowKind.{RowKind}
+use Rattle.lb_trace.specs.Values.{row_of}
 use Rattle.lb_trace.specs.declared.reading.Reading.{Reading}
 use Rattle.lb_trace.specs.Tests.{value_tests}
 use Rattle.lb_trace.specs.Grammar.{after, TakesLine}
 use Rattle.lb_trace.specs.Naming.{ticks_cpu, ticks_beside, is_ticked_beside}
-use Rattle.lb_trace.specs.Ticked.{is_other, AreTicked, KeepsTicked}
+use Rattle.lb_trace.specs.Ticked.{is_other, AreTicked}
 use Rattle.lb_trace.proofs.FirstCode.{passes}
 
 or-false : (b : Bool) → (b || false) ≡ b
@@ -27,7 +31,7 @@ beside_with rows row cpu lane =
     list_any-append (ticks_beside cpu lane) rows (row ∷ []) ∙ ap (λ (b : Bool). list_any (ticks_beside cpu lane) rows || b) (or-false (ticks_beside cpu lane row))
 
 -- a row that is no tick
-pub no_tick : (rows : List Row) (row : Row) (ticked : List (Option ℕ)) → ((cpu : ℕ) → ticks_cpu cpu row.command ≡ false) → AreTicked rows ticked → AreTicked (rows ++ row ∷ []) ticked
+no_tick : (rows : List Row) (row : Row) (ticked : List (Option ℕ)) → ((cpu : ℕ) → ticks_cpu cpu row.command ≡ false) → AreTicked rows ticked → AreTicked (rows ++ row ∷ []) ticked
 no_tick rows row ticked none are cpu lane lt =
     beside_with rows row cpu lane ∙ (ap (λ (b : Bool). is_ticked_beside rows cpu lane || (b && not (row.lane == lane))) (none cpu) ∙ (or-false (is_ticked_beside rows cpu lane) ∙ are cpu lane lt))
 
@@ -68,6 +72,29 @@ one_tick rows ticked cpu lane at within are same other by lt =
 
 -- ---- a line more
 -- where a good line would leave the lanes that tick, a step does
-pub keeps : (kind : LineKind) (fields : List (List ℕ)) (old new : Reading) (ticked : List (Option ℕ)) → AreTicked (after old kind fields).rows ticked → (code : Option Code) → TakesLine kind fields old new code → KeepsTicked code new ticked
-keeps kind fields old new ticked are None step none = subst (λ (read : Reading). AreTicked read.rows ticked) (sym (passes (value_tests old kind fields) (after old kind fields) new step).same) are
-keeps kind fields old new ticked are (Some code) step none = absurd (cc)
+keeps : {A : Type 0} (kind : LineKind) (fields : List (List ℕ)) (old new : Reading) (ticked : List (Option ℕ)) (result : Result A LineError)
+    → AreTicked (after old kind fields).rows ticked → TakesLine kind fields old new result → OnOk result (AreTicked new.rows ticked)
+keeps kind fields old new ticked (Ok a) are step = subst (λ (read : Reading). AreTicked read.rows ticked) (sym (passes (value_tests old kind fields) (after old kind fields) new step).same) are
+keeps kind fields old new ticked (Err e) are step = tt
+
+-- a line of the header
+abbrev pub is_row_kind : LineKind → Bool
+is_row_kind (kinds.Row kind) = true
+is_row_kind kind = false
+
+pub keeps_above : {A : Type 0} (kind : LineKind) (fields : List (List ℕ)) (old new : Reading) (ticked : List (Option ℕ)) (result : Result A LineError)
+    → is_row_kind kind ≡ false → AreTicked old.rows ticked → TakesLine kind fields old new result → OnOk result (AreTicked new.rows ticked)
+keeps_above kinds.Version fields old new ticked result other are step = keeps kinds.Version fields old new ticked result are step
+keeps_above kinds.Cpu fields old new ticked result other are step = keeps kinds.Cpu fields old new ticked result are step
+keeps_above kinds.Dist fields old new ticked result other are step = keeps kinds.Dist fields old new ticked result are step
+keeps_above kinds.Parts fields old new ticked result other are step = keeps kinds.Parts fields old new ticked result are step
+keeps_above kinds.Lanes fields old new ticked result other are step = keeps kinds.Lanes fields old new ticked result are step
+keeps_above kinds.Task fields old new ticked result other are step = keeps kinds.Task fields old new ticked result are step
+keeps_above (kinds.Row kind) fields old new ticked result other are step = absurd (cc)
+
+-- a row that is no tick
+pub keeps_beside : {A : Type 0} (kind : RowKind) (fields : List (List ℕ)) (old new : Reading) (ticked : List (Option ℕ)) (result : Result A LineError)
+    → ((cpu : ℕ) → ticks_cpu cpu (row_of kind fields).command ≡ false) → AreTicked old.rows ticked → TakesLine (kinds.Row kind) fields old new result
+    → OnOk result (AreTicked new.rows ticked)
+keeps_beside kind fields old new ticked result none are step =
+    keeps (kinds.Row kind) fields old new ticked result (no_tick old.rows (row_of kind fields) ticked none are) step

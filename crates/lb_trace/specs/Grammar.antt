@@ -2,6 +2,7 @@
 -- is, or its first bad line and that line's code.
 use Rattle.std.specs.Prelude.{◌≡◌, ℕ, ◌+◌, ◌==◌, nat_le, Bool, true, false, List, [], ◌∷◌, ◌++◌, length, if◌then◌else◌, Option, Some, None, is_some, unwrap_or, Result, Ok, Err}
 use Rattle.lb_base.specs.Mask.{first_cpus}
+use Rattle.lb_text.specs.declared.marks.TheConstants.{COMMA, LINE_FEED}
 use Rattle.lb_fields.specs.Parts.{parts}
 use Rattle.lb_trace.specs.declared.trace.TheConstants.{MAX_BYTES}
 use Rattle.lb_trace.specs.declared.trace.Code.{Code}
@@ -9,6 +10,8 @@ use Rattle.lb_trace.specs.declared.trace.Code.TheVariants as bad
 use Rattle.lb_trace.specs.declared.trace.Trace.{Trace}
 use Rattle.lb_trace.specs.declared.trace.TraceError.{TraceError}
 use Rattle.lb_trace.specs.declared.trace.TraceError.TheVariants as errors
+use Rattle.lb_trace.specs.declared.line_error.LineError.{LineError}
+use Rattle.lb_trace.specs.declared.line_error.LineError.TheVariants as faults
 use Rattle.lb_trace.specs.declared.kind.LineKind.{LineKind}
 use Rattle.lb_trace.specs.declared.kind.LineKind.TheVariants as kinds
 use Rattle.lb_trace.specs.declared.reading.Reading.{Reading}
@@ -43,7 +46,7 @@ after_line r (Some kind) fields = after r kind fields
 
 -- what was read with a line more, or the line's first code
 unfoldable pub line_at : Reading → Bool → List ℕ → Result Reading Code
-line_at r cut line = unless_bad (line_tests r cut line) (after_line r (kind_of (parts 44 line)) (parts 44 line))
+line_at r cut line = unless_bad (line_tests r cut line) (after_line r (kind_of (parts COMMA line)) (parts COMMA line))
 
 -- the text ends here
 unfoldable pub ended : Reading → Result Reading Code
@@ -85,7 +88,7 @@ trace_of r =
 unfoldable pub reading_of : List ℕ → Result Trace (ℕ × Code)
 reading_of text =
     if nat_le (length text) MAX_BYTES
-    then (lines_from nothing_read (parts 10 text) >>= λ r. Ok (trace_of r))
+    then (lines_from nothing_read (parts LINE_FEED text) >>= λ r. Ok (trace_of r))
     else Err (0, bad.TooLong)
 
 -- ---- answers of the code
@@ -96,10 +99,11 @@ Gives (Err (errors.Refused line code)) given = given ≡ Err (line, code)
 Gives (Err errors.NoMemory) given = Unit {0}
 
 -- what a step did: nothing was bad, and this was read, or the code of a bad line
-abbrev pub Steps : Option Code → Reading → Result Reading Code → Type 0
-Steps None new given = given ≡ Ok new
-Steps (Some code) new given = given ≡ Err code
+abbrev pub Steps : {A : Type 0} → Result A LineError → Reading → Result Reading Code → Type 0
+Steps (Ok a) new given = given ≡ Ok new
+Steps (Err (faults.Bad code)) new given = given ≡ Err code
+Steps (Err faults.NoMemory) new given = Unit {0}
 
 -- what a step did with the fields of a line of this kind, which may stand here
-abbrev pub TakesLine : LineKind → List (List ℕ) → Reading → Reading → Option Code → Type 0
-TakesLine kind fields old new code = Steps code new (unless_bad (value_tests old kind fields) (after old kind fields))
+abbrev pub TakesLine : {A : Type 0} → LineKind → List (List ℕ) → Reading → Reading → Result A LineError → Type 0
+TakesLine kind fields old new result = Steps result new (unless_bad (value_tests old kind fields) (after old kind fields))

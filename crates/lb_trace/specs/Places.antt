@@ -1,7 +1,8 @@
 -- Where a kind of line can stand: what must and must not have been read before it, and how many fields
 -- it has there. The lines stand in the order version, `cpu`, `dist`, `parts`, `lanes`, `task`, rows.
-use Rattle.std.specs.Prelude.{ℕ, ◌+◌, ◌==◌, nat_lt, nat_le, Bool, false, not, ◌&&◌, length, is_some, is_none}
+use Rattle.std.specs.Prelude.{ℕ, ◌+◌, ◌==◌, nat_lt, nat_le, Bool, false, not, ◌&&◌, List, length, is_some, is_none}
 use Rattle.lb_base.specs.declared.mask.TheConstants.{MAX_CPUS}
+use Rattle.lb_levels.specs.declared.cpu_row.CpuRow.{CpuRow}
 use Rattle.lb_levels.specs.Faults.{nodes_of}
 use Rattle.lb_trace.specs.declared.trace.TheConstants.{MAX_TASKS, MAX_ROWS}
 use Rattle.lb_trace.specs.declared.kind.LineKind.{LineKind}
@@ -15,8 +16,11 @@ abbrev pub is_first : Reading → Bool
 is_first r = r.line == 1
 
 -- there are CPUs, and a row of distances for each of their nodes
+abbrev pub is_whole : List CpuRow → List (List ℕ) → Bool
+is_whole cpus table = not (length cpus == 0) && length table == nodes_of cpus
+
 abbrev pub has_machine : Reading → Bool
-has_machine r = not (length r.cpus == 0) && length r.distances == nodes_of r.cpus
+has_machine r = is_whole r.cpus r.distances
 
 -- a line of this kind can stand here
 abbrev pub can_stand : Reading → LineKind → Bool

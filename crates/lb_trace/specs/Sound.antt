@@ -8,8 +8,11 @@ use Rattle.lb_levels.specs.declared.cpu_row.CpuRow.{CpuRow}
 use Rattle.lb_levels.specs.Rows.{row_at, distances_at, cpu_clashes, is_bad_distance, is_nested}
 use Rattle.lb_levels.specs.Faults.{nodes_of}
 use Rattle.lb_trace.specs.declared.trace.TheConstants.{MAX_LANES, MAX_TASKS, MAX_ROWS}
+use Rattle.lb_trace.specs.declared.trace.TaskRow.{TaskRow}
+use Rattle.lb_trace.specs.declared.trace.Row.{Row}
+use Rattle.lb_trace.specs.declared.trace.Header.{Header}
 use Rattle.lb_trace.specs.declared.reading.Reading.{Reading}
-use Rattle.lb_trace.specs.Places.{has_machine}
+use Rattle.lb_trace.specs.Places.{is_whole}
 use Rattle.lb_trace.specs.Grammar.{trace_of}
 use Rattle.lb_trace.specs.Accepted.{is_cpu, is_distance, is_partition, is_task, is_row, ticks_agree}
 
@@ -24,32 +27,44 @@ pub record StandsIfNested (cpus : List CpuRow) (table : List (List ℕ)) : Type 
   pub sizes : list_all (has_size (nodes_of cpus)) table ≡ true
   pub rows_stand : (a : ℕ) → a < length table → is_bad_distance (take a table) (distances_at table a) ≡ false
 
+-- the CPUs and the distances so far
+pub record IsSoundMachine (rows : List CpuRow) (table : List (List ℕ)) : Type 0 where
+  pub most_cpus : length rows ≤ MAX_CPUS
+  pub cpus : list_all is_cpu rows ≡ true
+  pub cpus_stand : (k : ℕ) → k < length rows → cpu_clashes (take k rows) (row_at rows k) ≡ false
+  pub most_distances : length table ≤ nodes_of rows
+  pub sizes : list_all (has_size (nodes_of rows)) table ≡ true
+  pub distances : list_all (list_all is_distance) table ≡ true
+  pub rows_stand : (a : ℕ) → a < length table → is_bad_distance (take a table) (distances_at table a) ≡ false
+  pub nested : length table ≡ nodes_of rows → is_nested table ≡ true
+
 -- the number of lanes, on a whole machine
-pub record AreLanes (r : Reading) (lanes : ℕ) : Type 0 where
+pub record AreLanes (cpus : List CpuRow) (table : List (List ℕ)) (lanes : ℕ) : Type 0 where
   pub some : 1 ≤ lanes
   pub most : lanes ≤ MAX_LANES
-  pub machine : has_machine r ≡ true
+  pub machine : is_whole cpus table ≡ true
 
 -- partition masks, on a whole machine
-pub record AreParts (r : Reading) (parts : List Mask) : Type 0 where
-  pub partition : is_partition (length r.cpus) parts ≡ true
-  pub machine : has_machine r ≡ true
+pub record AreParts (cpus : List CpuRow) (table : List (List ℕ)) (parts : List Mask) : Type 0 where
+  pub partition : is_partition (length cpus) parts ≡ true
+  pub machine : is_whole cpus table ≡ true
+
+-- tasks of a machine of so many CPUs; there is none before the number of lanes
+pub record AreTasks (cpus : ℕ) (after_lanes : Bool) (tasks : List TaskRow) : Type 0 where
+  pub none : after_lanes ≡ false → tasks ≡ []
+  pub most : length tasks ≤ MAX_TASKS
+  pub all : list_all (is_task cpus) tasks ≡ true
+
+-- rows under a header; there is none before the number of lanes
+pub record AreRows (h : Header) (after_lanes : Bool) (rows : List Row) : Type 0 where
+  pub none : after_lanes ≡ false → rows ≡ []
+  pub most : length rows ≤ MAX_ROWS
+  pub all : list_all (is_row h) rows ≡ true
+  pub ticks : ticks_agree rows ≡ true
 
 pub record IsSound (r : Reading) : Type 0 where
-  pub most_cpus : length r.cpus ≤ MAX_CPUS
-  pub cpus : list_all is_cpu r.cpus ≡ true
-  pub cpus_stand : (k : ℕ) → k < length r.cpus → cpu_clashes (take k r.cpus) (row_at r.cpus k) ≡ false
-  pub most_distances : length r.distances ≤ nodes_of r.cpus
-  pub sizes : list_all (has_size (nodes_of r.cpus)) r.distances ≡ true
-  pub distances : list_all (list_all is_distance) r.distances ≡ true
-  pub rows_stand : (a : ℕ) → a < length r.distances → is_bad_distance (take a r.distances) (distances_at r.distances a) ≡ false
-  pub nested : length r.distances ≡ nodes_of r.cpus → is_nested r.distances ≡ true
-  pub parts : IfSome r.parts (AreParts r)
-  pub lanes : IfSome r.lanes (AreLanes r)
-  pub no_tasks : is_some r.lanes ≡ false → r.tasks ≡ []
-  pub most_tasks : length r.tasks ≤ MAX_TASKS
-  pub tasks : list_all (is_task (length r.cpus)) r.tasks ≡ true
-  pub no_rows : is_some r.lanes ≡ false → r.rows ≡ []
-  pub most_rows : length r.rows ≤ MAX_ROWS
-  pub rows : list_all (is_row (trace_of r).header) r.rows ≡ true
-  pub ticks : ticks_agree r.rows ≡ true
+  pub machine : IsSoundMachine r.cpus r.distances
+  pub parts : IfSome r.parts (AreParts r.cpus r.distances)
+  pub lanes : IfSome r.lanes (AreLanes r.cpus r.distances)
+  pub tasks : AreTasks (length r.cpus) (is_some r.lanes) r.tasks
+  pub rows : AreRows (trace_of r).header (is_some r.lanes) r.rows

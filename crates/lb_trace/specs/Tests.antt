@@ -2,6 +2,7 @@
 -- the codes are tried: the first test that holds gives the line's code.
 use Rattle.std.specs.Prelude.{ℕ, Bool, true, not, ◌&&◌, List, [], ◌∷◌, ◌++◌, length, codes, if◌then◌else◌, Option, Some, None, is_none, Result, Ok, Err}
 use Rattle.std.specs.Str.{bytes_eq}
+use Rattle.lb_text.specs.declared.marks.TheConstants.{COMMA}
 use Rattle.lb_fields.specs.Parts.{parts, is_plain}
 use Rattle.lb_trace.specs.declared.trace.Code.{Code}
 use Rattle.lb_trace.specs.declared.trace.Code.TheVariants as bad
@@ -60,7 +61,7 @@ kind_tests r (Some kind) fields = place_tests r kind fields ++ value_tests r kin
 
 -- all of a line's tests
 unfoldable pub line_tests : Reading → Bool → List ℕ → Tests
-line_tests r cut line = byte_tests r cut line ++ kind_tests r (kind_of (parts 44 line)) (parts 44 line)
+line_tests r cut line = byte_tests r cut line ++ kind_tests r (kind_of (parts COMMA line)) (parts COMMA line)
 
 -- those of a text that ends here
 unfoldable pub end_tests : Reading → Tests

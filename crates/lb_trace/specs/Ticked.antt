@@ -1,9 +1,7 @@
 -- Which lane ticked each CPU, as it is kept beside the rows that were read.
 use Rattle.std.specs.Prelude.{◌≡◌, ℕ, ◌<◌, ◌==◌, Bool, false, not, Option, Some, None, List, length}
 use Rattle.std.specs.List.{slice_index_or}
-use Rattle.lb_trace.specs.declared.trace.Code.{Code}
 use Rattle.lb_trace.specs.declared.trace.Row.{Row}
-use Rattle.lb_trace.specs.declared.reading.Reading.{Reading}
 use Rattle.lb_trace.specs.Naming.{is_ticked_beside}
 
 -- a lane ticked, and it is another than this one
@@ -15,7 +13,3 @@ is_other (Some ticking) lane = not (ticking == lane)
 abbrev pub AreTicked : List Row → List (Option ℕ) → Type 0
 AreTicked rows ticked =
     (cpu lane : ℕ) → cpu < length ticked → is_ticked_beside rows cpu lane ≡ is_other (slice_index_or ticked cpu None) lane
-
--- after a step without a bad code the lanes are those of the rows
-abbrev pub KeepsTicked : Option Code → Reading → List (Option ℕ) → Type 0
-KeepsTicked code new ticked = code ≡ None → AreTicked new.rows ticked

@@ -3,12 +3,11 @@
 use Rattle.std.specs.Prelude.{ℕ, ℤ, pos, ◌-◌, List, drop, map, Option, option_and_then, unwrap_or}
 use Rattle.csv.specs.Records.{field_at}
 use Rattle.lb_base.specs.declared.mask.Mask.{Mask}
-use Rattle.lb_base.specs.declared.mask.TheConstants.{MAX_CPUS}
 use Rattle.lb_base.specs.Mask.{no_cpus}
 use Rattle.lb_levels.specs.declared.cpu_row.CpuRow.{CpuRow}
 use Rattle.lb_text.specs.Numbers.{number_within, nice_of}
 use Rattle.lb_text.specs.Lists.{list_of}
-use Rattle.lb_trace.specs.declared.trace.TheConstants.{MAX_NODES, MAX_DISTANCE, MAX_LANES, MAX_MOMENT}
+use Rattle.lb_trace.specs.declared.trace.TheConstants.{MAX_CORE, MAX_NODES, MAX_DISTANCE, MAX_LANES, MAX_ID, MAX_MOMENT}
 use Rattle.lb_trace.specs.declared.trace.Command.{Command}
 use Rattle.lb_trace.specs.declared.trace.Command.TheVariants as commands
 use Rattle.lb_trace.specs.declared.trace.Row.{Row}
@@ -17,10 +16,6 @@ use Rattle.lb_trace.specs.declared.kind.RowKind.{RowKind}
 use Rattle.lb_trace.specs.declared.kind.RowKind.TheVariants as rows
 
 -- ---- one field
--- the greatest id; whether it names something that is declared is another test
-abbrev pub max_id : ℕ
-max_id = 18446744073709551615
-
 -- the number from `least` to `most` at a place
 unfoldable pub number_at : ℕ → ℕ → ℕ → List (List ℕ) → Option ℕ
 number_at i least most fields = option_and_then (number_within least most) (field_at fields i)
@@ -45,13 +40,13 @@ list o = unwrap_or o no_cpus
 -- ---- the fields by their names
 -- the id of a CPU or a task
 abbrev pub id_in : List (List ℕ) → Option ℕ
-id_in fields = number_at 1 0 max_id fields
+id_in fields = number_at 1 0 MAX_ID fields
 
 abbrev pub core_in : List (List ℕ) → Option ℕ
-core_in fields = number_at 2 0 (MAX_CPUS - 1) fields
+core_in fields = number_at 2 0 MAX_CORE fields
 
 abbrev pub cache_in : List (List ℕ) → Option ℕ
-cache_in fields = number_at 3 0 (MAX_CPUS - 1) fields
+cache_in fields = number_at 3 0 MAX_CORE fields
 
 abbrev pub node_in : List (List ℕ) → Option ℕ
 node_in fields = number_at 4 0 (MAX_NODES - 1) fields
@@ -60,17 +55,17 @@ abbrev pub lanes_in : List (List ℕ) → Option ℕ
 lanes_in fields = number_at 1 1 MAX_LANES fields
 
 abbrev pub home_in : List (List ℕ) → Option ℕ
-home_in fields = number_at 3 0 max_id fields
+home_in fields = number_at 3 0 MAX_ID fields
 
 abbrev pub lane_in : List (List ℕ) → Option ℕ
-lane_in fields = number_at 1 0 max_id fields
+lane_in fields = number_at 1 0 MAX_ID fields
 
 abbrev pub moment_in : List (List ℕ) → Option ℕ
 moment_in fields = number_at 2 0 MAX_MOMENT fields
 
 -- the task or the CPU that a row is about
 abbrev pub subject_in : List (List ℕ) → Option ℕ
-subject_in fields = number_at 3 0 max_id fields
+subject_in fields = number_at 3 0 MAX_ID fields
 
 -- ---- what a whole line says
 abbrev pub cpu_of : List (List ℕ) → CpuRow

@@ -1,11 +1,13 @@
-//! The tests of a line that says something of the machine: a CPU, or a node's distances.
+//! The machine that a header describes, and the tests of a line that says something of it: a CPU, or a
+//! node's distances.
 ghost use Rattle.std.specs.Prelude.{◌≡◌, ◌≤◌, ◌<◌, ◌++◌, ◌∷◌, [], ℕ, List, true, IfOk, length};
 ghost use Rattle.std.specs.List.{list_all};
-ghost use Rattle.lb_levels.specs.Rows.{clashes, cpu_clashes, distance, is_bad_entry, is_bad_distance, is_nested};
+ghost use Rattle.lb_levels.specs.Rows.{layout_of, clashes, cpu_clashes, distance, is_bad_entry, is_bad_distance, is_nested};
 ghost use Rattle.lb_levels.specs.Faults.{nodes_of};
-ghost use Rattle.lb_trace.specs.Accepted.{is_cpu, is_distance};
+ghost use Rattle.lb_trace.specs.Accepted.{is_cpu, is_distance, IsHeader};
 ghost use Rattle.lb_trace.specs.Sound.{has_size, StandsIfNested};
 
+use crate::trace::Header;
 use lb_base::{Items, MAX_CPUS, NoMemory};
 use lb_levels::laws::a_machine_has_no_fault;
 use lb_levels::{CpuRow, Machine, MachineError};
@@ -85,6 +87,7 @@ pub fn is_bad_distance(distances: &[Items<u32>], nodes: usize) -> bool
 
 /// Whether the nodes are nested at each distance, where nothing else keeps the rows from being a
 /// machine.
+#[tactic(auto, using(crate::proofs::RangeFacts::nodes_range, crate::proofs::RangeFacts::distances_range))]
 pub fn is_nested(alloc: Global, cpus: &[CpuRow], distances: &[Items<u32>]) -> Result<bool, NoMemory>
     requires some { 0 < length cpus.now }
     requires few { length cpus.now ≤ MAX_CPUS }
@@ -93,10 +96,26 @@ pub fn is_nested(alloc: Global, cpus: &[CpuRow], distances: &[Items<u32>]) -> Re
     requires stands { StandsIfNested cpus.now distances.now }
     ensures { IfOk result (λ nested. nested ≡ is_nested distances.now) }
 {
+    // Rows without another fault are a machine exactly where their nodes are nested.
     a_machine_has_no_fault();
     match Machine::read(alloc, cpus, distances) {
         Ok(_machine) => Ok(true),
         Err(MachineError::NoMemory) => Err(NoMemory),
         Err(_fault) => Ok(false),
+    }
+}
+
+impl Header {
+    /// The machine that it describes. Every header of an accepted trace meets the condition.
+    #[tactic(auto, using(crate::proofs::RangeFacts::nodes_range, crate::proofs::RangeFacts::distances_range))]
+    pub fn machine(&self, alloc: Global) -> Result<Machine, NoMemory>
+        requires { IsHeader self.now }
+        ensures { IfOk result (λ machine. machine ≡ layout_of self.now.cpus self.now.distances) }
+    {
+        match Machine::read(alloc, self.cpus.as_slice(), self.distances.as_slice()) {
+            Ok(machine) => Ok(machine),
+            Err(MachineError::NoMemory) => Err(NoMemory),
+            Err(_) => unreachable!(),
+        }
     }
 }

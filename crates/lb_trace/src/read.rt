@@ -4,11 +4,13 @@ ghost use Rattle.lb_fields.specs.Parts.{parts};
 ghost use Rattle.lb_trace.specs.Grammar.{lines_from, nothing_read, trace_of, reading_of, Gives};
 ghost use Rattle.lb_trace.specs.Ticked.{AreTicked};
 
+use crate::line_error::LineError;
 use crate::reading::Reading;
 use crate::trace::{Code, Header, MAX_BYTES, Trace, TraceError};
 use csv::ByteRecord;
 use lb_base::{Items, MAX_CPUS, Mask, NoMemory};
 use lb_fields::{Parts, start};
+use lb_text::LINE_FEED;
 use std::alloc::Global;
 
 // No CPU has ticked yet.
@@ -22,31 +24,32 @@ fn none_ticked() -> [Option<u64>; MAX_CPUS as usize]
 #[tactic(auto, unfolding(crate::specs::Grammar::lines_from))]
 fn lines_from(alloc: Global, text: &[u8]) -> Result<Reading, TraceError>
     requires { length text.now ≤ MAX_BYTES }
-    ensures reading { Gives result (lines_from nothing_read (parts 10 text.now)) }
+    ensures reading { Gives result (lines_from nothing_read (parts LINE_FEED text.now)) }
     ensures few { IfOk result (λ read. length read.cpus ≤ MAX_CPUS) }
 {
     let mut reading = Reading::new(alloc);
     let mut reader = start(alloc, text);
     let mut fields = ByteRecord::new(alloc);
     let mut ticked = none_ticked();
-    let mut lines = Parts::new(text, b'\n');
+    let mut lines = Parts::new(text, LINE_FEED);
     let Some(mut line) = lines.next_part() else {
         return Ok(reading);
     };
     while let Some(next) = lines.next_part() {
         let number = reading.line;
         match reading.take_line(alloc, line, &mut reader, &mut fields, &mut ticked) {
-            Ok(None) => line = next,
-            Ok(Some(code)) => return Err(TraceError::Refused { line: number, code }),
-            Err(NoMemory) => return Err(TraceError::NoMemory),
+            Ok(()) => line = next,
+            Err(LineError::Bad(code)) => return Err(TraceError::Refused { line: number, code }),
+            Err(LineError::NoMemory) => return Err(TraceError::NoMemory),
         }
     }
-    match reading.last_code(line) {
-        Some(code) => Err(TraceError::Refused {
+    match reading.test_last(line) {
+        Ok(()) => Ok(reading),
+        Err(LineError::Bad(code)) => Err(TraceError::Refused {
             line: reading.line,
             code,
         }),
-        None => Ok(reading),
+        Err(LineError::NoMemory) => Err(TraceError::NoMemory),
     }
 }
 

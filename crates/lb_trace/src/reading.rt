@@ -1,5 +1,5 @@
 //! What was read so far, and the line after it.
-ghost use Rattle.std.specs.Prelude.{◌≡◌, ◌<◌, ◌^◌, ◌-◌, ◌∷◌, ◌++◌, ◌==◌, if◌then◌else◌, ℕ, List, true, false, None, length, IfOk, IfNone, IfSome, IsSome, Ok, Err};
+ghost use Rattle.std.specs.Prelude.{◌≡◌, ◌<◌, ◌^◌, ◌-◌, ◌∷◌, ◌++◌, ◌==◌, if◌then◌else◌, ℕ, List, true, false, None, length, IfErr, OnOk, Ok, Err};
 ghost use Rattle.csv.specs.Records.{fields_of};
 ghost use Rattle.lb_fields.specs.Parts.{is_plain};
 ghost use Rattle.lb_fields.specs.Standing.{Stands};
@@ -10,14 +10,16 @@ ghost use Rattle.lb_trace.specs.Places.{has_machine, can_stand, is_past_rows, ro
 ghost use Rattle.lb_trace.specs.Tests.{Tests, unless_bad, byte_tests, kind_tests};
 ghost use Rattle.lb_trace.specs.Grammar.{after_line, line_at, ended, nothing_read, Steps, TakesLine};
 ghost use Rattle.lb_trace.specs.Sound.{IsSound};
-ghost use Rattle.lb_trace.specs.Ticked.{AreTicked, KeepsTicked};
+ghost use Rattle.lb_trace.specs.Ticked.{AreTicked};
 
 use crate::kind::{LineKind, RowKind, kind_of};
+use crate::line_error::LineError;
 use crate::machine::nodes_of;
 use crate::trace::{Code, CpuRows, Distances, MAX_ROWS, MAX_TASKS, Masks, Rows, TaskRows};
 use csv::{ByteRecord, Reader};
-use lb_base::{Items, MAX_CPUS, NoMemory};
+use lb_base::{Items, MAX_CPUS};
 use lb_fields::{is_plain, next_fields};
+use lb_text::LINE_FEED;
 use std::alloc::Global;
 
 /// What the lines so far say, and the number of the next line, from 1.
@@ -117,13 +119,13 @@ impl Reading {
         kind: RowKind,
         fields: &ByteRecord,
         ticked: &mut [Option<u64>],
-    ) -> Result<Option<Code>, NoMemory>
+    ) -> Result<(), LineError>
         requires line { self.old.line < 2 ^ 64 - 1 }
         requires sound { IsSound self.old }
         requires lanes { length ticked.old ≡ MAX_CPUS }
         requires ticked { AreTicked self.old.rows ticked.old }
-        ensures step { IfOk result (TakesLine (kinds.Row kind) (fields_of fields.now) self.old self.new) }
-        ensures ticked { IfOk result (λ code. KeepsTicked code self.new ticked.new) }
+        ensures step { TakesLine (kinds.Row kind) (fields_of fields.now) self.old self.new result }
+        ensures ticked { OnOk result (AreTicked self.new.rows ticked.new) }
     {
         match kind {
             RowKind::Wake => self.wake_line(fields),
@@ -143,25 +145,25 @@ impl Reading {
         kind: LineKind,
         fields: &ByteRecord,
         ticked: &mut [Option<u64>],
-    ) -> Result<Option<Code>, NoMemory>
+    ) -> Result<(), LineError>
         requires line { self.old.line < 2 ^ 64 - 1 }
         requires sound { IsSound self.old }
         requires place { can_stand self.old kind ≡ true }
         requires count { has_fields self.old kind (length (fields_of fields.now)) ≡ true }
         requires lanes { length ticked.old ≡ MAX_CPUS }
         requires ticked { AreTicked self.old.rows ticked.old }
-        ensures step { IfOk result (TakesLine kind (fields_of fields.now) self.old self.new) }
-        ensures ticked { IfOk result (λ code. KeepsTicked code self.new ticked.new) }
+        ensures step { TakesLine kind (fields_of fields.now) self.old self.new result }
+        ensures ticked { OnOk result (AreTicked self.new.rows ticked.new) }
     {
         match kind {
             LineKind::Version => {
                 self.line += 1;
-                Ok(None)
+                Ok(())
             }
             LineKind::Cpu => self.cpu_line(fields),
             LineKind::Dist => self.dist_line(alloc, fields),
             LineKind::Parts => self.parts_line(alloc, fields),
-            LineKind::Lanes => Ok(self.lanes_line(fields)),
+            LineKind::Lanes => self.lanes_line(fields),
             LineKind::Task => self.task_line(fields),
             LineKind::Row(kind) => self.row_line(alloc, kind, fields, ticked),
         }
@@ -174,75 +176,73 @@ impl Reading {
         alloc: Global,
         fields: &ByteRecord,
         ticked: &mut [Option<u64>],
-    ) -> Result<Option<Code>, NoMemory>
+    ) -> Result<(), LineError>
         requires line { self.old.line < 2 ^ 64 - 1 }
         requires sound { IsSound self.old }
         requires lanes { length ticked.old ≡ MAX_CPUS }
         requires ticked { AreTicked self.old.rows ticked.old }
-        ensures step { IfOk result (λ code. Steps code self.new (unless_bad (kind_tests self.old (kind_of (fields_of fields.now)) (fields_of fields.now))
-            (after_line self.old (kind_of (fields_of fields.now)) (fields_of fields.now)))) }
-        ensures ticked { IfOk result (λ code. KeepsTicked code self.new ticked.new) }
+        ensures step { Steps result self.new (unless_bad (kind_tests self.old (kind_of (fields_of fields.now)) (fields_of fields.now))
+            (after_line self.old (kind_of (fields_of fields.now)) (fields_of fields.now))) }
+        ensures ticked { OnOk result (AreTicked self.new.rows ticked.new) }
     {
-        let Some(kind) = kind_of(fields) else {
-            return Ok(Some(Code::Kind));
-        };
+        let kind = kind_of(fields).ok_or(Code::Kind)?;
         if !self.can_stand(kind) {
-            return Ok(Some(Code::Order));
+            return Err(LineError::Bad(Code::Order));
         }
         if self.is_past_rows(kind) {
-            return Ok(Some(Code::Many));
+            return Err(LineError::Bad(Code::Many));
         }
         if !self.has_fields(kind, fields.len()) {
-            return Ok(Some(Code::Fields));
+            return Err(LineError::Bad(Code::Fields));
         }
         self.line_of(alloc, kind, fields, ticked)
     }
 
-    // The code of a line by its bytes alone.
+    // The code of a line by its bytes alone, where it has one.
     #[tactic(auto, unfolding(crate::specs::Tests::byte_tests))]
-    fn byte_code(&self, cut: bool, line: &[u8]) -> Option<Code>
-        ensures good { IfNone result ((ts : Tests) → (read : Read) → unless_bad (byte_tests self.now cut line.now ++ ts) read ≡ unless_bad ts read) }
-        ensures bad { IfSome result (λ code. (ts : Tests) → (read : Read) → unless_bad (byte_tests self.now cut line.now ++ ts) read ≡ Err code) }
-        ensures plain { IfNone result (is_plain line.now ≡ true) }
-        ensures cut { cut ≡ true → IsSome result }
+    fn test_bytes(&self, cut: bool, line: &[u8]) -> Result<(), Code>
+        ensures good { OnOk result ((ts : Tests) → (read : Read)
+            → unless_bad (byte_tests self.now cut line.now ++ ts) read ≡ unless_bad ts read) }
+        ensures bad { IfErr result (λ code. (ts : Tests) → (read : Read)
+            → unless_bad (byte_tests self.now cut line.now ++ ts) read ≡ Err code) }
+        ensures plain { OnOk result (is_plain line.now ≡ true) }
+        ensures cut { OnOk result (cut ≡ false) }
     {
         if !is_plain(line) {
-            return Some(Code::Byte);
+            return Err(Code::Byte);
         }
         if cut {
-            return Some(Code::Cut);
+            return Err(Code::Cut);
         }
         if self.line == 1 && line != b"lbtrace,1".as_slice() {
-            return Some(Code::Header);
+            return Err(Code::Header);
         }
-        None
+        Ok(())
     }
 
-    // The code of a text that ends here.
+    // The code of a text that ends here, where it has one.
     #[tactic(auto, unfolding(crate::specs::Grammar::ended, crate::specs::Tests::end_tests))]
-    fn end_code(&self) -> Option<Code>
+    fn test_end(&self) -> Result<(), LineError>
         ensures { Steps result self.now (ended self.now) }
     {
         if self.line == 1 {
-            Some(Code::Header)
-        } else if self.lanes.is_none() {
-            Some(Code::Order)
-        } else {
-            None
+            return Err(LineError::Bad(Code::Header));
         }
+        if self.lanes.is_none() {
+            return Err(LineError::Bad(Code::Order));
+        }
+        Ok(())
     }
 
-    /// The code of what stands after the last line feed: the end of the text, or a line that is cut
-    /// off.
+    /// Takes what stands after the last line feed: the end of the text, or a line that is cut off.
     #[tactic(auto, unfolding(crate::specs::Grammar::line_at, crate::specs::Tests::line_tests))]
-    pub fn last_code(&self, last: &[u8]) -> Option<Code>
+    pub fn test_last(&self, last: &[u8]) -> Result<(), LineError>
         ensures { Steps result self.now (if length last.now == 0 then ended self.now else line_at self.now true last.now) }
     {
         if last.is_empty() {
-            self.end_code()
-        } else {
-            self.byte_code(true, last)
+            return self.test_end();
         }
+        Ok(self.test_bytes(true, last)?)
     }
 
     /// Takes the next line, before which the reader of fields stands.
@@ -254,20 +254,18 @@ impl Reading {
         reader: &mut Reader<&[u8]>,
         fields: &mut ByteRecord,
         ticked: &mut [Option<u64>],
-    ) -> Result<Option<Code>, NoMemory>
+    ) -> Result<(), LineError>
         requires line { self.old.line < 2 ^ 64 - 1 }
         requires sound { IsSound self.old }
         requires lanes { length ticked.old ≡ MAX_CPUS }
         requires ticked { AreTicked self.old.rows ticked.old }
-        ensures step { (tail : List ℕ) → (is_plain line.now ≡ true → Stands reader.old (line.now ++ 10 ∷ tail))
-            → IfOk result (λ code. Steps code self.new (line_at self.old false line.now) × (code ≡ None → Stands reader.new tail)) }
-        ensures ticked { IfOk result (λ code. KeepsTicked code self.new ticked.new) }
+        ensures step { (tail : List ℕ) → (is_plain line.now ≡ true → Stands reader.old (line.now ++ LINE_FEED ∷ tail))
+            → Steps result self.new (line_at self.old false line.now) × OnOk result (Stands reader.new tail) }
+        ensures ticked { OnOk result (AreTicked self.new.rows ticked.new) }
     {
-        if let Some(code) = self.byte_code(false, line) {
-            return Ok(Some(code));
-        }
+        self.test_bytes(false, line)?;
         if line.is_empty() {
-            return Ok(Some(Code::Kind));
+            return Err(LineError::Bad(Code::Kind));
         }
         next_fields(reader, line, fields)?;
         self.kind_line(alloc, fields, ticked)

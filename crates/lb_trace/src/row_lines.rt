@@ -1,5 +1,5 @@
 //! The rows, each by what its fields say.
-ghost use Rattle.std.specs.Prelude.{◌≡◌, ◌≤◌, ◌<◌, ◌^◌, ◌+◌, ◌-◌, ◌∷◌, ◌++◌, [], ◌||◌, not, nat_lt, true, false, None, length, is_none, Ok, Err, IfOk, IfErr, IfNone, IfSome};
+ghost use Rattle.std.specs.Prelude.{◌≡◌, ◌≤◌, ◌<◌, ◌^◌, ◌+◌, ◌-◌, ◌∷◌, ◌++◌, [], ◌||◌, nat_lt, true, false, length, is_none, Ok, Err, IfOk, IfErr, IfNone, IfSome, OnOk};
 ghost use Rattle.csv.specs.Records.{fields_of};
 ghost use Rattle.lb_trace.specs.declared.kind.LineKind.TheVariants as kinds;
 ghost use Rattle.lb_trace.specs.declared.kind.RowKind.TheVariants as rows;
@@ -8,12 +8,13 @@ ghost use Rattle.lb_trace.specs.Values.{number, lane_in, moment_in, subject_in};
 ghost use Rattle.lb_trace.specs.Naming.{lanes_of};
 ghost use Rattle.lb_trace.specs.Tests.{unless_bad, value_tests};
 ghost use Rattle.lb_trace.specs.Grammar.{TakesLine};
-ghost use Rattle.lb_trace.specs.Ticked.{is_other, AreTicked, KeepsTicked};
+ghost use Rattle.lb_trace.specs.Ticked.{is_other, AreTicked};
 
 use crate::fields::{list_at, masks_from, nice_at, number_at};
+use crate::line_error::LineError;
 use crate::masks::{are_disjoint, has_no_cpu};
 use crate::reading::Reading;
-use crate::trace::{Code, Command, MAX_MOMENT, MAX_TASKS, Row};
+use crate::trace::{Code, Command, MAX_ID, MAX_MOMENT, MAX_TASKS, Row};
 use csv::ByteRecord;
 use lb_base::{MAX_CPUS, NoMemory};
 use std::alloc::Global;
@@ -24,7 +25,7 @@ fn lane_and_moment(fields: &ByteRecord) -> Option<(u64, u64)>
     ensures good { IfSome result (λ p. ((is_none (lane_in (fields_of fields.now)) || is_none (moment_in (fields_of fields.now))) ≡ false)
         × (p.0 ≡ number (lane_in (fields_of fields.now))) × (p.1 ≡ number (moment_in (fields_of fields.now)))) }
 {
-    let lane = number_at(fields, 1, 0, u64::MAX)?;
+    let lane = number_at(fields, 1, 0, MAX_ID)?;
     let at = number_at(fields, 2, 0, MAX_MOMENT)?;
     Some((lane, at))
 }
@@ -33,7 +34,7 @@ fn lane_and_moment(fields: &ByteRecord) -> Option<(u64, u64)>
 fn subject_in(fields: &ByteRecord) -> Option<u64>
     ensures { result ≡ subject_in (fields_of fields.now) }
 {
-    number_at(fields, 3, 0, u64::MAX)
+    number_at(fields, 3, 0, MAX_ID)
 }
 
 // Whether a lane ticked, and it is another than this one.
@@ -66,16 +67,18 @@ impl Reading {
     }
 
     // Takes a row without a fault.
-    fn push_row(&mut self, lane: u64, at: u64, command: Command) -> Result<Option<Code>, NoMemory>
+    fn push_row(&mut self, lane: u64, at: u64, command: Command) -> Result<(), NoMemory>
         requires lane { lane < 2 ^ 32 }
         requires line { self.old.line < 2 ^ 64 - 1 }
-        ensures none { IfOk result (λ code. code ≡ None) }
-        ensures pushed { IfOk result (λ code. self.new ≡ record self.old { line = self.old.line + 1; rows = self.old.rows ++ record { lane = lane; at = at; command = command } ∷ [] }) }
+        ensures { OnOk result (self.new ≡ record self.old {
+          line = self.old.line + 1;
+          rows = self.old.rows ++ record { lane = lane; at = at; command = command } ∷ [];
+        }) }
     {
         let lane = lane as u32;
         self.rows.push(Row { lane, at, command })?;
         self.line += 1;
-        Ok(None)
+        Ok(())
     }
 
     // The lane, the moment and the task of a row that has nothing more, or the row's code.
@@ -87,12 +90,8 @@ impl Reading {
             × (p.1 ≡ number (moment_in (fields_of fields.now))) × (p.2 ≡ number (subject_in (fields_of fields.now)))) }
         ensures bad { IfErr result (λ code. (read : Read) → unless_bad (value_tests self.now (kinds.Row rows.Wake) (fields_of fields.now)) read ≡ Err code) }
     {
-        let Some((lane, at)) = lane_and_moment(fields) else {
-            return Err(Code::Number);
-        };
-        let Some(task) = subject_in(fields) else {
-            return Err(Code::Number);
-        };
+        let (lane, at) = lane_and_moment(fields).ok_or(Code::Number)?;
+        let task = subject_in(fields).ok_or(Code::Number)?;
         if !self.has_lane(lane) || !self.has_task(task) {
             return Err(Code::Id);
         }
@@ -101,148 +100,118 @@ impl Reading {
 
     /// Takes a `wake` row, or answers its code. Its place and number of fields are right.
     #[tactic(auto, unfolding(crate::specs::Tests::value_tests))]
-    pub fn wake_line(&mut self, fields: &ByteRecord) -> Result<Option<Code>, NoMemory>
+    pub fn wake_line(&mut self, fields: &ByteRecord) -> Result<(), LineError>
         requires line { self.old.line < 2 ^ 64 - 1 }
         requires few { length self.old.tasks ≤ MAX_TASKS }
-        ensures { IfOk result (TakesLine (kinds.Row rows.Wake) (fields_of fields.now) self.old self.new) }
+        ensures { TakesLine (kinds.Row rows.Wake) (fields_of fields.now) self.old self.new result }
     {
-        match self.task_row(fields) {
-            Ok((lane, at, task)) => self.push_row(lane, at, Command::Wake { task }),
-            Err(code) => Ok(Some(code)),
-        }
+        let (lane, at, task) = self.task_row(fields)?;
+        Ok(self.push_row(lane, at, Command::Wake { task })?)
     }
 
     /// Takes a `sleep` row, or answers its code. Its place and number of fields are right.
     #[tactic(auto, unfolding(crate::specs::Tests::value_tests))]
-    pub fn sleep_line(&mut self, fields: &ByteRecord) -> Result<Option<Code>, NoMemory>
+    pub fn sleep_line(&mut self, fields: &ByteRecord) -> Result<(), LineError>
         requires line { self.old.line < 2 ^ 64 - 1 }
         requires few { length self.old.tasks ≤ MAX_TASKS }
-        ensures { IfOk result (TakesLine (kinds.Row rows.Sleep) (fields_of fields.now) self.old self.new) }
+        ensures { TakesLine (kinds.Row rows.Sleep) (fields_of fields.now) self.old self.new result }
     {
-        match self.task_row(fields) {
-            Ok((lane, at, task)) => self.push_row(lane, at, Command::Sleep { task }),
-            Err(code) => Ok(Some(code)),
-        }
+        let (lane, at, task) = self.task_row(fields)?;
+        Ok(self.push_row(lane, at, Command::Sleep { task })?)
     }
 
-    /// Takes a `exit` row, or answers its code. Its place and number of fields are right.
+    /// Takes an `exit` row, or answers its code. Its place and number of fields are right.
     #[tactic(auto, unfolding(crate::specs::Tests::value_tests))]
-    pub fn exit_line(&mut self, fields: &ByteRecord) -> Result<Option<Code>, NoMemory>
+    pub fn exit_line(&mut self, fields: &ByteRecord) -> Result<(), LineError>
         requires line { self.old.line < 2 ^ 64 - 1 }
         requires few { length self.old.tasks ≤ MAX_TASKS }
-        ensures { IfOk result (TakesLine (kinds.Row rows.Exit) (fields_of fields.now) self.old self.new) }
+        ensures { TakesLine (kinds.Row rows.Exit) (fields_of fields.now) self.old self.new result }
     {
-        match self.task_row(fields) {
-            Ok((lane, at, task)) => self.push_row(lane, at, Command::Exit { task }),
-            Err(code) => Ok(Some(code)),
-        }
+        let (lane, at, task) = self.task_row(fields)?;
+        Ok(self.push_row(lane, at, Command::Exit { task })?)
     }
 
     /// Takes a `mask` row, or answers its code. Its place and number of fields are right.
     #[tactic(auto, unfolding(crate::specs::Tests::value_tests))]
-    pub fn mask_line(&mut self, fields: &ByteRecord) -> Result<Option<Code>, NoMemory>
+    pub fn mask_line(&mut self, fields: &ByteRecord) -> Result<(), LineError>
         requires line { self.old.line < 2 ^ 64 - 1 }
         requires few { length self.old.tasks ≤ MAX_TASKS }
-        ensures { IfOk result (TakesLine (kinds.Row rows.Mask) (fields_of fields.now) self.old self.new) }
+        ensures { TakesLine (kinds.Row rows.Mask) (fields_of fields.now) self.old self.new result }
     {
-        let Some((lane, at)) = lane_and_moment(fields) else {
-            return Ok(Some(Code::Number));
-        };
-        let Some(task) = subject_in(fields) else {
-            return Ok(Some(Code::Number));
-        };
-        let Some(mask) = list_at(fields, 4) else {
-            return Ok(Some(Code::List));
-        };
+        let (lane, at) = lane_and_moment(fields).ok_or(Code::Number)?;
+        let task = subject_in(fields).ok_or(Code::Number)?;
+        let mask = list_at(fields, 4).ok_or(Code::List)?;
         if !self.has_lane(lane) || !self.has_task(task) {
-            return Ok(Some(Code::Id));
+            return Err(LineError::Bad(Code::Id));
         }
         let task = task as u32;
-        self.push_row(lane, at, Command::SetMask { task, mask })
+        Ok(self.push_row(lane, at, Command::SetMask { task, mask })?)
     }
 
     /// Takes a `nice` row, or answers its code. Its place and number of fields are right.
     #[tactic(auto, unfolding(crate::specs::Tests::value_tests))]
-    pub fn nice_line(&mut self, fields: &ByteRecord) -> Result<Option<Code>, NoMemory>
+    pub fn nice_line(&mut self, fields: &ByteRecord) -> Result<(), LineError>
         requires line { self.old.line < 2 ^ 64 - 1 }
         requires few { length self.old.tasks ≤ MAX_TASKS }
-        ensures { IfOk result (TakesLine (kinds.Row rows.Nice) (fields_of fields.now) self.old self.new) }
+        ensures { TakesLine (kinds.Row rows.Nice) (fields_of fields.now) self.old self.new result }
     {
-        let Some((lane, at)) = lane_and_moment(fields) else {
-            return Ok(Some(Code::Number));
-        };
-        let Some(task) = subject_in(fields) else {
-            return Ok(Some(Code::Number));
-        };
-        let Some(nice) = nice_at(fields, 4) else {
-            return Ok(Some(Code::Number));
-        };
+        let (lane, at) = lane_and_moment(fields).ok_or(Code::Number)?;
+        let task = subject_in(fields).ok_or(Code::Number)?;
+        let nice = nice_at(fields, 4).ok_or(Code::Number)?;
         if !self.has_lane(lane) || !self.has_task(task) {
-            return Ok(Some(Code::Id));
+            return Err(LineError::Bad(Code::Id));
         }
         let task = task as u32;
-        self.push_row(lane, at, Command::Nice { task, nice })
+        Ok(self.push_row(lane, at, Command::Nice { task, nice })?)
     }
 
     /// Takes a `tick` row, or answers its code, and notes which lane ticks the CPU. Its place and
     /// number of fields are right.
-    #[tactic(auto, unfolding(crate::specs::Tests::value_tests))]
+    #[tactic(auto, unfolding(crate::specs::Tests::value_tests), using(crate::proofs::TickFacts::one_tick))]
     pub fn tick_line(
         &mut self,
         fields: &ByteRecord,
         ticked: &mut [Option<u64>],
-    ) -> Result<Option<Code>, NoMemory>
+    ) -> Result<(), LineError>
         requires line { self.old.line < 2 ^ 64 - 1 }
         requires few { length self.old.cpus ≤ length ticked.old }
         requires small { length self.old.cpus ≤ MAX_CPUS }
         requires ticked { AreTicked self.old.rows ticked.old }
-        ensures step { IfOk result (TakesLine (kinds.Row rows.Tick) (fields_of fields.now) self.old self.new) }
-        ensures ticked { IfOk result (λ code. KeepsTicked code self.new ticked.new) }
+        ensures step { TakesLine (kinds.Row rows.Tick) (fields_of fields.now) self.old self.new result }
+        ensures ticked { OnOk result (AreTicked self.new.rows ticked.new) }
     {
-        let Some((lane, at)) = lane_and_moment(fields) else {
-            return Ok(Some(Code::Number));
-        };
-        let Some(cpu) = subject_in(fields) else {
-            return Ok(Some(Code::Number));
-        };
+        let (lane, at) = lane_and_moment(fields).ok_or(Code::Number)?;
+        let cpu = subject_in(fields).ok_or(Code::Number)?;
         if !self.has_lane(lane) || cpu >= self.cpus.len() as u64 {
-            return Ok(Some(Code::Id));
+            return Err(LineError::Bad(Code::Id));
         }
         let place = cpu as usize;
         if is_other(ticked[place], lane) {
-            return Ok(Some(Code::Ticks));
+            return Err(LineError::Bad(Code::Ticks));
         }
         ticked[place] = Some(lane);
         let cpu = cpu as u32;
-        self.push_row(lane, at, Command::Tick { cpu })
+        Ok(self.push_row(lane, at, Command::Tick { cpu })?)
     }
 
     /// Takes a `rebuild` row, or answers its code. Its place and number of fields are right.
     #[tactic(auto, unfolding(crate::specs::Tests::value_tests))]
-    pub fn rebuild_line(
-        &mut self,
-        alloc: Global,
-        fields: &ByteRecord,
-    ) -> Result<Option<Code>, NoMemory>
+    pub fn rebuild_line(&mut self, alloc: Global, fields: &ByteRecord) -> Result<(), LineError>
         requires line { self.old.line < 2 ^ 64 - 1 }
         requires few { length self.old.cpus ≤ MAX_CPUS }
-        ensures { IfOk result (TakesLine (kinds.Row rows.Rebuild) (fields_of fields.now) self.old self.new) }
+        ensures { TakesLine (kinds.Row rows.Rebuild) (fields_of fields.now) self.old self.new result }
     {
-        let Some((lane, at)) = lane_and_moment(fields) else {
-            return Ok(Some(Code::Number));
-        };
-        let Some(parts) = masks_from(alloc, fields, 3)? else {
-            return Ok(Some(Code::List));
-        };
+        let (lane, at) = lane_and_moment(fields).ok_or(Code::Number)?;
+        let parts = masks_from(alloc, fields, 3)?.ok_or(Code::List)?;
         if !self.has_lane(lane) {
-            return Ok(Some(Code::Id));
+            return Err(LineError::Bad(Code::Id));
         }
         if has_no_cpu(parts.as_slice(), self.cpus.len() as u32) {
-            return Ok(Some(Code::NoCpu));
+            return Err(LineError::Bad(Code::NoCpu));
         }
         if !are_disjoint(parts.as_slice()) {
-            return Ok(Some(Code::Overlap));
+            return Err(LineError::Bad(Code::Overlap));
         }
-        self.push_row(lane, at, Command::Rebuild { parts })
+        Ok(self.push_row(lane, at, Command::Rebuild { parts })?)
     }
 }

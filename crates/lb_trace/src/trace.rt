@@ -1,12 +1,15 @@
 ghost use Rattle.std.specs.Prelude.{◌≡◌};
 ghost use Rattle.lb_trace.specs.declared.trace.TraceError.TheVariants.{NoMemory as no_memory};
 
-use lb_base::{Items, Mask, NoMemory};
+use lb_base::{Items, MAX_CPUS, Mask, NoMemory};
 use lb_levels::CpuRow;
 use std::fmt;
 
 /// The length of the longest text that is read, in bytes: 32 MiB.
 pub const MAX_BYTES: u64 = 33_554_432;
+
+/// The greatest number of a core or a cache.
+pub const MAX_CORE: u64 = (MAX_CPUS - 1) as u64;
 
 /// The most nodes of a machine. Nodes are numbered below this.
 pub const MAX_NODES: u64 = 16;
@@ -22,6 +25,10 @@ pub const MAX_TASKS: u64 = 4_096;
 
 /// The most rows of a trace.
 pub const MAX_ROWS: u64 = 100_000;
+
+/// The greatest id, and the greatest number of a lane, a task or a CPU, that a line can spell. Whether
+/// it names what is declared is another question.
+pub const MAX_ID: u64 = u64::MAX;
 
 /// The last moment, in nanoseconds.
 pub const MAX_MOMENT: u64 = 1_000_000_000_000_000;

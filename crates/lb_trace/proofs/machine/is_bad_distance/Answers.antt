@@ -1,6 +1,6 @@
 use Rattle.std.proofs.Common.{◌-◌, length, ◌∙◌, arith, rules}
 use Rattle.lb_levels.specs.Rows.{is_bad_entry}
-use Rattle.lb_levels.proofs.Finding.{one_passes, none_passes}
+use Rattle.lb_base.proofs.Ranges.{one_passes, none_passes}
 use Rattle.lb_trace.proofs.DistanceFacts.{bad_last}
 use Rattle.lb_trace.proofs.machine.is_bad_distance.Goals as goal
 

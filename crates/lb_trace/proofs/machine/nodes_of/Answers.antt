@@ -2,7 +2,7 @@ use Rattle.std.proofs.Common.{arith, ◌∙◌, ap}
 use Rattle.std.proofs.lemmas.List.{take_more}
 use Rattle.lb_levels.specs.Rows.{no_row}
 use Rattle.lb_levels.specs.Faults.{nodes_of}
-use Rattle.lb_levels.proofs.Tables.{nodes_of-push}
+use Rattle.lb_levels.proofs.Nodes.{nodes_of-push}
 use Rattle.lb_trace.proofs.machine.nodes_of.Goals as goal
 
 pub loop-row-preserved : goal.loop-row-preserved

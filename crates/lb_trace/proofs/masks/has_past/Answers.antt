@@ -1,6 +1,6 @@
 use Rattle.std.proofs.Common.{Bool, ◌&&◌, not, ◌∙◌, ap}
 use Rattle.lb_base.specs.Mask.{has}
-use Rattle.lb_levels.proofs.MaskTests.{below_is}
+use Rattle.lb_base.proofs.Sets.{below_is}
 use Rattle.lb_trace.proofs.masks.has_past.Goals as goal
 
 pub returns : goal.returns

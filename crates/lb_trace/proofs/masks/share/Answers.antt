@@ -1,5 +1,5 @@
 use Rattle.std.proofs.Common.{◌∙◌}
-use Rattle.lb_levels.proofs.MaskTests.{apart_is}
+use Rattle.lb_base.proofs.Sets.{apart_is}
 use Rattle.lb_trace.proofs.masks.share.Goals as goal
 
 pub returns : goal.returns

@@ -39,29 +39,28 @@ loop-next-preserved c =
     let left = join_with_byte 10 (next ∷ rest) in
     let more : c.loop-next.lines ≡ next ∷ rest = search rules in
     let stands : is_plain line ≡ true → Stands c.loop-next.reader (line ++ 10 ∷ left) = rw more at inv.stands in
-    let step = rw c.in-Ok-None.field-0-is at (c.in-Ok-None.ensures.step left stands) in
-    let keeps = rw c.in-Ok-None.field-0-is at c.in-Ok-None.ensures.ticked in
+    let step = c.in-Ok.ensures.step left stands in
     let some = inv.some in
     let room : old.line + length (line ++ 10 ∷ left) ≤ MAX_BYTES + 1 = rw more at inv.room in
     let size = length-append line (10 ∷ left) in
     let up = line_next old new line step.0 in
     record {
       sound = sound_line old new line (omega (arith, some, room, size)) inv.sound step.0;
-      ticked = keeps refl;
+      ticked = c.in-Ok.ensures.ticked;
       some = omega (arith, some, up);
       room = omega (arith, room, size, up);
       from = sym (rw step.0 refl) ∙ (rw more at inv.from);
-      stands = λ plain. step.1 refl;
+      stands = λ plain. step.1;
     }
 
-pub returns-in-Ok-Some-clause-reading : goal.returns-in-Ok-Some-clause-reading
+pub returns-in-Err-Bad-clause-reading : goal.returns-in-Err-Bad-clause-reading
 unfolding lines_from
-returns-in-Ok-Some-clause-reading c =
+returns-in-Err-Bad-clause-reading c =
     let inv = c.loop-next.invariant in
     let line = c.loop-next.line.now in
     let next = c.in-Some-next_part.next.now in
     let rest = c.next_part-in-loop-next.new.self in
     let more : c.loop-next.lines ≡ next ∷ rest = search rules in
     let stands : is_plain line ≡ true → Stands c.loop-next.reader (line ++ 10 ∷ join_with_byte 10 (next ∷ rest)) = rw more at inv.stands in
-    let step = rw c.in-Ok-Some.field-0-is at (c.in-Ok-Some.ensures.step (join_with_byte 10 (next ∷ rest)) stands) in
-    sym (rw more at inv.from) ∙ rw step.0 refl
+    let step = rw c.in-Err-Bad.field-0-is at (c.in-Err-Bad.ensures.step (join_with_byte 10 (next ∷ rest)) stands) in
+    rw c.in-Err-Bad.field-0-is (sym (rw more at inv.from) ∙ rw step.0 refl)

@@ -6,4 +6,4 @@ pub is_nested-requires-clause-distances : goal.is_nested-requires-clause-distanc
 is_nested-requires-clause-distances c =
     let read = rw c.in-Some.is at c.in_ok-distances.ensures in
     rw (c.as_slice-table.ensures, c.in_ok-push.ensures.ok, read.1)
-    (in_range_with c.args.self.now.distances (fields_of c.args.fields.now) c.requires.sound.distances read.0)
+    (in_range_with c.args.self.now.distances (fields_of c.args.fields.now) c.requires.sound.machine.distances read.0)
