@@ -7,6 +7,7 @@ use Rattle.lb_base.specs.declared.mask.Mask.{Mask}
 use Rattle.lb_base.specs.declared.shape.LevelName.{LevelName}
 use Rattle.lb_base.specs.declared.shape.LevelName.TheVariants.{Smt, Mc, Pkg, Numa}
 use Rattle.lb_levels.specs.declared.cpu_row.CpuRow.{CpuRow}
+use Rattle.lb_text.specs.declared.marks.TheConstants.{LINE_FEED}
 use Rattle.lb_text.specs.Runs.{list_text}
 use Rattle.lb_domain.specs.declared.domain.Domain.{Domain}
 use Rattle.lb_domain.specs.Domains.{topology_of}
@@ -34,11 +35,11 @@ unfoldable pub domain_line : ℕ → Domain → List ℕ
 domain_line cpu domain =
     cpu_text cpu ++ level_text domain.shape.name ++ codes " " ++ list_text domain.shape.span
     ++ groups_text domain.groups
-    ++ 10 ∷ []
+    ++ LINE_FEED ∷ []
 
 -- the lines of a CPU with these domains; one line where it has none
 abbrev pub cpu_lines : ℕ → List Domain → List ℕ
-cpu_lines cpu [] = cpu_text cpu ++ codes "-" ++ 10 ∷ []
+cpu_lines cpu [] = cpu_text cpu ++ codes "-" ++ LINE_FEED ∷ []
 cpu_lines cpu (domain ∷ domains) = flat_map (domain_line cpu) (domain ∷ domains)
 
 -- the lines of CPUs, the first of which has this number
@@ -49,7 +50,7 @@ cpus_lines cpu (domains ∷ others) = cpu_lines cpu domains ++ cpus_lines (cpu +
 -- the lines of a version with these masks, on the machine of these CPUs and distances
 unfoldable pub version_text : List CpuRow → List (List ℕ) → ℕ → List Mask → List ℕ
 version_text cpus table version parts =
-    codes "version " ++ decimal version ++ 10 ∷ [] ++ cpus_lines 0 (topology_of cpus table parts)
+    codes "version " ++ decimal version ++ LINE_FEED ∷ [] ++ cpus_lines 0 (topology_of cpus table parts)
 
 -- the versions of these partitions, the first of which has this number
 abbrev pub versions_text : List CpuRow → List (List ℕ) → ℕ → List (List Mask) → List ℕ

@@ -2,10 +2,7 @@
 //! version.
 #![tactic(auto)]
 
-mod build;
 mod lines;
-#[cfg(test)]
-mod tests;
 mod text;
 
 pub use text::topology_text;

@@ -31,9 +31,9 @@ fn put_groups(
     position: u32,
     to: &mut Vec<u8>,
 ) -> Result<(), NoMemory>
-    requires cpu { cpu < length topology.now }
-    requires position { position < length (domains_at topology.now cpu) }
-    ensures { OnOk result (to.new.items ≡ to.old.items ++ groups_text (domain_at (domains_at topology.now cpu) position).groups) }
+    requires cpu { cpu < length topology.now.all }
+    requires position { position < length (domains_at topology.now.all cpu) }
+    ensures { OnOk result (to.new.items ≡ to.old.items ++ groups_text (domain_at (domains_at topology.now.all cpu) position).groups) }
 {
     for i in 0..topology.groups(cpu, position) {
         to.extend_from_slice(b" | ")?;
@@ -60,9 +60,9 @@ fn put_domain(
     position: u32,
     to: &mut Vec<u8>,
 ) -> Result<(), NoMemory>
-    requires cpu { cpu < length topology.now }
-    requires position { position < length (domains_at topology.now cpu) }
-    ensures { OnOk result (to.new.items ≡ to.old.items ++ domain_line cpu (domain_at (domains_at topology.now cpu) position)) }
+    requires cpu { cpu < length topology.now.all }
+    requires position { position < length (domains_at topology.now.all cpu) }
+    ensures { OnOk result (to.new.items ≡ to.old.items ++ domain_line cpu (domain_at (domains_at topology.now.all cpu) position)) }
 {
     let shape = topology.shape(cpu, position);
     put_cpu(cpu, to)?;
@@ -76,8 +76,8 @@ fn put_domain(
 
 // Appends the lines of a CPU's domains.
 fn put_domains(topology: &Topology, cpu: u32, to: &mut Vec<u8>) -> Result<(), NoMemory>
-    requires { cpu < length topology.now }
-    ensures { OnOk result (to.new.items ≡ to.old.items ++ flat_map (domain_line cpu) (domains_at topology.now cpu)) }
+    requires { cpu < length topology.now.all }
+    ensures { OnOk result (to.new.items ≡ to.old.items ++ flat_map (domain_line cpu) (domains_at topology.now.all cpu)) }
 {
     for position in 0..topology.count(cpu) {
         put_domain(topology, cpu, position, to)?;
@@ -87,8 +87,8 @@ fn put_domains(topology: &Topology, cpu: u32, to: &mut Vec<u8>) -> Result<(), No
 
 // Appends the lines of a CPU.
 fn put_cpu_lines(topology: &Topology, cpu: u32, to: &mut Vec<u8>) -> Result<(), NoMemory>
-    requires { cpu < length topology.now }
-    ensures { OnOk result (to.new.items ≡ to.old.items ++ cpu_lines cpu (domains_at topology.now cpu)) }
+    requires { cpu < length topology.now.all }
+    ensures { OnOk result (to.new.items ≡ to.old.items ++ cpu_lines cpu (domains_at topology.now.all cpu)) }
 {
     if topology.count(cpu) > 0 {
         return put_domains(topology, cpu, to);
@@ -100,8 +100,8 @@ fn put_cpu_lines(topology: &Topology, cpu: u32, to: &mut Vec<u8>) -> Result<(), 
 
 // Appends the lines of all CPUs, of which there are so many.
 pub(crate) fn put_cpus(topology: &Topology, cpus: u32, to: &mut Vec<u8>) -> Result<(), NoMemory>
-    requires { length topology.now ≡ cpus }
-    ensures { OnOk result (to.new.items ≡ to.old.items ++ cpus_lines 0 topology.now) }
+    requires { length topology.now.all ≡ cpus }
+    ensures { OnOk result (to.new.items ≡ to.old.items ++ cpus_lines 0 topology.now.all) }
 {
     for cpu in 0..cpus {
         put_cpu_lines(topology, cpu, to)?;

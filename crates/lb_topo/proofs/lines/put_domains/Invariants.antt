@@ -6,5 +6,5 @@ use Rattle.lb_topo.proofs.lines.put_domains.Given as goal
 
 abbrev pub invariant-loop-position : goal.invariant-loop-position
 invariant-loop-position l =
-    l.to.items ++ flat_map (domain_line l.cpu) (drop l.position (domains_at l.topology l.cpu))
-    ≡ l.fn.to.items ++ flat_map (domain_line l.cpu) (domains_at l.topology l.cpu)
+    l.to.items ++ flat_map (domain_line l.cpu) (drop l.position (domains_at l.topology.all l.cpu))
+    ≡ l.fn.to.items ++ flat_map (domain_line l.cpu) (domains_at l.topology.all l.cpu)

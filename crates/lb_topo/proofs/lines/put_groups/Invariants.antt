@@ -5,5 +5,5 @@ use Rattle.lb_topo.proofs.lines.put_groups.Given as goal
 
 abbrev pub invariant-loop-i : goal.invariant-loop-i
 invariant-loop-i l =
-    l.to.items ++ groups_text (drop l.i (domain_at (domains_at l.topology l.cpu) l.position).groups)
-    ≡ l.fn.to.items ++ groups_text (domain_at (domains_at l.topology l.cpu) l.position).groups
+    l.to.items ++ groups_text (drop l.i (domain_at (domains_at l.topology.all l.cpu) l.position).groups)
+    ≡ l.fn.to.items ++ groups_text (domain_at (domains_at l.topology.all l.cpu) l.position).groups
