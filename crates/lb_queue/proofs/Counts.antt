@@ -1,3 +1,5 @@
+-- How often a number stands in a list, through the functions on lists, and what a search finds: a
+-- library for the proofs of `lb_core` and of other crates that count the ids of tasks.
 use Rattle.std.proofs.Common.{◌≡◌, ℕ, ◌+◌, ◌≤◌, Bool, true, false, not, cond, ◌==◌, if◌then◌else◌, eqb, List, [], ◌∷◌, ◌++◌, map, reverse, filter, find, Some, None, refl, sym, ◌∙◌, ap, arith, zero-add, subst}
 use Rattle.std.proofs.lemmas.Bool.{eq-eqb, cond-true, cond_both}
 use Rattle.std.proofs.lemmas.Bool.Decides.{nat_tests}

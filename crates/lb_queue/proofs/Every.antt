@@ -1,4 +1,4 @@
--- Tests that every element of a list passes.
+-- Tests that every element of a list passes. For callers too.
 use Rattle.std.proofs.Common.{◌≡◌, Bool, true, false, cond, List, [], ◌∷◌, ◌++◌, map, reverse, filter, find, Option, Some, refl, ◌∙◌, ap, subst}
 use Rattle.std.specs.List.{list_all}
 use Rattle.std.proofs.lemmas.Bool.{and_parts, and_from}

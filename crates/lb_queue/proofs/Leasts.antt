@@ -138,7 +138,7 @@ least_is_next owed ys id one h = by_first (some_found (find (named owed id) ys) 
         let c = passes_found (named owed id) (λ (x : Awake). x.task.id == id) ys a e a_is.1 in
         both a b.0 c.0 e b.1 c.1
 
-none_next : (owed : Bool) (ys all : List Awake) → list_any (asks owed) ys ≡ false → find (is_next_asked owed all) ys ≡ None
+pub none_next : (owed : Bool) (ys all : List Awake) → list_any (asks owed) ys ≡ false → find (is_next_asked owed all) ys ≡ None
 none_next owed [] all h = refl
 none_next owed (y ∷ ys) all h = step (asks owed y) (list_all (unasked_or_from owed y.task.id) all) (list_any (asks owed) ys) h (none_next owed ys all)
   where
@@ -159,7 +159,7 @@ owed_pending Free h = absurd (let z : ⊥ = cc in z)
 owed_pending Pending h = refl
 owed_pending Owed h = refl
 
-asked_pending : (owed : Bool) (a : Awake) → asks owed a ≡ true → is_pending a.stop ≡ true
+pub asked_pending : (owed : Bool) (a : Awake) → asks owed a ≡ true → is_pending a.stop ≡ true
 asked_pending true a h = owed_pending a.stop h
 asked_pending false a h = h
 

@@ -22,7 +22,12 @@ pub mod Order
 pub mod Taking
 pub mod PickedIds
 pub mod Pulling
+pub mod Outcomes
+pub mod Lasting
 pub mod Steps
 pub mod CallsKeep
 pub mod Reached
 pub mod Trials
+pub mod Moving
+pub mod Resting
+pub mod Allowed

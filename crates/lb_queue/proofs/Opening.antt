@@ -1,4 +1,5 @@
--- The positions of a turn, by kind, and what holds of a turn that has opened.
+-- The positions of a turn, by kind, and what holds of a turn that has opened. For callers too: positions
+-- stand below the counters.
 use Rattle.std.proofs.Common.{◌≡◌, ℕ, suc, zero, ◌+◌, ◌*◌, ◌/◌, ◌<◌, ◌≤◌, nat_lt, ltb, ◌==◌, Bool, true, false, not, cond, ◌&&◌, List, [], ◌∷◌, length, map, drop, get_or, max, is_some, Option, Some, None, MatchOption, refl, sym, ◌∙◌, ap, arith, inl, inr}
 use Rattle.std.specs.Prelude.{if◌then◌else◌}
 use Rattle.std.proofs.lemmas.Bool.{cases_Bool, and_parts, ltb-true, eqb-true}
@@ -9,13 +10,13 @@ use Rattle.lb_base.specs.declared.shape.Kind.{Kind}
 use Rattle.lb_base.specs.declared.shape.Kind.TheVariants.{Tick, Idle, Nohz}
 use Rattle.lb_base.specs.Mask.{has, no_cpus}
 use Rattle.lb_base.specs.Sets.{mask_where}
-use Rattle.lb_base.proofs.Where.{mask_where_has}
+use Rattle.lb_base.proofs.Sets.{mask_where_has}
 use Rattle.lb_interval.specs.declared.Counters.{Counters}
 use Rattle.lb_interval.specs.After.{is_due, counters_after}
 use Rattle.lb_newidle.specs.Budget.{goes_on, cost_of}
 use Rattle.lb_queue.specs.declared.answers.TurnReply.TheVariants.{Opened, TurnOpen}
 use Rattle.lb_queue.specs.Queue.{QueueState, nobody, clock_at}
-use Rattle.lb_queue.specs.Turns.{due_positions, counters_at, counters_or_fresh, counters_found, fresh_at, idle_levels, weight_of_mask, positions_by, positions_found, opens, turn, kicked_after, FitCounters, close_look, counters_closed, tries_of}
+use Rattle.lb_queue.specs.Turns.{due_positions, counters_at, counters_or_fresh, found_by, counters_found, fresh_at, idle_levels, weight_of_mask, positions_by, positions_found, opens, turn, kicked_after, FitCounters, close_look, counters_closed, tries_of}
 use Rattle.lb_queue.specs.declared.answers.OpenTurn.{OpenTurn}
 use Rattle.lb_interval.specs.declared.Outcome.{Outcome}
 use Rattle.std.specs.Prelude.{slice_set}
@@ -127,14 +128,10 @@ pub turn_opened : (q : QueueState) (at clock lane : ℕ) (kind : Kind) (version 
 unfolding turn opens
 turn_opened q at clock lane kind version shapes kicked m cs h c k e f = rw (h, c, k, e, f) refl
 
-old_or_fresh : (counted : Bool) (items : List Counters) (shapes : List Shape) → cond counted items (map (fresh_at 0) shapes) ≡ counters_or_fresh (cond counted (Some items) None) shapes
-old_or_fresh true items shapes = refl
-old_or_fresh false items shapes = refl
-
 pub found_is : (q : QueueState) (at clock version : ℕ) (shapes : List Shape) (counted : Bool) (items new : List Counters) → q.counters ≡ cond counted (Some items) None → clock ≡ max q.clock at →
-    new ≡ cond (version == q.version) (cond counted items (map (fresh_at 0) shapes)) (map (fresh_at (clock / 1000000)) shapes) → new ≡ counters_found q at version shapes
+    new ≡ found_by (version == q.version) (cond counted (Some items) None) shapes (clock / 1000000) → new ≡ counters_found q at version shapes
 unfolding counters_found
-found_is q at clock version shapes counted items new o c e = rw (o, ← old_or_fresh counted items shapes, ← c) e
+found_is q at clock version shapes counted items new o c e = rw (o, ← c) e
 
 -- ---- a position closes
 pub close_done : (q : QueueState) (at clock : ℕ) (shape : Shape) (outcome : Outcome) (imb : Option Bool) (t : OpenTurn) (items new : List Counters) → q.open_turn ≡ Some t → q.counters ≡ Some items → clock ≡ max q.clock at →

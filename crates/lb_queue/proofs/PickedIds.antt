@@ -1,15 +1,15 @@
 -- The ids that a pull picks and those that it leaves, among the ids of the awake tasks.
-use Rattle.std.proofs.Common.{◌≡◌, ℕ, zero, suc, ◌+◌, ◌-◌, ◌<◌, ◌≤◌, Bool, true, false, not, cond, ◌==◌, eqb, List, [], ◌∷◌, ◌++◌, length, map, reverse, filter, filter_map, get_or, take, drop, Option, Some, refl, sym, ◌∙◌, ap, arith, subst, inl, inr, drop-cons, add-one}
+use Rattle.std.proofs.Common.{◌≡◌, ℕ, zero, suc, ◌+◌, ◌-◌, ◌<◌, ◌≤◌, Bool, true, false, not, cond, ◌==◌, eqb, List, [], ◌∷◌, ◌++◌, length, map, reverse, filter, filter_map, get_or, take, drop, Option, Some, None, refl, sym, ◌∙◌, ap, arith, subst, inl, inr, drop-cons, add-one}
 use Rattle.std.specs.Prelude.{All, IsSomeAnd}
 use Rattle.std.specs.List.{range_with_len, cons_option}
-use Rattle.std.proofs.lemmas.Bool.{cases_Bool, cond-true, cond-false, eq-eqb, ne_eqb}
+use Rattle.std.proofs.lemmas.Bool.{cases_Bool, cond-true, cond-false, eqb-true, eq-eqb, ne_eqb}
 use Rattle.std.proofs.lemmas.List.{map-append, length-map, reverse-append, reverse-reverse, take-append-drop, drop_all}
 use Rattle.std.proofs.lemmas.List.Elements.{All-head, All-tail, filter-append}
 use Rattle.std.proofs.lemmas.List.FromFn.{length-range_with_len}
 use Rattle.std.proofs.lemmas.List.Sums.{prefix_len-le-length}
 use Rattle.lb_base.specs.declared.view.TaskView.{TaskView}
 use Rattle.lb_base.specs.Mask.{has}
-use Rattle.lb_base.proofs.Members.{range_more}
+use Rattle.lb_base.proofs.Ranges.{range_more}
 use Rattle.lb_detach.specs.declared.Env.{Env}
 use Rattle.lb_detach.specs.Laws.{IsSound}
 use Rattle.lb_detach.specs.Picks.{no_task, task_at, taken, refused, refused_at, ends, examined, ids_at, picked_ids, kept_ids}
@@ -18,7 +18,7 @@ use Rattle.lb_queue.specs.Tasks.{occurs, awake_ids, awake_with}
 use Rattle.lb_queue.specs.Values.{view_at}
 use Rattle.lb_queue.specs.Hands.{in_order}
 use Rattle.lb_queue.specs.Pulls.{CanGo, AllCanGo, without_all, IsTurned}
-use Rattle.lb_queue.proofs.Counts.{found, occurs-append, occurs-reverse}
+use Rattle.lb_queue.proofs.Counts.{found, found_none, occurs-append, occurs-reverse}
 use Rattle.lb_queue.proofs.Ids.{key}
 use Rattle.lb_queue.proofs.Order.{all_turned}
 use Rattle.lb_queue.proofs.Positions.{get_map}
@@ -144,6 +144,27 @@ kept_counts env list u =
     let a = occurs-append u (map (at_place list) (reverse (refused env list e))) (untouched list e) in
     let r = occurs-reverse (at_place list) u (refused env list e) in
     omega arith
+
+-- together they are those of the awake tasks
+pub picked_or_kept : (env : Env) (now : ℕ) (xs : List Awake) (u : ℕ) → occurs u (picked_ids env (map (view_at now) xs)) + occurs u (kept_ids env (map (view_at now) xs)) ≡ occurs u (awake_ids xs)
+picked_or_kept env now xs u =
+    let list = map (view_at now) xs in
+    let c = counts env list u in
+    let k = kept_counts env list u in
+    let v = ap (occurs u) (views_ids now xs) in
+    omega arith
+
+-- tasks by their ids have these ids
+order_step : (i : ℕ) (is : List ℕ) (xs : List Awake) (o : Option Awake) → awake_with i xs ≡ o → 1 ≤ occurs i (awake_ids xs) → awake_ids (in_order is xs) ≡ is → awake_ids (cons_option o (in_order is xs)) ≡ i ∷ is
+order_step i is xs None e h k = absurd (let z = found_none key i xs e in omega arith)
+order_step i is xs (Some a) e h k =
+    let n : a.task.id ≡ i = eqb-true a.task.id i (found (λ (x : Awake). x.task.id == i) key xs a e).passes in
+    rw (n, k) refl
+
+pub in_order_ids : (is : List ℕ) (xs : List Awake) → ((i : ℕ) → 1 ≤ occurs i is → 1 ≤ occurs i (awake_ids xs)) → awake_ids (in_order is xs) ≡ is
+unfolding in_order
+in_order_ids [] xs h = refl
+in_order_ids (i ∷ is) xs h = order_step i is xs (awake_with i xs) refl (h i (let k = self i in omega arith)) (in_order_ids is xs (λ j p. h j (omega arith)))
 
 -- ---- what leaves
 once_of : (now : ℕ) (xs : List Awake) → ((u : ℕ) → occurs u (awake_ids xs) ≤ 1) → (u : ℕ) → occurs u (map id_of (map (view_at now) xs)) ≤ 1

@@ -5,7 +5,7 @@ use Rattle.lb_base.specs.declared.mask.Mask.{Mask}
 use Rattle.lb_base.specs.Mask.{has}
 use Rattle.lb_base.specs.Sets.{mask_where}
 use Rattle.lb_base.proofs.Members.{same_mask}
-use Rattle.lb_base.proofs.Where.{mask_where_has}
+use Rattle.lb_base.proofs.Sets.{mask_where_has}
 
 -- one position more
 pub position_step : (D : ℕ → Bool) (p k : ℕ) (d m r : Bool) → r ≡ (m || (d && (k == p))) → m ≡ (nat_lt k p && D k) → d ≡ D p → r ≡ (nat_lt k (p + 1) && D k)

@@ -9,6 +9,7 @@ use Rattle.lb_base.specs.Mask.{has}
 use Rattle.lb_base.specs.Sets.{is_empty, is_below}
 use Rattle.lb_detach.specs.declared.Env.{Env}
 use Rattle.lb_interval.specs.declared.Outcome.{Outcome}
+use Rattle.lb_queue.specs.declared.queue.TheConstants.{MAX_SHAPES}
 use Rattle.lb_queue.specs.declared.record.TaskRecord.{TaskRecord}
 use Rattle.lb_queue.specs.declared.answers.OutCause.{OutCause}
 use Rattle.lb_queue.specs.Tasks.{ids, occurs}
@@ -70,7 +71,7 @@ May q (TakeStop at id to) = stop_to q id ≡ Some to
 May q (TakePush at to) = q.active ≡ Some to
 May q (Take at env) = Unit {0}
 May q (Land at cause moment tasks) = CanLand q tasks
-May q (Turn at lane kind version shapes) = (length shapes ≤ 20) × AreInOrder shapes × FitCounters q version shapes
+May q (Turn at lane kind version shapes) = (length shapes ≤ MAX_SHAPES) × AreInOrder shapes × FitCounters q version shapes
 May q (CloseLook at shape outcome imb) = IsOpenAt q.open_turn shape.position
 May q (EndTurn at) = IsSome q.open_turn
 May q (AskActive at to) = Unit {0}

@@ -4,6 +4,7 @@ use Rattle.std.specs.Prelude.{◌≡◌, ℕ, ◌<◌, ◌≤◌, Bool, true, Op
 use Rattle.lb_base.specs.Mask.{has}
 use Rattle.lb_base.specs.declared.mask.TheConstants.{MAX_CPUS}
 use Rattle.lb_interval.specs.declared.Counters.{Counters}
+use Rattle.lb_queue.specs.declared.queue.TheConstants.{MAX_SHAPES}
 use Rattle.lb_queue.specs.declared.answers.OpenTurn.{OpenTurn}
 use Rattle.lb_queue.specs.Lists.{Lists}
 
@@ -16,6 +17,6 @@ pub record IsInside (cpu cpus : ℕ) (lists : Lists) (counted : Bool) (counters 
   pub in_machine : cpu < cpus
   pub cpus_fit : cpus ≤ MAX_CPUS
   pub same_cpu : lists.cpu ≡ cpu
-  pub levels : length counters ≤ 20
-  pub counters_fit : 20 ≤ counters_room
+  pub levels : length counters ≤ MAX_SHAPES
+  pub counters_fit : MAX_SHAPES ≤ counters_room
   pub turn : HasCounters open_turn counted counters

@@ -12,4 +12,5 @@ pub mod Figures
 pub mod Sums
 pub mod Pulls
 pub mod Calls
+pub mod Moves
 pub mod Laws

@@ -6,8 +6,10 @@ use Rattle.lb_base.specs.declared.mask.Mask.{Mask}
 use Rattle.lb_base.specs.Mask.{has}
 use Rattle.lb_base.specs.Sets.{least}
 use Rattle.lb_pelt.specs.Signal.{zero_signal}
+use Rattle.lb_newidle.specs.declared.TheConstants.{MAX_AVERAGE}
 use Rattle.lb_newidle.specs.Budget.{average_after}
 use Rattle.lb_interval.specs.declared.Counters.{Counters}
+use Rattle.lb_queue.specs.declared.queue.TheConstants.{NANOSECONDS_PER_MILLISECOND}
 use Rattle.lb_queue.specs.declared.record.TaskRecord.{TaskRecord}
 use Rattle.lb_queue.specs.declared.awake.Awake.{Awake}
 use Rattle.lb_queue.specs.declared.answers.OpenTurn.{OpenTurn}
@@ -49,7 +51,7 @@ empty_queue cpu cpus =
       kicked = false;
       clock = 0;
       idle_since = None;
-      avg_idle = 1000000;
+      avg_idle = MAX_AVERAGE;
       version = 1;
       counters = None;
       open_turn = None;
@@ -89,7 +91,7 @@ abbrev pub at_moment : QueueState → ℕ → QueueState
 at_moment q at = record q { clock = clock_at q at }
 
 abbrev pub milliseconds : ℕ → ℕ
-milliseconds clock = clock / 1000000
+milliseconds clock = clock / NANOSECONDS_PER_MILLISECOND
 
 -- ---- idle time
 abbrev pub average_with : Option ℕ → ℕ → ℕ → ℕ

@@ -37,12 +37,15 @@ abbrev pub counters_or_fresh : Option (List Counters) → List Shape → List Co
 counters_or_fresh None shapes = map (fresh_at 0) shapes
 counters_or_fresh (Some cs) shapes = cs
 
+-- those of the same version, or fresh ones at some milliseconds
+abbrev pub found_by : Bool → Option (List Counters) → List Shape → ℕ → List Counters
+found_by same cs shapes now = if same then counters_or_fresh cs shapes else map (fresh_at now) shapes
+
 -- the counters that a turn finds: the queue's, which a first turn of its version makes fresh at 0,
 -- and fresh ones at the clock where the version is another
 unfoldable pub counters_found : QueueState → ℕ → ℕ → List Shape → List Counters
 counters_found q at version shapes =
-    if version == q.version then counters_or_fresh q.counters shapes
-    else map (fresh_at (milliseconds (clock_at q at))) shapes
+    found_by (version == q.version) q.counters shapes (milliseconds (clock_at q at))
 
 -- ---- the positions of a turn
 unfoldable pub due_positions : List Counters → Bool → ℕ → ℕ → Mask
@@ -103,13 +106,18 @@ abbrev pub kind_of : Option OpenTurn → Kind
 kind_of None = Tick
 kind_of (Some t) = t.kind
 
+-- the counters of a position after its outcome in a turn of a kind, at some milliseconds
+abbrev pub closed_by : Counters → Kind → Shape → Outcome → Option Bool → ℕ → Counters
+closed_by c kind shape outcome imb now = counters_after c kind outcome imb (weight_of_mask shape.span) (tries_of shape.name) now
+
+-- all counters after it
+abbrev pub closed_at : List Counters → Kind → Shape → Outcome → Option Bool → ℕ → List Counters
+closed_at cs kind shape outcome imb now = slice_set cs shape.position (closed_by (counters_at cs shape.position) kind shape outcome imb now)
+
 -- the counters of a position after its outcome in the open turn
 unfoldable pub counters_closed : QueueState → ℕ → Shape → Outcome → Option Bool → Counters
 counters_closed q at shape outcome imb =
-    counters_after (counters_at (unwrap_or q.counters []) shape.position) (kind_of q.open_turn) outcome imb
-    (weight_of_mask shape.span)
-    (tries_of shape.name)
-    (milliseconds (clock_at q at))
+    closed_by (counters_at (unwrap_or q.counters []) shape.position) (kind_of q.open_turn) shape outcome imb (milliseconds (clock_at q at))
 
 unfoldable pub close_look : QueueState → ℕ → Shape → Outcome → Option Bool → QueueState
 close_look q at shape outcome imb =

@@ -20,6 +20,6 @@ mod tests;
 pub use answers::{AskReply, OpenTurn, OutCause, Reply, Stop, Taken, TurnReply};
 pub use awake::{Awake, StopRequest};
 pub use hand::Hand;
-pub use queue::Queue;
+pub use queue::{MAX_SHAPES, NANOSECONDS_PER_MILLISECOND, Queue, tries};
 pub use record::TaskRecord;
 pub use task::Task;

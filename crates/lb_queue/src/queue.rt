@@ -8,7 +8,7 @@ use crate::task::Task;
 use lb_active::stop_target;
 use lb_base::{MAX_CPUS, Mask, NoMemory};
 use lb_interval::Counters;
-use lb_newidle::idle_average;
+use lb_newidle::{MAX_AVERAGE, idle_average};
 use lb_pelt::Run;
 use std::alloc::Global;
 use std::marker::Model;
@@ -19,10 +19,13 @@ mod requests;
 mod turns;
 mod values;
 
-/// At most this many levels of domains are kept.
-const MAX_LEVELS: usize = 20;
+pub use turns::tries;
 
-const NANOSECONDS_PER_MILLISECOND: u64 = 1_000_000;
+/// A turn takes at most so many shapes of domains.
+pub const MAX_SHAPES: usize = 20;
+
+/// The counters' moments are in milliseconds, the clock is in nanoseconds.
+pub const NANOSECONDS_PER_MILLISECOND: u64 = 1_000_000;
 
 /// The run queue of a CPU (docs/rules/queue.md). Contracts see its state, and how many landings are
 /// booked there.
@@ -85,13 +88,13 @@ impl Queue {
     ghost use Rattle.lb_queue.specs.Kept.{id_limit};
 
     /// The empty queue of a CPU at clock 0, on a machine of `cpus` CPUs. Its version is 1, and its
-    /// average idle time 1,000,000 ns.
+    /// average idle time [`MAX_AVERAGE`].
     pub fn new(alloc: Global, cpu: u32, cpus: u32) -> Result<Queue, NoMemory>
         requires cpu { cpu < cpus }
         requires cpus { cpus ≤ MAX_CPUS }
         ensures { IfOk result (λ q. q ≡ record { state = empty_queue cpu cpus; booked = 0 }) }
     {
-        let counters = Vec::with_capacity(alloc, MAX_LEVELS)?;
+        let counters = Vec::with_capacity(alloc, MAX_SHAPES)?;
         Ok(Queue {
             cpu,
             cpus,
@@ -101,7 +104,7 @@ impl Queue {
             kicked: false,
             clock: 0,
             idle_since: None,
-            avg_idle: 1_000_000,
+            avg_idle: MAX_AVERAGE,
             version: 1,
             counted: false,
             counters,

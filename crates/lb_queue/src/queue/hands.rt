@@ -10,7 +10,7 @@ use crate::answers::{OutCause, Taken};
 use crate::hand::Hand;
 use crate::lists::TaskLists;
 use lb_detach::laws::picked_is_sound;
-use lb_detach::{Env, Picked};
+use lb_detach::{EXAMINED_AT_MOST, Env, Picked};
 use lb_pelt::Run;
 
 impl Queue {
@@ -73,15 +73,15 @@ impl Queue {
         }
     }
 
-    /// A pull takes out of the awake tasks what docs/rules/picked-list.md picks, at most 32 tasks: they
+    /// A pull takes out of the awake tasks what docs/rules/picked-list.md picks, at most [`EXAMINED_AT_MOST`] tasks: they
     /// leave in the hand in the order in which they are picked, and the others stand in the order that
     /// the examination left. The hand holds no task yet, goes to the pull's destination and has room
-    /// for 32, and `picked` has room for all awake tasks; its rooms stay. Where nothing is picked the
+    /// for so many, and `picked` has room for all awake tasks; its rooms stay. Where nothing is picked the
     /// hand still gets its source and its moment. It takes no memory.
     pub fn take(&mut self, at: u64, env: &Env, picked: &mut Picked, hand: &mut Hand) -> Taken
         requires to { hand.old.to ≡ env.now.to }
         requires empty { hand.old.tasks ≡ [] }
-        requires room { 32 ≤ hand.old.room }
+        requires room { EXAMINED_AT_MOST ≤ hand.old.room }
         requires ids_room { length self.old.state.awake ≤ vec_capacity picked.old.ids }
         requires order_room { length self.old.state.awake ≤ vec_capacity picked.old.order }
         ensures answer { result ≡ taken_by self.old.state at env.now }
@@ -91,6 +91,7 @@ impl Queue {
         ensures order_capacity { vec_capacity picked.new.order ≡ vec_capacity picked.old.order }
         ensures booked { self.new.booked ≡ self.old.booked }
     {
+        // what is picked differs, waits and may run at the destination, and there is room for it
         picked_is_sound();
         self.clock = self.clock.max(at);
         self.lists.examine(self.clock, env, picked);

@@ -1,21 +1,20 @@
-ghost use Rattle.std.specs.Prelude.{◌≡◌, ◌==◌, nat_lt, ◌≤◌, ◌<◌, ◌+◌, ◌*◌, ℕ, length, map, not, IsSome, None, Some, if◌then◌else◌, vec_capacity, vec_len, ◌&&◌, ◌||◌, slice_set};
+ghost use Rattle.std.specs.Prelude.{◌≡◌, ◌==◌, nat_lt, ◌≤◌, ◌<◌, ◌+◌, ◌*◌, ℕ, length, map, not, IsSome, MatchOption, None, Some, if◌then◌else◌, vec_capacity, vec_len, ◌&&◌, ◌||◌};
 ghost use Rattle.lb_base.specs.Sets.{mask_where};
 ghost use Rattle.lb_base.specs.Mask.{has, no_cpus};
-ghost use Rattle.lb_queue.specs.Turns.{fresh_at, counters_or_fresh, due_positions, idle_levels, kicked_after, tries_of, counters_at, weight_of_mask};
-ghost use Rattle.lb_interval.specs.After.{counters_after};
+ghost use Rattle.lb_queue.specs.Turns.{fresh_at, found_by, closed_at, due_positions, idle_levels, kicked_after, tries_of};
 
-use super::{MAX_LEVELS, NANOSECONDS_PER_MILLISECOND, Queue};
+use super::{MAX_SHAPES, NANOSECONDS_PER_MILLISECOND, Queue};
 use crate::answers::{OpenTurn, TurnReply};
 use lb_base::{Kind, LevelName, MAX_CPUS, Mask, Shape};
 use lb_interval::{Counters, Outcome, after, due, fresh};
-use lb_newidle::next_level;
+use lb_newidle::{COST_PER_CPU, next_level};
 
 impl Queue {
     ghost use Rattle.lb_queue.specs.Turns.{turn, opens, positions_found, close_look, end_turn, counters_of, FitCounters, AreInOrder, IsOpenAt};
 
     /// What [`Queue::turn`] with these arguments would answer.
     pub fn opens(&self, at: u64, kind: Kind, version: u64, shapes: &[Shape]) -> TurnReply
-        requires few { length shapes.now ≤ 20 }
+        requires few { length shapes.now ≤ MAX_SHAPES }
         requires in_order { AreInOrder shapes.now }
         requires fit { FitCounters self.now.state version shapes.now }
         ensures { result ≡ opens self.now.state at kind version shapes.now }
@@ -28,7 +27,7 @@ impl Queue {
 
     // The positions of a turn.
     fn positions(&self, at: u64, kind: Kind, version: u64, shapes: &[Shape]) -> Mask
-        requires few { length shapes.now ≤ 20 }
+        requires few { length shapes.now ≤ MAX_SHAPES }
         requires fit { FitCounters self.now.state version shapes.now }
         ensures { result ≡ positions_found self.now.state at kind version shapes.now }
     {
@@ -49,8 +48,8 @@ impl Queue {
 
     // The positions that are due, by the counters that a turn finds.
     fn due_positions(&self, version: u64, shapes: &[Shape], busy: bool, now: u64) -> Mask
-        requires few { length shapes.now ≤ 20 }
-        ensures { result ≡ due_positions (if version == self.now.state.version then counters_or_fresh self.now.state.counters shapes.now else map (fresh_at now) shapes.now) busy self.now.state.cpus now }
+        requires few { length shapes.now ≤ MAX_SHAPES }
+        ensures { result ≡ due_positions (found_by (version == self.now.state.version) self.now.state.counters shapes.now now) busy self.now.state.cpus now }
     {
         if version != self.version {
             return due_fresh(shapes, now, busy, self.cpus, now);
@@ -73,7 +72,7 @@ impl Queue {
         version: u64,
         shapes: &[Shape],
     ) -> TurnReply
-        requires few { length shapes.now ≤ 20 }
+        requires few { length shapes.now ≤ MAX_SHAPES }
         requires in_order { AreInOrder shapes.now }
         requires fit { FitCounters self.old.state version shapes.now }
         ensures step { (result, self.new.state) ≡ turn self.old.state at lane kind version shapes.now }
@@ -129,6 +128,17 @@ impl Queue {
         self.open_turn = None;
     }
 
+    /// The counters of all positions, from 0. None before the first turn.
+    pub fn all_counters(&self) -> Option<&[Counters]>
+        ensures { MatchOption result (self.now.state.counters ≡ None) (λ cs. self.now.state.counters ≡ Some cs.now) }
+    {
+        if self.counted {
+            Some(self.counters.as_slice())
+        } else {
+            None
+        }
+    }
+
     /// The counters of a position. None exactly where the queue has none of it.
     pub fn counters(&self, position: u32) -> Option<Counters>
         ensures { result ≡ counters_of self.now.state position }
@@ -154,7 +164,7 @@ fn with_position(mask: Mask, position: u32, is_due: bool) -> Mask
 
 // The positions of counters that are due.
 fn due_counted(counters: &[Counters], busy: bool, cpus: u32, now: u64) -> Mask
-    requires few { length counters.now ≤ 20 }
+    requires few { length counters.now ≤ MAX_SHAPES }
     requires some { 1 ≤ cpus }
     ensures { result ≡ due_positions counters.now busy cpus now }
 {
@@ -167,7 +177,7 @@ fn due_counted(counters: &[Counters], busy: bool, cpus: u32, now: u64) -> Mask
 
 // The positions that are due by counters that are fresh at some milliseconds.
 fn due_fresh(shapes: &[Shape], made: u64, busy: bool, cpus: u32, now: u64) -> Mask
-    requires few { length shapes.now ≤ 20 }
+    requires few { length shapes.now ≤ MAX_SHAPES }
     requires some { 1 ≤ cpus }
     ensures { result ≡ due_positions (map (fresh_at made) shapes.now) busy cpus now }
 {
@@ -181,7 +191,7 @@ fn due_fresh(shapes: &[Shape], made: u64, busy: bool, cpus: u32, now: u64) -> Ma
 
 // The positions of a newly-idle turn, which opens none where somebody is awake.
 fn idle_positions(idle: bool, avg_idle: u64, shapes: &[Shape]) -> Mask
-    requires { length shapes.now ≤ 20 }
+    requires { length shapes.now ≤ MAX_SHAPES }
     ensures { result ≡ (if idle then mask_where (λ p. nat_lt p (idle_levels avg_idle 0 shapes.now)) else no_cpus) }
 {
     if idle {
@@ -193,7 +203,7 @@ fn idle_positions(idle: bool, avg_idle: u64, shapes: &[Shape]) -> Mask
 
 // How many levels a newly-idle turn goes up.
 fn levels(avg_idle: u64, shapes: &[Shape]) -> u32
-    requires { length shapes.now ≤ 20 }
+    requires { length shapes.now ≤ MAX_SHAPES }
     ensures value { result ≡ idle_levels avg_idle 0 shapes.now }
     ensures few { result ≤ length shapes.now }
 {
@@ -204,7 +214,7 @@ fn levels(avg_idle: u64, shapes: &[Shape]) -> u32
         if !next_level(avg_idle, spent, weight) {
             return level;
         }
-        spent += 1000 * u64::from(weight);
+        spent += COST_PER_CPU * u64::from(weight);
         level += 1;
     }
     level
@@ -231,7 +241,7 @@ fn find_counters(
     now: u64,
 )
     requires { length shapes.now ≤ vec_capacity counters.old }
-    ensures items { counters.new.items ≡ (if same then (if counted then counters.old.items else map (fresh_at 0) shapes.now) else map (fresh_at now) shapes.now) }
+    ensures items { counters.new.items ≡ found_by same (if counted then Some counters.old.items else None) shapes.now now }
     ensures capacity { vec_capacity counters.new ≡ vec_capacity counters.old }
 {
     if !same {
@@ -251,7 +261,7 @@ fn close(
     now: u64,
 )
     requires { shape.now.position < vec_len counters.old }
-    ensures items { counters.new.items ≡ slice_set counters.old.items shape.now.position (counters_after (counters_at counters.old.items shape.now.position) kind outcome imb (weight_of_mask shape.now.span) (tries_of shape.now.name) now) }
+    ensures items { counters.new.items ≡ closed_at counters.old.items kind shape.now outcome imb now }
     ensures capacity { vec_capacity counters.new ≡ vec_capacity counters.old }
 {
     let at = shape.position as usize;
@@ -277,8 +287,9 @@ fn still_kicked(kind: Kind, kicked: bool) -> bool
     }
 }
 
-// How many failures because of hot tasks a level puts up with.
-fn tries(name: LevelName) -> u32
+/// The cache tries of a domain of this level: while it failed to balance no more often than so, hot
+/// tasks stay (docs/rules/domains.md).
+pub fn tries(name: LevelName) -> u32
     ensures { result ≡ tries_of name }
 {
     match name {

@@ -1,7 +1,7 @@
 ghost use Rattle.std.specs.Prelude.{◌≡◌, ◌<◌, ◌≤◌, ◌^◌, ◌+◌, [], Some, length, slice_get, unwrap_or, if◌then◌else◌};
 ghost use Rattle.lb_queue.specs.Figures.{flags_from};
 
-use super::Queue;
+use super::{MAX_SHAPES, Queue};
 use lb_base::{Fig, TaskView};
 use lb_interval::Counters;
 
@@ -54,7 +54,7 @@ impl Queue {
 
 // The flags of the positions that are marked as imbalanced.
 fn imbalance_flags(counters: &[Counters]) -> u64
-    requires { length counters.now ≤ 20 }
+    requires { length counters.now ≤ MAX_SHAPES }
     ensures value { result ≡ flags_from 0 counters.now }
     ensures small { result < 2 ^ 32 }
 {

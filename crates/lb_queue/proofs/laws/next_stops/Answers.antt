@@ -1,0 +1,8 @@
+use Rattle.lb_queue.proofs.Allowed.{asked_is_next, next_may_be_taken}
+use Rattle.lb_queue.proofs.laws.next_stops.Goals as goal
+
+pub returns-clause-asked : goal.returns-clause-asked
+returns-clause-asked c = asked_is_next
+
+pub returns-clause-taken : goal.returns-clause-taken
+returns-clause-taken c = next_may_be_taken

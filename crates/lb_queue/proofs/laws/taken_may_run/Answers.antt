@@ -1,0 +1,5 @@
+use Rattle.lb_queue.proofs.Allowed.{taken_may_run}
+use Rattle.lb_queue.proofs.laws.taken_may_run.Goals as goal
+
+pub returns : goal.returns
+returns c = taken_may_run c.picked_is_sound.ensures
