@@ -1,20 +1,14 @@
--- With one choice there is one entry that may be added: the law on choices.
-use Rattle.std.proofs.Common.{arith, ◌≡◌, ℕ, ◌+◌, ◌-◌, Bool, true, false, not, cond, ◌&&◌, ◌||◌, if◌then◌else◌, eqb, List, [], ◌∷◌, length, map, get_or, Option, Some, None, is_some, is_none, unwrap_or, refl, sym, ◌∙◌, ap}
+-- The entry that comes next, with a choice: an entry that may be added is just that one.
+use Rattle.std.proofs.Common.{◌≡◌, ℕ, ◌+◌, ◌-◌, Bool, true, false, not, cond, ◌&&◌, ◌||◌, if◌then◌else◌, eqb, List, [], ◌∷◌, length, map, Option, Some, None, is_some, is_none, unwrap_or, refl, sym, ◌∙◌, ap}
 use Rattle.std.proofs.lemmas.Bool.{or_parts, and_parts, not-false, not-true, eqb-true}
 use Rattle.lb_base.specs.declared.mask.Mask.{Mask}
 use Rattle.lb_base.specs.declared.shape.Kind.{Kind}
-use Rattle.lb_base.specs.declared.shape.Kind.TheVariants.{Tick as TickTurn, Idle, Nohz}
-use Rattle.lb_base.specs.declared.view.MoveKind.{MoveKind}
-use Rattle.lb_base.specs.declared.view.MoveKind.TheVariants.{Load, Util, Tasks}
+use Rattle.lb_base.specs.declared.shape.Kind.TheVariants.{Tick as TickTurn}
 use Rattle.lb_base.specs.Mask.{members}
 use Rattle.lb_base.specs.Sets.{least}
 use Rattle.lb_imbalance.specs.declared.decision.Decision.{Decision}
-use Rattle.lb_imbalance.specs.declared.decision.Decision.TheVariants.{NotMine, Balanced, Pull}
 use Rattle.lb_imbalance.specs.Decision.{decision}
-use Rattle.lb_queue.specs.declared.answers.AskReply.{AskReply}
-use Rattle.lb_queue.specs.declared.answers.AskReply.TheVariants.{New, Old}
 use Rattle.lb_queue.specs.declared.answers.OutCause.{OutCause}
-use Rattle.lb_queue.specs.declared.answers.OutCause.TheVariants.{Wake as WakeOut, Stop as StopOut, Pull as PullOut, Push as PushOut}
 use Rattle.lb_queue.specs.Tasks.{ids}
 use Rattle.lb_queue.specs.Queue.{QueueState, away}
 use Rattle.lb_queue.specs.Requests.{has_owed, ask_active, kick}
@@ -25,16 +19,15 @@ use Rattle.lb_core.specs.declared.course.Form.{Form}
 use Rattle.lb_core.specs.declared.course.Form.TheVariants.{Rest, Asked, Flight, Serving, Due, Used, Position, Looked, Landed as LandedForm, Closed, Done, ScanDue, Kicking, Ended}
 use Rattle.lb_core.specs.declared.place.Place.{Place}
 use Rattle.lb_core.specs.declared.place.Place.TheVariants.{Awake as AwakeAt, Asleep as AsleepAt, Gone as GoneAt, Hand as HandOf}
-use Rattle.lb_core.specs.declared.rule.Rule.TheVariants.{Prev, Stage, Row as RowRule, Place as PlaceRule, Reply as ReplyRule, Figure, Decision as DecisionRule, Pick, Flight as FlightRule, Counters as CountersRule, Owed, End as EndRule}
+use Rattle.lb_core.specs.declared.rule.Rule.TheVariants.{Stage, Row as RowRule, Place as PlaceRule, Reply as ReplyRule, Figure, Decision as DecisionRule, Pick, Flight as FlightRule, Counters as CountersRule, Owed, End as EndRule}
 use Rattle.lb_core.specs.declared.entry.FigName.{FigName}
 use Rattle.lb_core.specs.declared.entry.OutcomeWord.{OutcomeWord}
-use Rattle.lb_core.specs.declared.entry.OutcomeWord.TheVariants.{NotMine as NotMineWord, Balanced as BalancedWord, Moved as MovedWord, Pinned as PinnedWord, Failed as FailedWord, Asking as AskingWord}
 use Rattle.lb_core.specs.declared.entry.Owner.{Owner}
 use Rattle.lb_core.specs.declared.entry.Owner.TheVariants.{Publisher, Lane, Queue}
 use Rattle.lb_core.specs.declared.entry.What.{What}
 use Rattle.lb_core.specs.declared.entry.What.TheVariants.{Row, Adopt, Look, Scan, End, Did, Out, Landed, Turn, Shut, Close, Ask, Kick, Over, Pub}
 use Rattle.lb_core.specs.declared.entry.Entry.{Entry}
-use Rattle.lb_core.specs.Same.{same_numbers, same_number, same_mask, same_owner, same_kind, same_ask, same_cause, same_word, same_move, same_decision}
+use Rattle.lb_core.specs.Same.{same_numbers, same_kind}
 use Rattle.lb_core.specs.Course.{ticked_cpu, is_tick, is_wake, is_rebuild, task_of, kind_of, turn_domain, is_pull, looks_again, outcome_of}
 use Rattle.lb_core.specs.Sight.{Sight, by_cpu, tickless_in}
 use Rattle.lb_core.specs.Stage.{push_is_due, target_of, is_settled, draws, queue_due, is_queue, is_owner, stage_allows, waits_for_push, waits_for_stop}
@@ -44,76 +37,8 @@ use Rattle.lb_core.specs.QueueAfter.{answer_to}
 use Rattle.lb_core.specs.Machine.{Machine, queue_at, course_at, place_at, owned_queue, owned_count, figures_named, masks_for, figs_for, sight}
 use Rattle.lb_core.specs.Elsewhere.{first_pending, is_first_pending, all_rest, stage_at_rest, stage_of_use, is_at, task_elsewhere, answered_elsewhere, owed_elsewhere, unserved, end_is_wrong}
 use Rattle.lb_core.specs.Legal.{MayBeAdded}
-use Rattle.lb_core.specs.Choices.{Agree, ChoicesAreAll}
+use Rattle.lb_core.proofs.Equality.{mask_is, lane_is, queue_is, publisher_is, kind_is, ask_is, cause_is, word_is, decision_is, number_is, numbers_same, reply_is}
 use Rattle.lb_core.proofs.Unbroken.{unbroken_here, unbroken_elsewhere}
-use Rattle.lb_core.proofs.Carrying.{reply_is}
-use Rattle.lb_core.proofs.Placing.{entry, numbers_same}
-
--- ---- the tests of equality
-pub mask_is : (a b : Mask) → same_mask a b ≡ true → a ≡ b
-mask_is a b h = let e : a.bits ≡ b.bits = eqb-true a.bits b.bits h in ap (λ (x : ℕ). let m : Mask = record { bits = x } in m) e
-
-lane_is : (o : Owner) (lane : ℕ) → same_owner o (Lane lane) ≡ true → o ≡ Lane lane
-lane_is (Lane l) lane h = ap Lane (eqb-true l lane h)
-lane_is o lane h = absurd (let k : ⊥ = cc in k)
-
-queue_is : (o : Owner) (cpu : ℕ) → same_owner o (Queue cpu) ≡ true → o ≡ Queue cpu
-queue_is (Queue u) cpu h = ap Queue (eqb-true u cpu h)
-queue_is o cpu h = absurd (let k : ⊥ = cc in k)
-
-publisher_is : (o : Owner) → same_owner o Publisher ≡ true → o ≡ Publisher
-publisher_is Publisher h = refl
-publisher_is o h = absurd (let k : ⊥ = cc in k)
-
-kind_is : (a b : Kind) → same_kind a b ≡ true → a ≡ b
-kind_is TickTurn TickTurn h = refl
-kind_is Idle Idle h = refl
-kind_is Nohz Nohz h = refl
-kind_is a b h = absurd (let k : ⊥ = cc in k)
-
-ask_is : (a b : AskReply) → same_ask a b ≡ true → a ≡ b
-ask_is New New h = refl
-ask_is Old Old h = refl
-ask_is a b h = absurd (let k : ⊥ = cc in k)
-
-cause_is : (a b : OutCause) → same_cause a b ≡ true → a ≡ b
-cause_is WakeOut WakeOut h = refl
-cause_is StopOut StopOut h = refl
-cause_is PullOut PullOut h = refl
-cause_is PushOut PushOut h = refl
-cause_is a b h = absurd (let k : ⊥ = cc in k)
-
-word_is : (a b : OutcomeWord) → same_word a b ≡ true → a ≡ b
-word_is NotMineWord NotMineWord h = refl
-word_is BalancedWord BalancedWord h = refl
-word_is MovedWord MovedWord h = refl
-word_is PinnedWord PinnedWord h = refl
-word_is FailedWord FailedWord h = refl
-word_is AskingWord AskingWord h = refl
-word_is a b h = absurd (let k : ⊥ = cc in k)
-
-move_is : (a b : MoveKind) → same_move a b ≡ true → a ≡ b
-move_is Load Load h = refl
-move_is Util Util h = refl
-move_is Tasks Tasks h = refl
-move_is a b h = absurd (let k : ⊥ = cc in k)
-
-pub decision_is : (a b : Decision) → same_decision a b ≡ true → a ≡ b
-decision_is NotMine NotMine h = refl
-decision_is Balanced Balanced h = refl
-decision_is (Pull s k i) (Pull t l j) h =
-    let p = and_parts ((eqb s t) && same_move k l) (eqb i j) h in
-    let r = and_parts (eqb s t) (same_move k l) p.0 in
-    let a = eqb-true s t r.0 in
-    let b = move_is k l r.1 in
-    let c = eqb-true i j p.1 in
-    cc
-decision_is a b h = absurd (let k : ⊥ = cc in k)
-
-number_is : (a b : Option ℕ) → same_number a b ≡ true → a ≡ b
-number_is None None h = refl
-number_is (Some a) (Some b) h = ap (λ (x : ℕ). Some x) (eqb-true a b h)
-number_is a b h = absurd (let k : ⊥ = cc in k)
 
 -- ---- what an entry chooses
 pub data Choice : Type 0 where
@@ -576,128 +501,6 @@ facts m e h =
       owed = unbroken_elsewhere m e h Owed;
       ends = (or_parts _ _ (unbroken_elsewhere m e h EndRule)).1;
     }
-
-prev_is : (m : Machine) (e : Entry) → MayBeAdded m e → e.prev ≡ get_or m.last e.lane 0
-prev_is m e h = eqb-true e.prev _ (not-false _ (unbroken_elsewhere m e h Prev))
-
-same_entry : (a b : Entry) → a.owner ≡ b.owner → a.lane ≡ b.lane → a.prev ≡ b.prev → a.what ≡ b.what → a ≡ b
-same_entry a b o l p w = ap4_entry a.owner b.owner a.lane b.lane a.prev b.prev a.what b.what o l p w
-  where
-    ap4_entry : (o o' : Owner) (l l' p p' : ℕ) (w w' : What) → o ≡ o' → l ≡ l' → p ≡ p' → w ≡ w' → entry o l p w ≡ entry o' l' p' w'
-    ap4_entry o o' l l' p p' w w' a b c d = rw (a, b, c, d) refl
-
--- what comes next depends on the state, the lane and the choice alone
-pub what_of : Machine → ℕ → Choice → What
-what_of m lane choice = let c = course_at m.courses lane in what_next c.form m c (queue_next c.form m c) choice
-
-pub what_chosen : (m : Machine) (e : Entry) → MayBeAdded m e → e.what ≡ what_of m e.lane (choice_of e.what)
-unfolding what_of
-what_chosen m e h = (each_next (course_at m.courses e.lane).form m e.lane (course_at m.courses e.lane) e.owner e.what (facts m e h)).what
-
-pub owner_of : Machine → ℕ → What → Owner
-owner_of m lane w = let c = course_at m.courses lane in owner_next w lane (cpu_next c.form m c)
-
-pub owner_chosen : (m : Machine) (e : Entry) → MayBeAdded m e → e.owner ≡ owner_of m e.lane e.what
-unfolding owner_of
-owner_chosen m e h = (each_next (course_at m.courses e.lane).form m e.lane (course_at m.courses e.lane) e.owner e.what (facts m e h)).owner
-
--- ---- entries that agree
-abbrev word : What → ℕ
-word (Row n at command) = 0
-word (Adopt v kind cpu) = 1
-word (Look p x names d) = 2
-word (Scan names t) = 3
-word (End cpus) = 4
-word (Did r) = 5
-word (Out cause to tasks) = 6
-word (Landed tasks) = 7
-word (Turn ps) = 8
-word Shut = 9
-word (Close p w i f) = 10
-word (Ask r) = 11
-word (Kick r) = 12
-word Over = 13
-word (Pub v) = 14
-
-abbrev is_row : Choice → Bool
-is_row (ItsRow at command) = true
-is_row none = false
-
-cond_word : (b : Bool) (x x' y y' : What) → word x ≡ word x' → word y ≡ word y' → word (cond b x y) ≡ word (cond b x' y')
-cond_word true x x' y y' h k = h
-cond_word false x x' y y' h k = k
-
-row_word : (a : Choice) (n : ℕ) (w : What) → is_row a ≡ false → row_or a n w ≡ w
-row_word (ItsRow at command) n w h = absurd (let y : ⊥ = cc in y)
-row_word (ItsVersion v) n w h = refl
-row_word (ItsFigures ns) n w h = refl
-row_word Nothing n w h = refl
-
--- but for rows, the choice decides no kind
-one_word : (f : Form) (m : Machine) (c : Course) (q : QueueState) (a b : Choice) → is_row a ≡ false → is_row b ≡ false → word (what_next f m c q a) ≡ word (what_next f m c q b)
-one_word Rest m c q a b h k = ap word (row_word a (c.rows + 1) _ h ∙ sym (row_word b (c.rows + 1) _ k))
-one_word Asked m c q a b h k = refl
-one_word Flight m c q a b h k = refl
-one_word Serving m c q a b h k = cond_word (has_owed q || push_is_due c q) _ _ _ _ refl refl
-one_word Due m c q a b h k = refl
-one_word Used m c q a b h k = refl
-one_word Position m c q a b h k = refl
-one_word Looked m c q a b h k = refl
-one_word LandedForm m c q a b h k = cond_word (looks_again m.header c) _ _ _ _ refl refl
-one_word Closed m c q a b h k = refl
-one_word Done m c q a b h k = refl
-one_word ScanDue m c q a b h k = refl
-one_word Kicking m c q a b h k = refl
-one_word Ended m c q a b h k = refl
-
-one_kind : (m : Machine) (lane : ℕ) (a b : Choice) → is_row a ≡ false → is_row b ≡ false → word (what_of m lane a) ≡ word (what_of m lane b)
-unfolding what_of
-one_kind m lane a b h k = let c = course_at m.courses lane in one_word c.form m c (queue_next c.form m c) a b h k
-
--- of one kind, those that agree make the same choice
-one_choice : (v w : What) → word v ≡ word w → Agree v w → choice_of v ≡ choice_of w
-one_choice (Row n at command) (Row n' at' command') h k = let a = k.0 in let b = k.1 in cc
-one_choice (Adopt v kind cpu) (Adopt v' kind' cpu') h k = ap ItsVersion k
-one_choice (Look p x names d) (Look p' x' names' d') h k = ap ItsFigures k
-one_choice (Scan names t) (Scan names' t') h k = ap ItsFigures k
-one_choice (End cpus) (End cpus') h k = refl
-one_choice (Did r) (Did r') h k = refl
-one_choice (Out cause to tasks) (Out cause' to' tasks') h k = refl
-one_choice (Landed tasks) (Landed tasks') h k = refl
-one_choice (Turn ps) (Turn ps') h k = refl
-one_choice Shut Shut h k = refl
-one_choice (Close p w i f) (Close p' w' i' f') h k = refl
-one_choice (Ask r) (Ask r') h k = refl
-one_choice (Kick r) (Kick r') h k = refl
-one_choice Over Over h k = refl
-one_choice (Pub v) (Pub v') h k = refl
-one_choice v w h k = absurd (let y : ⊥ = omega arith in y)
-
--- both are rows, or neither is
-both_rows : (v w : What) → Agree v w → is_row (choice_of v) ≡ is_row (choice_of w)
-both_rows (Row n at command) (Row n' at' command') k = refl
-both_rows (Row n at command) w k = absurd k
-both_rows v (Row n at command) k = absurd k
-both_rows v w k = refl
-
-is_row_word : (w : What) → is_row (choice_of w) ≡ true → word w ≡ 0
-is_row_word (Row n at command) h = refl
-is_row_word w h = absurd (let y : ⊥ = cc in y)
-
-words_same : (m : Machine) (lane : ℕ) (v w : What) (b : Bool) → is_row (choice_of v) ≡ b → is_row (choice_of w) ≡ b → v ≡ what_of m lane (choice_of v) → w ≡ what_of m lane (choice_of w) → word v ≡ word w
-words_same m lane v w true h k e f = is_row_word v h ∙ sym (is_row_word w k)
-words_same m lane v w false h k e f = ap word e ∙ one_kind m lane (choice_of v) (choice_of w) h k ∙ sym (ap word f)
-
-pub choices_are_all : ChoicesAreAll
-choices_are_all m a b l h k agree =
-    let v = what_chosen m a h in
-    let w : b.what ≡ what_of m a.lane (choice_of b.what) = what_chosen m b k ∙ ap (λ (x : ℕ). what_of m x (choice_of b.what)) (sym l) in
-    let kind = words_same m a.lane a.what b.what (is_row (choice_of a.what)) refl (sym (both_rows a.what b.what agree)) v w in
-    let same = one_choice a.what b.what kind agree in
-    let t : a.what ≡ b.what = v ∙ ap (what_of m a.lane) same ∙ sym w in
-    let o : a.owner ≡ b.owner = owner_chosen m a h ∙ ap (owner_of m a.lane) t ∙ ap (λ (x : ℕ). owner_of m x b.what) l ∙ sym (owner_chosen m b k) in
-    let p : a.prev ≡ b.prev = prev_is m a h ∙ ap (λ (x : ℕ). get_or m.last x 0) l ∙ sym (prev_is m b k) in
-    same_entry a b o l p t
 
 -- what and whose the next entry is, by the form of the course
 pub chosen : (m : Machine) (e : Entry) → MayBeAdded m e →

@@ -1,4 +1,4 @@
--- The hand of a course is empty but in flight.
+-- The hand of a course is empty unless its lane is in flight. For callers too: which entries are an `out`.
 use Rattle.std.proofs.Common.{◌≡◌, ℕ, Bool, true, false, cond, [], Option, Some, None, refl}
 use Rattle.lb_base.specs.declared.shape.Kind.{Kind}
 use Rattle.lb_base.specs.declared.shape.Kind.TheVariants.{Tick as TickTurn, Idle, Nohz}
@@ -21,11 +21,8 @@ use Rattle.lb_core.specs.declared.entry.What.{What}
 use Rattle.lb_core.specs.declared.entry.What.TheVariants.{Row, Adopt, Look, Scan, End, Did, Out, Landed, Turn, Shut, Close, Ask, Kick, Over, Pub}
 use Rattle.lb_core.specs.Sight.{Sight}
 use Rattle.lb_core.specs.Stage.{draws}
+use Rattle.lb_core.specs.Placed.{is_flight}
 use Rattle.lb_core.specs.CourseAfter.{course_by, drew, goes_to, scanned, kicks_next, kicked, ends_turn, turn_ends, after_sleep, answered, lands, closes}
-
-abbrev pub is_flight : Form → Bool
-is_flight Flight = true
-is_flight f = false
 
 abbrev pub is_landing : What → Bool
 is_landing (Landed ids) = true

@@ -1,4 +1,5 @@
--- In the opening state each task sleeps at home, and the law Placed.
+-- In the opening state each task sleeps at home, and the law Placed. For callers too: the opening queue of
+-- a CPU.
 use Rattle.std.proofs.Common.{◌≡◌, ℕ, zero, suc, ◌⊎◌, ◌+◌, ◌-◌, ◌<◌, ◌≤◌, Bool, true, false, cond, ◌==◌, ◌&&◌, eqb, ltb, leb, List, [], ◌∷◌, length, map, get_or, replicate, All, refl, sym, ◌∙◌, ap, arith, inl, inr}
 use Rattle.std.proofs.lemmas.Bool.{eq-eqb, ne_eqb, lt-ltb, le-ltb, cases_lt, cases_order, and_left, le-leb, lt-leb, and_right, cond-true, cond-false}
 use Rattle.std.proofs.lemmas.List.{length-map, get_or-replicate, length-replicate}
@@ -7,6 +8,7 @@ use Rattle.std.proofs.lemmas.Bool.Decides.{nat_tests}
 use Rattle.lb_queue.specs.declared.record.TaskRecord.{TaskRecord}
 use Rattle.lb_queue.specs.Tasks.{occurs, ids, awake_ids}
 use Rattle.lb_queue.specs.Queue.{QueueState, new_task}
+use Rattle.lb_queue.specs.Laws.{CallsMove}
 use Rattle.lb_trace.specs.declared.trace.Header.{Header}
 use Rattle.lb_trace.specs.declared.trace.TaskRow.{TaskRow}
 use Rattle.lb_core.specs.declared.place.Place.{Place}
@@ -16,8 +18,8 @@ use Rattle.lb_core.specs.Same.{same_place}
 use Rattle.lb_core.specs.Course.{opening_course}
 use Rattle.lb_core.specs.Machine.{no_queue, no_course, queue_at, course_at, place_at, tasks_at, opening_queue, start}
 use Rattle.lb_core.proofs.Headers.{homes_declared}
-use Rattle.lb_core.specs.Placed.{times, is_its_place, PlacedAlways}
-use Rattle.lb_core.proofs.Placing.{Kept, run_kept}
+use Rattle.lb_core.specs.Placed.{times, is_its_place, PlacedAlways, PlacedOpens, PlacedStays}
+use Rattle.lb_core.proofs.Placing.{Kept, step_kept, run_kept}
 
 -- each task is at home at a CPU of the machine
 abbrev pub HomesDeclared : Header → Type 0
@@ -129,14 +131,6 @@ opening_hand h lane =
     ]
 
 -- nobody stands anywhere but asleep
-abbrev is_asleep_place : Place → Bool
-is_asleep_place (AsleepAt cpu) = true
-is_asleep_place p = false
-
-not_asleep : (p : Place) (c : ℕ) → is_asleep_place p ≡ false → same_place p (AsleepAt c) ≡ false
-not_asleep (AsleepAt cpu) c h = absurd (let k : ⊥ = cc in k)
-not_asleep p c h = refl
-
 its_not : (h : Header) → HomesDeclared h → (p : Place) (t : ℕ) → ((c : ℕ) → c < length h.cpus → same_place p (AsleepAt c) ≡ false) → is_its_place (start h) p t ≡ false
 unfolding start
 its_not h homes p t n = elim (cases_lt t (length h.tasks)) [
@@ -172,5 +166,11 @@ pub start_kept : (h : Header) → HomesDeclared h → Kept (start h)
 unfolding start
 start_kept h homes = record { placed = record { mapped = length-map h.tasks (λ (r : TaskRow). AsleepAt r.home); once = start_once h homes }; hands = λ lane f. opening_hand h lane }
 
-pub placed_always : PlacedAlways
-placed_always h es accepted legal = (run_kept es (start h) (start_kept h (homes_declared h accepted)) legal).placed
+pub placed_always : CallsMove → PlacedAlways
+placed_always law h es accepted legal = (run_kept law es (start h) (start_kept h (homes_declared h accepted)) legal).placed
+
+pub placed_opens : PlacedOpens
+placed_opens h accepted = let k = start_kept h (homes_declared h accepted) in (k.placed, k.hands)
+
+pub placed_stays : CallsMove → PlacedStays
+placed_stays law m e placed hands added = let k = step_kept law m e.owner e.lane e.prev e.what (record { placed = placed; hands = hands }) added in (k.placed, k.hands)

@@ -1,10 +1,11 @@
 -- Each step of the machine keeps its tasks allowed, and the law Permitted.
-use Rattle.std.proofs.Common.{◌≡◌, ℕ, zero, suc, ◌+◌, ◌<◌, Bool, true, false, not, cond, ◌==◌, ◌||◌, eqb, List, [], ◌∷◌, length, get_or, All, Option, Some, None, refl, sym, ◌∙◌, ap, arith, subst, inl, inr}
+use Rattle.std.proofs.Common.{◌≡◌, ℕ, suc, ◌+◌, ◌<◌, Bool, true, false, not, cond, ◌==◌, ◌||◌, eqb, List, [], ◌∷◌, length, get_or, All, Option, Some, None, refl, sym, ◌∙◌, ap, arith, subst, inl, inr}
 use Rattle.std.specs.List.{list_all}
 use Rattle.std.proofs.lemmas.Bool.{or_parts, and_parts, and_from, eqb-true, cases_eq}
 use Rattle.std.proofs.lemmas.List.{length-set}
 use Rattle.std.proofs.lemmas.List.FromFn.{length-map-range_with_len}
 use Rattle.lb_base.specs.Sets.{is_empty}
+use Rattle.lb_queue.specs.declared.awake.Awake.{Awake}
 use Rattle.lb_queue.specs.declared.record.TaskRecord.{TaskRecord}
 use Rattle.lb_queue.specs.declared.answers.Reply.{Reply}
 use Rattle.lb_queue.specs.declared.answers.Reply.TheVariants.{NotHere}
@@ -34,15 +35,16 @@ use Rattle.lb_core.specs.Machine.{Machine, queue_at, course_at, sight, tasks_at,
 use Rattle.lb_core.specs.Step.{after, queues_after}
 use Rattle.lb_core.specs.Legal.{MayBeAdded, run, MayFollow}
 use Rattle.lb_core.specs.Permitted.{may_stand, IsPermitted, PermittedAlways}
-use Rattle.lb_core.proofs.Allowed.{may_be_here, may_go_to, may_run, IsAllowed}
-use Rattle.lb_core.proofs.Staying.{Stays, same_stays, land_stays}
-use Rattle.lb_core.proofs.Flows.{OnAwake}
+use Rattle.lb_queue.specs.Laws.{CallsMove}
+use Rattle.lb_core.proofs.Allowed.{may_be, may_go_to, may_run, IsAllowed}
 use Rattle.lb_core.proofs.Unbroken.{unbroken_here}
 use Rattle.lb_core.proofs.Places.{IsChanged, course_same, course_other}
-use Rattle.lb_core.proofs.Placing.{Kept, entry, single, queue_changed, course_hand, leaving_is, lane_there, cpu_there, form_lets, step_kept, owner_wrong, no_queue_changes, quiet_facts, still_facts, is_still, is_quiet, is_no_queue}
+use Rattle.lb_core.proofs.Placing.{Kept, entry, distinct, queue_changed, course_hand, leaving_is, lane_there, cpu_there, form_lets, step_kept, owner_wrong, no_queue_changes, quiet_facts, still_facts, still_lists, is_still, is_quiet, is_no_queue}
 use Rattle.lb_core.proofs.Opening.{opening_at, opening_hand, start_kept}
 use Rattle.lb_core.proofs.Headers.{all_index, homes_declared, masks_given}
-use Rattle.lb_core.proofs.Permitting.{answer_stays, out_sends}
+use Rattle.lb_core.proofs.Leavings.{is_left}
+use Rattle.lb_core.proofs.Carrying.{lists_of}
+use Rattle.lb_core.proofs.Permitting.{TaskLaws, Stays, answer_stays, land_stays, out_sends}
 
 pub record Permit (m : Machine) : Type 0 where
   pub cpus : (cpu : ℕ) → cpu < length m.queues → (queue_at m.queues cpu).cpu ≡ cpu
@@ -74,15 +76,15 @@ queues_long (Lane l) q qs = refl
 queues_long Publisher q qs = refl
 
 -- ---- answers
-did_permits : (m : Machine) (cpu lane prev : ℕ) (r : Reply) → Kept m → Permit m → MayBeAdded m (entry (Queue cpu) lane prev (Did r)) → Permit (after m (entry (Queue cpu) lane prev (Did r)))
+did_permits : TaskLaws → (m : Machine) (cpu lane prev : ℕ) (r : Reply) → Kept m → Permit m → MayBeAdded m (entry (Queue cpu) lane prev (Did r)) → Permit (after m (entry (Queue cpu) lane prev (Did r)))
 unfolding after sight queue_after
-did_permits m cpu lane prev r k p h =
+did_permits law m cpu lane prev r k p h =
     let e = entry (Queue cpu) lane prev (Did r) in
     let c = course_at m.courses lane in
     let q = queue_at m.queues cpu in
     let said = or_parts _ _ (or_parts (leaves_instead c.command q || same_reply r NotHere) _ (unbroken_here m e h ReplyRule)).0 in
     permit_step m (after m e) cpu lane _ _ (queue_changed m cpu lane prev (Did r) h) (queues_long (Queue cpu) _ m.queues) p
-    (answer_stays c.command c.at q said.0 (p.queues cpu)) (none_goes (course_after (sight m e) e) (course_hand m e k h refl))
+    (answer_stays law c.command c.at q said.0 (p.queues cpu)) (none_goes (course_after (sight m e) e) (course_hand m e k h refl))
 
 -- ---- landings
 lands_there : (f : Form) (hd : Header) (c : Course) (q : QueueState) (lane cpu : ℕ) (ts : List ℕ) → is_queue (Queue cpu) (queue_due f c) ≡ true → draws f hd c q lane (Landed ts) ≡ true → eqb cpu c.to ≡ true
@@ -90,16 +92,16 @@ unfolding draws
 lands_there Flight hd c q lane cpu ts o h = o
 lands_there f hd c q lane cpu ts o h = absurd (let k : ⊥ = cc in k)
 
-landed_permits : (m : Machine) (cpu lane prev : ℕ) (ts : List ℕ) → Kept m → Permit m → MayBeAdded m (entry (Queue cpu) lane prev (Landed ts)) → Permit (after m (entry (Queue cpu) lane prev (Landed ts)))
+landed_permits : TaskLaws → (m : Machine) (cpu lane prev : ℕ) (ts : List ℕ) → Kept m → Permit m → MayBeAdded m (entry (Queue cpu) lane prev (Landed ts)) → Permit (after m (entry (Queue cpu) lane prev (Landed ts)))
 unfolding after sight queue_after
-landed_permits m cpu lane prev ts k p h =
+landed_permits law m cpu lane prev ts k p h =
     let e = entry (Queue cpu) lane prev (Landed ts) in
     let c = course_at m.courses lane in
     let q = queue_at m.queues cpu in
     let to : cpu ≡ c.to = eqb-true cpu c.to (lands_there c.form m.header c q lane cpu ts (form_lets m e h).0 (form_lets m e h).1) in
     let own : q.cpu ≡ c.to = p.cpus cpu (cpu_there m cpu lane prev (Landed ts) h) ∙ to in
     permit_step m (after m e) cpu lane _ _ (queue_changed m cpu lane prev (Landed ts) h) (queues_long (Queue cpu) _ m.queues) p
-    (land_stays c.at (cause_of c) c.moment c.hand q (subst (λ (x : ℕ). list_all (may_go_to x) c.hand ≡ true) (sym own) (p.hands lane)) (p.queues cpu))
+    (land_stays law c.at (cause_of c) c.moment c.hand q (subst (λ (x : ℕ). list_all (may_go_to x) c.hand ≡ true) (sym own) (p.hands lane)) (p.queues cpu))
     (none_goes (course_after (sight m e) e) (course_hand m e k h refl))
 
 -- ---- tasks that leave
@@ -107,9 +109,9 @@ sent_off : (o : Option Leaving) (c : Course) (cpu n : ℕ) (l : Leaving) → o �
 sent_off None c cpu n l h g = absurd (let k : ⊥ = cc in k)
 sent_off (Some x) c cpu n l h g = let k : l ≡ x = cc in subst (λ (y : Leaving). list_all (may_go_to y.to) y.hand ≡ true) k g
 
-out_permits : (m : Machine) (cpu lane prev : ℕ) (cause : OutCause) (to : ℕ) (ts : List ℕ) → Kept m → Permit m → MayBeAdded m (entry (Queue cpu) lane prev (Out cause to ts)) → Permit (after m (entry (Queue cpu) lane prev (Out cause to ts)))
+out_permits : TaskLaws → (m : Machine) (cpu lane prev : ℕ) (cause : OutCause) (to : ℕ) (ts : List ℕ) → Kept m → Permit m → MayBeAdded m (entry (Queue cpu) lane prev (Out cause to ts)) → Permit (after m (entry (Queue cpu) lane prev (Out cause to ts)))
 unfolding after sight queue_after course_after leaving
-out_permits m cpu lane prev cause to ts k p h =
+out_permits law m cpu lane prev cause to ts k p h =
     let e = entry (Queue cpu) lane prev (Out cause to ts) in
     let c = course_at m.courses lane in
     let q = queue_at m.queues cpu in
@@ -117,29 +119,36 @@ out_permits m cpu lane prev cause to ts k p h =
     let found = leaving_is o cause to ts (unbroken_here m e h Pick) in
     let l : Leaving = found.0 in
     let is : o ≡ Some l = found.1 in
-    let s = out_sends c.form m.header c q l is (single m cpu lane k.placed OnAwake) (p.queues cpu) in
+    let s = out_sends law q l (is_left c.form m.header c q l is) (distinct m cpu k.placed) (p.queues cpu) in
     let rest : rest_of o q ≡ l.rest = ap (λ (x : Option Leaving). rest_of x q) is in
     permit_step m (after m e) cpu lane _ _ (queue_changed m cpu lane prev (Out cause to ts) h) (queues_long (Queue cpu) _ m.queues) p
     (subst (λ (x : QueueState). Stays q x) (sym rest) s.stays)
     (sent_off o c cpu ((sight m e).count + 1) l is s.sent)
 
 -- ---- other entries
-still_stays : (w : What) (s : Sight) (lane : ℕ) → is_still w ≡ true → IsAllowed s.queue → Stays s.queue (queue_by w s lane)
+alike_stays : (q q' : QueueState) → lists_of q' ≡ lists_of q → q'.cpu ≡ q.cpu → IsAllowed q → Stays q q'
+alike_stays q q' e c h =
+    let a : q'.awake ≡ q.awake = ap (λ (l : List Awake × List TaskRecord × List TaskRecord). l.0) e in
+    let b : q'.asleep ≡ q.asleep = ap (λ (l : List Awake × List TaskRecord × List TaskRecord). l.1) e in
+    let d : q'.gone ≡ q.gone = ap (λ (l : List Awake × List TaskRecord × List TaskRecord). l.2) e in
+    record { allowed = record { awake = rw (a, c) h.awake; asleep = rw b h.asleep; gone = rw d h.gone }; cpu = c }
+
+still_cpu : (w : What) (s : Sight) (lane : ℕ) → is_still w ≡ true → (queue_by w s lane).cpu ≡ s.queue.cpu
 unfolding close_look ask_active kick
-still_stays (Turn ps) s lane n h = same_stays _ _ refl refl refl h
-still_stays Shut s lane n h = same_stays _ _ refl refl refl h
-still_stays (Close p w i f) s lane n h = same_stays _ _ refl refl refl h
-still_stays (Ask r) s lane n h = same_stays _ _ refl refl refl h
-still_stays (Kick r) s lane n h = same_stays _ _ refl refl refl h
-still_stays Over s lane n h = same_stays _ _ refl refl refl h
-still_stays w s lane n h = absurd (let k : ⊥ = cc in k)
+still_cpu (Turn ps) s lane n = refl
+still_cpu Shut s lane n = refl
+still_cpu (Close p w i f) s lane n = refl
+still_cpu (Ask r) s lane n = refl
+still_cpu (Kick r) s lane n = refl
+still_cpu Over s lane n = refl
+still_cpu w s lane n = absurd (let k : ⊥ = cc in k)
 
 still_permits : (m : Machine) (cpu lane prev : ℕ) (w : What) → is_still w ≡ true → Kept m → Permit m → MayBeAdded m (entry (Queue cpu) lane prev w) → Permit (after m (entry (Queue cpu) lane prev w))
 unfolding after sight queue_after
 still_permits m cpu lane prev w n k p h =
     let e = entry (Queue cpu) lane prev w in
     permit_step m (after m e) cpu lane _ _ (queue_changed m cpu lane prev w h) (queues_long (Queue cpu) _ m.queues) p
-    (still_stays w (sight m e) lane n (p.queues cpu)) (none_goes (course_after (sight m e) e) (course_hand m e k h (still_facts w n).1))
+    (alike_stays _ _ (still_lists w (sight m e) lane n) (still_cpu w (sight m e) lane n) (p.queues cpu)) (none_goes (course_after (sight m e) e) (course_hand m e k h (still_facts w n).1))
 
 quiet_permits : (m : Machine) (o : Owner) (lane prev : ℕ) (w : What) → is_no_queue o ≡ true → is_quiet w ≡ true → Kept m → Permit m → MayBeAdded m (entry o lane prev w) → Permit (after m (entry o lane prev w))
 unfolding after sight
@@ -148,27 +157,27 @@ quiet_permits m o lane prev w b n k p h =
     let qs = no_queue_changes o (queue_after (sight m e) e) m.queues b in
     permit_step m (after m e) 0 lane (queue_at m.queues 0) (course_after (sight m e) e)
     (record { this_queue = ap (λ (x : List QueueState). queue_at x 0) qs; other_queue = λ u z. ap (λ (x : List QueueState). queue_at x u) qs; lane_there = lane_there m e h; header = refl; courses = refl })
-    (queues_long o _ m.queues) p (same_stays _ _ refl refl refl (p.queues 0)) (none_goes (course_after (sight m e) e) (course_hand m e k h (quiet_facts w n).1))
+    (queues_long o _ m.queues) p (record { allowed = p.queues 0; cpu = refl }) (none_goes (course_after (sight m e) e) (course_hand m e k h (quiet_facts w n).1))
 
-step_permits : (m : Machine) (o : Owner) (lane prev : ℕ) (w : What) → Kept m → Permit m → MayBeAdded m (entry o lane prev w) → Permit (after m (entry o lane prev w))
-step_permits m (Queue cpu) lane prev (Did r) k p h = did_permits m cpu lane prev r k p h
-step_permits m o lane prev (Did r) k p h = absurd (owner_wrong m o lane prev (Did r) (λ _. refl) h)
-step_permits m (Queue cpu) lane prev (Out cause to ts) k p h = out_permits m cpu lane prev cause to ts k p h
-step_permits m o lane prev (Out cause to ts) k p h = absurd (owner_wrong m o lane prev (Out cause to ts) (λ _. refl) h)
-step_permits m (Queue cpu) lane prev (Landed ts) k p h = landed_permits m cpu lane prev ts k p h
-step_permits m o lane prev (Landed ts) k p h = absurd (owner_wrong m o lane prev (Landed ts) (λ _. refl) h)
-step_permits m (Queue cpu) lane prev (Turn ps) k p h = still_permits m cpu lane prev (Turn ps) refl k p h
-step_permits m (Queue cpu) lane prev Shut k p h = still_permits m cpu lane prev Shut refl k p h
-step_permits m (Queue cpu) lane prev (Close a w i f) k p h = still_permits m cpu lane prev (Close a w i f) refl k p h
-step_permits m (Queue cpu) lane prev (Ask r) k p h = still_permits m cpu lane prev (Ask r) refl k p h
-step_permits m (Queue cpu) lane prev (Kick r) k p h = still_permits m cpu lane prev (Kick r) refl k p h
-step_permits m (Queue cpu) lane prev Over k p h = still_permits m cpu lane prev Over refl k p h
-step_permits m (Queue cpu) lane prev w k p h = absurd (owner_wrong m (Queue cpu) lane prev w (λ _. refl) h)
-step_permits m o lane prev w k p h = quiet_permits m o lane prev w refl refl k p h
+step_permits : TaskLaws → (m : Machine) (o : Owner) (lane prev : ℕ) (w : What) → Kept m → Permit m → MayBeAdded m (entry o lane prev w) → Permit (after m (entry o lane prev w))
+step_permits law m (Queue cpu) lane prev (Did r) k p h = did_permits law m cpu lane prev r k p h
+step_permits law m o lane prev (Did r) k p h = absurd (owner_wrong m o lane prev (Did r) (λ _. refl) h)
+step_permits law m (Queue cpu) lane prev (Out cause to ts) k p h = out_permits law m cpu lane prev cause to ts k p h
+step_permits law m o lane prev (Out cause to ts) k p h = absurd (owner_wrong m o lane prev (Out cause to ts) (λ _. refl) h)
+step_permits law m (Queue cpu) lane prev (Landed ts) k p h = landed_permits law m cpu lane prev ts k p h
+step_permits law m o lane prev (Landed ts) k p h = absurd (owner_wrong m o lane prev (Landed ts) (λ _. refl) h)
+step_permits law m (Queue cpu) lane prev (Turn ps) k p h = still_permits m cpu lane prev (Turn ps) refl k p h
+step_permits law m (Queue cpu) lane prev Shut k p h = still_permits m cpu lane prev Shut refl k p h
+step_permits law m (Queue cpu) lane prev (Close a w i f) k p h = still_permits m cpu lane prev (Close a w i f) refl k p h
+step_permits law m (Queue cpu) lane prev (Ask r) k p h = still_permits m cpu lane prev (Ask r) refl k p h
+step_permits law m (Queue cpu) lane prev (Kick r) k p h = still_permits m cpu lane prev (Kick r) refl k p h
+step_permits law m (Queue cpu) lane prev Over k p h = still_permits m cpu lane prev Over refl k p h
+step_permits law m (Queue cpu) lane prev w k p h = absurd (owner_wrong m (Queue cpu) lane prev w (λ _. refl) h)
+step_permits law m o lane prev w k p h = quiet_permits m o lane prev w refl refl k p h
 
-run_permits : (es : List Entry) (m : Machine) → Kept m → Permit m → MayFollow es m → Permit (run es m)
-run_permits [] m k p h = p
-run_permits (e ∷ es) m k p h = run_permits es (after m e) (step_kept m e.owner e.lane e.prev e.what k h.0) (step_permits m e.owner e.lane e.prev e.what k p h.0) h.1
+run_permits : CallsMove → TaskLaws → (es : List Entry) (m : Machine) → Kept m → Permit m → MayFollow es m → Permit (run es m)
+run_permits moves law [] m k p h = p
+run_permits moves law (e ∷ es) m k p h = run_permits moves law es (after m e) (step_kept moves m e.owner e.lane e.prev e.what k h.0) (step_permits law m e.owner e.lane e.prev e.what k p h.0) h.1
 
 -- ---- the opening state
 cond_run : (b : Bool) (t : TaskRecord) (ts : List TaskRecord) → may_run t ≡ true → list_all may_run ts ≡ true → list_all may_run (cond b (t ∷ ts) ts) ≡ true
@@ -193,18 +202,18 @@ start_permits h masks = record {
     | inr b ↦ absurd (let n = queues_start h in let ge = b.1 in omega arith)
   ];
   queues = λ cpu. elim (opening_at h cpu) [
-    | inl a ↦ subst IsAllowed (sym a.0) (record { awake = refl; asleep = home_runs cpu 0 h.tasks masks })
-    | inr b ↦ subst IsAllowed (sym b.0) (record { awake = refl; asleep = refl })
+    | inl a ↦ subst IsAllowed (sym a.0) (record { awake = refl; asleep = home_runs cpu 0 h.tasks masks; gone = refl })
+    | inr b ↦ subst IsAllowed (sym b.0) (record { awake = refl; asleep = refl; gone = refl })
   ];
   hands = λ lane. none_goes (course_at (start h).courses lane) (opening_hand h lane);
 }
 
 permitted : (m : Machine) → Permit m → IsPermitted m
 permitted m p = record {
-  on_queues = λ cpu lt k d i. let h = (and_parts _ _ (all_index (may_be_here (queue_at m.queues cpu).cpu) _ (p.queues cpu).awake k d i)).0 in subst (λ (x : ℕ). may_stand x (get_or (queue_at m.queues cpu).awake k d) ≡ true) (p.cpus cpu lt) h;
+  on_queues = λ cpu lt k d i. let h = (and_parts _ _ (all_index (λ (a : Awake). may_be (queue_at m.queues cpu).cpu a.stop a.task) _ (p.queues cpu).awake k d i)).0 in subst (λ (x : ℕ). may_stand x (get_or (queue_at m.queues cpu).awake k d) ≡ true) (p.cpus cpu lt) h;
   in_hands = λ lane k d i. (and_parts _ _ (all_index (may_go_to (course_at m.courses lane).to) _ (p.hands lane) k d i)).0;
 }
 
-pub permitted_always : PermittedAlways
-permitted_always h es accepted legal =
-    permitted (run es (start h)) (run_permits es (start h) (start_kept h (homes_declared h accepted)) (start_permits h (masks_given h accepted)) legal)
+pub permitted_always : CallsMove → TaskLaws → PermittedAlways
+permitted_always moves law h es accepted legal =
+    permitted (run es (start h)) (run_permits moves law es (start h) (start_kept h (homes_declared h accepted)) (start_permits h (masks_given h accepted)) legal)

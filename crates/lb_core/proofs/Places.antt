@@ -5,7 +5,7 @@ use Rattle.std.proofs.lemmas.Bool.{eqb-true, eq-eqb, ne_eqb, ltb-true, and_parts
 use Rattle.std.proofs.lemmas.Bool.Decides.{nat_tests}
 use Rattle.lb_queue.specs.Tasks.{occurs, ids, awake_ids}
 use Rattle.lb_queue.specs.Queue.{QueueState}
-use Rattle.lb_core.proofs.Flows.{Side, OnAwake, OnAsleep, OnGone, OnHand, same_side, part, Flow}
+use Rattle.lb_queue.specs.Moves.{Side, OnAwake, OnAsleep, OnGone, OnHand, same_side, HasMoved}
 use Rattle.lb_core.specs.declared.place.Place.{Place}
 use Rattle.lb_core.specs.declared.place.Place.TheVariants.{Awake as AwakeAt, Asleep as AsleepAt, Gone as GoneAt, Hand as HandOf}
 use Rattle.lb_core.specs.declared.course.Course.{Course}
@@ -14,6 +14,7 @@ use Rattle.lb_core.specs.Same.{same_place}
 use Rattle.lb_core.specs.Machine.{Machine, queue_at, no_course, course_at, place_at}
 use Rattle.lb_core.specs.Step.{set_places}
 use Rattle.lb_core.specs.Placed.{times, is_its_place, IsPlaced}
+use Rattle.lb_core.proofs.Carrying.{place_on}
 
 -- ---- places that are set
 pub sp_length : (ts : List ℕ) (p : Place) (xs : List Place) → length (set_places ts p xs) ≡ length xs
@@ -37,12 +38,9 @@ sp_hit (x ∷ ts) p xs t d h lt = elim (cases_eq (occurs t ts) 0) [
   | inr n ↦ sp_hit ts p (set xs x p) t d (omega arith) (let k = length-set xs x p in omega arith)
 ]
 
--- ---- sides as places
-abbrev pub place_on : Side → ℕ → ℕ → Place
-place_on OnAwake cpu lane = AwakeAt cpu
-place_on OnAsleep cpu lane = AsleepAt cpu
-place_on OnGone cpu lane = GoneAt cpu
-place_on OnHand cpu lane = HandOf lane
+-- ---- one queue and one course
+abbrev part : Bool → ℕ → ℕ
+part b n = cond b n 0
 
 -- the machine with another queue and another course
 pub record IsChanged (m m' : Machine) (cpu lane : ℕ) (q : QueueState) (c : Course) : Type 0 where
@@ -99,7 +97,7 @@ far n x' x b c e g k = rw (e, g, k) refl
 
 -- how often each task stands at each place, before and after
 pub times_flow : (m m' : Machine) (cpu lane : ℕ) (q : QueueState) (c : Course) (ts : List ℕ) (from to : Side) → IsChanged m m' cpu lane q c →
-    Flow (queue_at m.queues cpu) (course_at m.courses lane).hand q c.hand ts from to → (p : Place) (t : ℕ) →
+    HasMoved (record { tasks = ts; from = from; to = to }) (queue_at m.queues cpu) (course_at m.courses lane).hand q c.hand → (p : Place) (t : ℕ) →
     times m' p t + part (same_place p (place_on from cpu lane)) (occurs t ts) ≡ times m p t + part (same_place p (place_on to cpu lane)) (occurs t ts)
 times_flow m m' cpu lane q c ts from to h f (AwakeAt u) t =
     let g : QueueState → ℕ = λ x. occurs t (awake_ids x.awake) in
@@ -189,7 +187,7 @@ old_place m p r t h =
 
 pub placed_by_flow : (m m' : Machine) (cpu lane : ℕ) (q : QueueState) (c : Course) (ts : List ℕ) (from to : Side) → IsChanged m m' cpu lane q c →
     m'.places ≡ set_places ts (place_on to cpu lane) m.places → same_side from to ≡ false →
-    Flow (queue_at m.queues cpu) (course_at m.courses lane).hand q c.hand ts from to → IsPlaced m → IsPlaced m'
+    HasMoved (record { tasks = ts; from = from; to = to }) (queue_at m.queues cpu) (course_at m.courses lane).hand q c.hand → IsPlaced m → IsPlaced m'
 placed_by_flow m m' cpu lane q c ts from to h e apart f placed = record {
   mapped = ap length e ∙ sp_length ts (place_on to cpu lane) m.places ∙ placed.mapped ∙ ap (λ (x : Header). length x.tasks) (sym h.header);
   once = λ p t.

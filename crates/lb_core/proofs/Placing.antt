@@ -1,25 +1,26 @@
--- Each step of the machine keeps each task at one place.
-use Rattle.std.proofs.Common.{◌≡◌, ℕ, ◌+◌, ◌<◌, ◌≤◌, Bool, true, false, not, cond, ◌==◌, ◌||◌, ltb, List, [], ◌∷◌, length, Option, Some, None, refl, sym, ◌∙◌, ap, arith, subst, inl, inr, get_or-set_same, get_or-set_other}
-use Rattle.std.proofs.lemmas.Bool.{or_parts, and_parts, not-false, eqb-true, ltb-true, cases_eq}
+-- Each step of the machine keeps each task at one place. For callers too: what an entry that may be added
+-- says of its lane, its CPU, its form and the tasks that leave.
+use Rattle.std.proofs.Common.{◌≡◌, ℕ, ◌+◌, ◌<◌, ◌≤◌, Bool, true, false, not, cond, ◌||◌, ltb, List, [], ◌∷◌, length, Option, Some, None, refl, sym, ◌∙◌, ap, arith, subst, inl, inr, get_or-set_same, get_or-set_other}
+use Rattle.std.proofs.lemmas.Bool.{or_parts, and_parts, not-false, ltb-true, cases_eq}
 use Rattle.lb_queue.specs.declared.record.TaskRecord.{TaskRecord}
 use Rattle.lb_queue.specs.declared.answers.Reply.{Reply}
 use Rattle.lb_queue.specs.declared.answers.Reply.TheVariants.{NotHere}
 use Rattle.lb_queue.specs.declared.answers.OutCause.{OutCause}
-use Rattle.lb_queue.specs.Tasks.{occurs, ids}
+use Rattle.lb_queue.specs.Tasks.{ids}
 use Rattle.lb_queue.specs.Queue.{QueueState}
 use Rattle.lb_queue.specs.Requests.{ask_active, kick}
 use Rattle.lb_queue.specs.Turns.{close_look}
 use Rattle.lb_trace.specs.declared.trace.Command.{Command}
 use Rattle.lb_core.specs.declared.course.Course.{Course}
 use Rattle.lb_core.specs.declared.place.Place.{Place}
-use Rattle.lb_core.specs.declared.place.Place.TheVariants.{Awake as AwakeAt, Asleep as AsleepAt, Gone as GoneAt, Hand as HandOf}
+use Rattle.lb_core.specs.declared.place.Place.TheVariants.{Awake as AwakeAt, Asleep as AsleepAt, Hand as HandOf}
 use Rattle.lb_core.specs.declared.rule.Rule.TheVariants.{Stage, Reply as ReplyRule, Pick, Flight}
 use Rattle.lb_core.specs.declared.entry.Owner.{Owner}
 use Rattle.lb_core.specs.declared.entry.Owner.TheVariants.{Queue}
 use Rattle.lb_core.specs.declared.entry.What.{What}
 use Rattle.lb_core.specs.declared.entry.What.TheVariants.{Did, Out, Landed, Turn, Shut, Close, Ask, Kick, Over}
 use Rattle.lb_core.specs.declared.entry.Entry.{Entry}
-use Rattle.lb_core.specs.Same.{same_numbers, same_reply}
+use Rattle.lb_core.specs.Same.{same_reply}
 use Rattle.lb_core.specs.Sight.{Sight}
 use Rattle.lb_core.specs.Stage.{draws, is_owner, queue_due, stage_allows}
 use Rattle.lb_core.specs.Leaving.{Leaving, leaving, out_by}
@@ -29,17 +30,21 @@ use Rattle.lb_core.specs.CourseAfter.{course_after, drew, cpu_of, takes_off}
 use Rattle.lb_core.specs.Machine.{Machine, no_queue, queue_at, course_at, sight}
 use Rattle.lb_core.specs.Step.{after, places_after, queues_after, set_places}
 use Rattle.lb_core.specs.Legal.{MayBeAdded, run, MayFollow}
-use Rattle.lb_core.specs.Placed.{times, is_its_place, IsPlaced}
-use Rattle.lb_core.proofs.Flows.{Side, OnAwake, OnAsleep, OnGone, OnHand, stand, Flow, Single, land_flow}
+use Rattle.lb_core.specs.Placed.{is_flight, times, is_its_place, IsPlaced, HandsRest}
+use Rattle.lb_queue.specs.Calls.Call.{Land}
+use Rattle.lb_queue.specs.Moves.{OnHand, OnAwake, AreDistinct, HasMoved}
+use Rattle.lb_queue.specs.Laws.{CallsMove}
+use Rattle.lb_core.proofs.Equality.{numbers_same, reply_is}
 use Rattle.lb_core.proofs.Unbroken.{unbroken_here, unbroken_elsewhere}
-use Rattle.lb_core.proofs.EmptyHands.{is_flight, is_landing, is_out, not_in_flight, hand_after}
+use Rattle.lb_core.proofs.EmptyHands.{is_landing, is_out, not_in_flight, hand_after}
 use Rattle.lb_core.proofs.Places.{IsChanged, course_same, course_other, placed_by_flow}
-use Rattle.lb_core.proofs.Carrying.{Carried, unmoved, answers, reply_is, out_leaves}
+use Rattle.lb_core.proofs.Leavings.{is_left}
+use Rattle.lb_core.proofs.Carrying.{Carried, lists_of, unmoved, answers, out_leaves}
 
 -- ---- what is kept
 pub record Kept (m : Machine) : Type 0 where
   pub placed : IsPlaced m
-  pub hands : (lane : ℕ) → is_flight (course_at m.courses lane).form ≡ false → (course_at m.courses lane).hand ≡ []
+  pub hands : HandsRest m
 
 abbrev pub entry : Owner → ℕ → ℕ → What → Entry
 entry o lane prev w = record { owner = o; lane = lane; prev = prev; what = w }
@@ -77,11 +82,8 @@ one_at_most false = omega arith
 times_one : (m : Machine) → IsPlaced m → (p : Place) (t : ℕ) → times m p t ≤ 1
 times_one m placed p t = let o = one_at_most (is_its_place m p t) in let e = placed.once p t in omega arith
 
-pub single : (m : Machine) (cpu lane : ℕ) → IsPlaced m → Single (queue_at m.queues cpu) (course_at m.courses lane).hand
-single m cpu lane placed OnAwake u = times_one m placed (AwakeAt cpu) u
-single m cpu lane placed OnAsleep u = times_one m placed (AsleepAt cpu) u
-single m cpu lane placed OnGone u = times_one m placed (GoneAt cpu) u
-single m cpu lane placed OnHand u = times_one m placed (HandOf lane) u
+pub distinct : (m : Machine) (cpu : ℕ) → IsPlaced m → AreDistinct (queue_at m.queues cpu)
+distinct m cpu placed = record { awake = times_one m placed (AwakeAt cpu); asleep = times_one m placed (AsleepAt cpu) }
 
 -- ---- the machine after an entry of a queue
 pub queue_changed : (m : Machine) (cpu lane prev : ℕ) (w : What) → MayBeAdded m (entry (Queue cpu) lane prev w) →
@@ -105,7 +107,7 @@ hands_kept m m' cpu lane q c h old new l = elim (cases_eq l lane) [
 carry : (m m' : Machine) (cpu lane : ℕ) (q : QueueState) (c : Course) → IsChanged m m' cpu lane q c → Kept m → (h' : List TaskRecord) → h' ≡ c.hand →
     Carried (queue_at m.queues cpu) (course_at m.courses lane).hand q h' cpu lane m.places m'.places → (is_flight c.form ≡ false → c.hand ≡ []) → Kept m'
 carry m m' cpu lane q c h k h' e d n = record {
-  placed = placed_by_flow m m' cpu lane q c d.ts d.from d.to h d.map d.apart (subst (λ (x : List TaskRecord). Flow (queue_at m.queues cpu) (course_at m.courses lane).hand q x d.ts d.from d.to) e d.flow) k.placed;
+  placed = placed_by_flow m m' cpu lane q c d.move.tasks d.move.from d.move.to h d.map d.apart (subst (λ (x : List TaskRecord). HasMoved d.move (queue_at m.queues cpu) (course_at m.courses lane).hand q x) e d.moved) k.placed;
   hands = hands_kept m m' cpu lane q c h k.hands n;
 }
 
@@ -114,35 +116,32 @@ unfolding sight course_after
 course_hand m e k h o = hand_after e.what (sight m e) e.owner ((sight m e).count + 1) (cpu_of e.owner) (queue_after (sight m e) e) o (λ n. empty_hand m e k h n)
 
 -- ---- the answer to a row
-pub did_kept : (m : Machine) (cpu lane prev : ℕ) (r : Reply) → Kept m → MayBeAdded m (entry (Queue cpu) lane prev (Did r)) → Kept (after m (entry (Queue cpu) lane prev (Did r)))
+did_kept : CallsMove → (m : Machine) (cpu lane prev : ℕ) (r : Reply) → Kept m → MayBeAdded m (entry (Queue cpu) lane prev (Did r)) → Kept (after m (entry (Queue cpu) lane prev (Did r)))
 unfolding after sight queue_after
-did_kept m cpu lane prev r k h =
+did_kept law m cpu lane prev r k h =
     let e = entry (Queue cpu) lane prev (Did r) in
     let c = course_at m.courses lane in
     let q = queue_at m.queues cpu in
     let empty = empty_hand m e k h refl in
     let empty' = course_hand m e k h refl in
     let said = or_parts (leaves_instead c.command q || same_reply r NotHere) _ (unbroken_here m e h ReplyRule) in
-    carry m _ cpu lane _ _ (queue_changed m cpu lane prev (Did r) h) k c.hand (empty ∙ sym empty')
-    (answers c.command r c.at cpu lane q c.hand m.places (single m cpu lane k.placed) (reply_is r (answer_to c.command c.at q).0 (not-false _ said.1)))
+    let a = answers law c.command r c.at cpu lane q m.places (distinct m cpu k.placed) (reply_is r (answer_to c.command c.at q).0 (not-false _ said.1)) in
+    let now = queue_after (sight m e) e in
+    carry m _ cpu lane _ _ (queue_changed m cpu lane prev (Did r) h) k [] (sym empty')
+    (subst (λ (x : List TaskRecord). Carried q x now [] cpu lane m.places (places_after (Did r) (Queue cpu) lane c.command m.places)) (sym empty) a)
     (λ _. empty')
 
 -- ---- a landing
-pub numbers_same : (xs ys : List ℕ) → same_numbers xs ys ≡ true → xs ≡ ys
-numbers_same [] [] h = refl
-numbers_same (x ∷ xs) (y ∷ ys) h = let p = and_parts (x == y) (same_numbers xs ys) h in let a = eqb-true x y p.0 in let b = numbers_same xs ys p.1 in cc
-numbers_same xs ys h = absurd (let k : ⊥ = cc in k)
-
-landed_kept : (m : Machine) (cpu lane prev : ℕ) (ts : List ℕ) → Kept m → MayBeAdded m (entry (Queue cpu) lane prev (Landed ts)) → Kept (after m (entry (Queue cpu) lane prev (Landed ts)))
+landed_kept : CallsMove → (m : Machine) (cpu lane prev : ℕ) (ts : List ℕ) → Kept m → MayBeAdded m (entry (Queue cpu) lane prev (Landed ts)) → Kept (after m (entry (Queue cpu) lane prev (Landed ts)))
 unfolding after sight queue_after
-landed_kept m cpu lane prev ts k h =
+landed_kept law m cpu lane prev ts k h =
     let e = entry (Queue cpu) lane prev (Landed ts) in
     let c = course_at m.courses lane in
     let q = queue_at m.queues cpu in
     let empty' = course_hand m e k h refl in
     let same : ts ≡ ids c.hand = numbers_same ts (ids c.hand) (not-false _ (unbroken_here m e h Flight)) in
     carry m _ cpu lane _ _ (queue_changed m cpu lane prev (Landed ts) h) k [] (sym empty')
-    (record { ts = ids c.hand; from = OnHand; to = OnAwake; apart = refl; flow = land_flow c.at (cause_of c) c.moment q c.hand; map = rw same refl })
+    (record { move = record { tasks = ids c.hand; from = OnHand; to = OnAwake }; apart = refl; moved = law q (distinct m cpu k.placed) (Land c.at (cause_of c) c.moment c.hand); map = rw same refl })
     (λ _. empty')
 
 -- ---- tasks that leave
@@ -154,9 +153,9 @@ pub flight_end : (o : Option Leaving) (c : Course) (cpu n : ℕ) (l : Leaving) �
 flight_end None c cpu n l h = absurd (let k : ⊥ = cc in k)
 flight_end (Some x) c cpu n l h = let k : x ≡ l = cc in (refl, ap (λ (y : Leaving). y.hand) k)
 
-out_kept : (m : Machine) (cpu lane prev : ℕ) (cause : OutCause) (to : ℕ) (ts : List ℕ) → Kept m → MayBeAdded m (entry (Queue cpu) lane prev (Out cause to ts)) → Kept (after m (entry (Queue cpu) lane prev (Out cause to ts)))
+out_kept : CallsMove → (m : Machine) (cpu lane prev : ℕ) (cause : OutCause) (to : ℕ) (ts : List ℕ) → Kept m → MayBeAdded m (entry (Queue cpu) lane prev (Out cause to ts)) → Kept (after m (entry (Queue cpu) lane prev (Out cause to ts)))
 unfolding after sight queue_after course_after leaving
-out_kept m cpu lane prev cause to ts k h =
+out_kept law m cpu lane prev cause to ts k h =
     let e = entry (Queue cpu) lane prev (Out cause to ts) in
     let c = course_at m.courses lane in
     let q = queue_at m.queues cpu in
@@ -165,13 +164,13 @@ out_kept m cpu lane prev cause to ts k h =
     let found = leaving_is o cause to ts (unbroken_here m e h Pick) in
     let l : Leaving = found.0 in
     let is : o ≡ Some l = found.1 in
-    let leaves = out_leaves c.form m.header c q l is (subst (λ (x : List TaskRecord). Single q x) empty (single m cpu lane k.placed)) in
+    let gone = out_leaves law q l (is_left c.form m.header c q l is) (distinct m cpu k.placed) in
     let rest : rest_of o q ≡ l.rest = ap (λ (x : Option Leaving). rest_of x q) is in
-    let f : Flow q [] (rest_of o q) l.hand (ids l.hand) leaves.from OnHand = subst (λ (y : QueueState). Flow q [] y l.hand (ids l.hand) leaves.from OnHand) (sym rest) leaves.flow in
-    let g : Flow q c.hand (rest_of o q) l.hand (ids l.hand) leaves.from OnHand = subst (λ (x : List TaskRecord). Flow q x (rest_of o q) l.hand (ids l.hand) leaves.from OnHand) (sym empty) f in
+    let f = subst (λ (y : QueueState). HasMoved (record { tasks = ids l.hand; from = gone.from; to = OnHand }) q [] y l.hand) (sym rest) gone.moved in
+    let g = subst (λ (x : List TaskRecord). HasMoved (record { tasks = ids l.hand; from = gone.from; to = OnHand }) q x (rest_of o q) l.hand) (sym empty) f in
     let z = flight_end o c cpu ((sight m e).count + 1) l is in
     carry m _ cpu lane _ _ (queue_changed m cpu lane prev (Out cause to ts) h) k l.hand (sym z.1)
-    (record { ts = ids l.hand; from = leaves.from; to = OnHand; apart = leaves.apart; flow = g; map = ap (λ (x : List ℕ). set_places x (HandOf lane) m.places) found.2 })
+    (record { move = record { tasks = ids l.hand; from = gone.from; to = OnHand }; apart = gone.apart; moved = g; map = ap (λ (x : List ℕ). set_places x (HandOf lane) m.places) found.2 })
     (λ n. absurd (let w = z.0 in let y : ⊥ = cc in y))
 
 -- ---- other entries of a queue
@@ -184,33 +183,15 @@ is_still (Kick r) = true
 is_still Over = true
 is_still w = false
 
-still_sides : (w : What) (s : Sight) (lane : ℕ) → is_still w ≡ true → (h : List TaskRecord) (d : Side) (u : ℕ) → occurs u (stand d (queue_by w s lane) h) ≡ occurs u (stand d s.queue h)
+pub still_lists : (w : What) (s : Sight) (lane : ℕ) → is_still w ≡ true → lists_of (queue_by w s lane) ≡ lists_of s.queue
 unfolding close_look ask_active kick
-still_sides (Turn ps) s lane n h OnAwake u = refl
-still_sides (Turn ps) s lane n h OnAsleep u = refl
-still_sides (Turn ps) s lane n h OnGone u = refl
-still_sides (Turn ps) s lane n h OnHand u = refl
-still_sides Shut s lane n h OnAwake u = refl
-still_sides Shut s lane n h OnAsleep u = refl
-still_sides Shut s lane n h OnGone u = refl
-still_sides Shut s lane n h OnHand u = refl
-still_sides (Close p w i f) s lane n h OnAwake u = refl
-still_sides (Close p w i f) s lane n h OnAsleep u = refl
-still_sides (Close p w i f) s lane n h OnGone u = refl
-still_sides (Close p w i f) s lane n h OnHand u = refl
-still_sides (Ask r) s lane n h OnAwake u = refl
-still_sides (Ask r) s lane n h OnAsleep u = refl
-still_sides (Ask r) s lane n h OnGone u = refl
-still_sides (Ask r) s lane n h OnHand u = refl
-still_sides (Kick r) s lane n h OnAwake u = refl
-still_sides (Kick r) s lane n h OnAsleep u = refl
-still_sides (Kick r) s lane n h OnGone u = refl
-still_sides (Kick r) s lane n h OnHand u = refl
-still_sides Over s lane n h OnAwake u = refl
-still_sides Over s lane n h OnAsleep u = refl
-still_sides Over s lane n h OnGone u = refl
-still_sides Over s lane n h OnHand u = refl
-still_sides w s lane n h d u = absurd (let k : ⊥ = cc in k)
+still_lists (Turn ps) s lane n = refl
+still_lists Shut s lane n = refl
+still_lists (Close p w i f) s lane n = refl
+still_lists (Ask r) s lane n = refl
+still_lists (Kick r) s lane n = refl
+still_lists Over s lane n = refl
+still_lists w s lane n = absurd (let k : ⊥ = cc in k)
 
 pub still_facts : (w : What) → is_still w ≡ true → (is_landing w ≡ false) × (is_out w ≡ false)
 still_facts (Turn ps) h = (refl, refl)
@@ -230,9 +211,6 @@ still_places (Kick r) o lane c places h = refl
 still_places Over o lane c places h = refl
 still_places w o lane c places h = absurd (let k : ⊥ = cc in k)
 
-hands_alike : (d : Side) (q : QueueState) (h h' : List TaskRecord) → h' ≡ h → (u : ℕ) → occurs u (stand d q h') ≡ occurs u (stand d q h)
-hands_alike d q h h' e u = rw e refl
-
 still_kept : (m : Machine) (cpu lane prev : ℕ) (w : What) → is_still w ≡ true → Kept m → MayBeAdded m (entry (Queue cpu) lane prev w) → Kept (after m (entry (Queue cpu) lane prev w))
 unfolding after sight queue_after
 still_kept m cpu lane prev w n k h =
@@ -241,7 +219,7 @@ still_kept m cpu lane prev w n k h =
     let empty = empty_hand m e k h (still_facts w n).0 in
     let empty' = course_hand m e k h (still_facts w n).1 in
     carry m _ cpu lane _ _ (queue_changed m cpu lane prev w h) k c.hand (empty ∙ sym empty')
-    (unmoved (queue_at m.queues cpu) c.hand _ c.hand cpu lane m.places _ (still_sides w (sight m e) lane n c.hand) (still_places w (Queue cpu) lane c.command m.places n))
+    (unmoved (queue_at m.queues cpu) c.hand _ cpu lane m.places _ (still_lists w (sight m e) lane n) (still_places w (Queue cpu) lane c.command m.places n))
     (λ _. empty')
 
 -- ---- entries of a lane and of the publisher
@@ -282,7 +260,7 @@ quiet_kept m o lane prev w b n k h =
     carry m (after m e) 0 lane (queue_at m.queues 0) (course_after (sight m e) e)
     (record { this_queue = ap (λ (x : List QueueState). queue_at x 0) qs; other_queue = λ u z. ap (λ (x : List QueueState). queue_at x u) qs; lane_there = lane_there m e h; header = refl; courses = refl })
     k c.hand (empty ∙ sym empty')
-    (unmoved (queue_at m.queues 0) c.hand (queue_at m.queues 0) c.hand 0 lane m.places _ (λ s u. refl) (quiet_places w o lane c.command m.places n))
+    (unmoved (queue_at m.queues 0) c.hand (queue_at m.queues 0) 0 lane m.places _ refl (quiet_places w o lane c.command m.places n))
     (λ _. empty')
 
 -- ---- each entry
@@ -292,22 +270,22 @@ owner_wrong m o lane prev w n h =
     let z = n (queue_due (course_at m.courses lane).form (course_at m.courses lane)) in
     let y : ⊥ = cc in y
 
-pub step_kept : (m : Machine) (o : Owner) (lane prev : ℕ) (w : What) → Kept m → MayBeAdded m (entry o lane prev w) → Kept (after m (entry o lane prev w))
-step_kept m (Queue cpu) lane prev (Did r) k h = did_kept m cpu lane prev r k h
-step_kept m o lane prev (Did r) k h = absurd (owner_wrong m o lane prev (Did r) (λ _. refl) h)
-step_kept m (Queue cpu) lane prev (Out cause to ts) k h = out_kept m cpu lane prev cause to ts k h
-step_kept m o lane prev (Out cause to ts) k h = absurd (owner_wrong m o lane prev (Out cause to ts) (λ _. refl) h)
-step_kept m (Queue cpu) lane prev (Landed ts) k h = landed_kept m cpu lane prev ts k h
-step_kept m o lane prev (Landed ts) k h = absurd (owner_wrong m o lane prev (Landed ts) (λ _. refl) h)
-step_kept m (Queue cpu) lane prev (Turn ps) k h = still_kept m cpu lane prev (Turn ps) refl k h
-step_kept m (Queue cpu) lane prev Shut k h = still_kept m cpu lane prev Shut refl k h
-step_kept m (Queue cpu) lane prev (Close p w i f) k h = still_kept m cpu lane prev (Close p w i f) refl k h
-step_kept m (Queue cpu) lane prev (Ask r) k h = still_kept m cpu lane prev (Ask r) refl k h
-step_kept m (Queue cpu) lane prev (Kick r) k h = still_kept m cpu lane prev (Kick r) refl k h
-step_kept m (Queue cpu) lane prev Over k h = still_kept m cpu lane prev Over refl k h
-step_kept m (Queue cpu) lane prev w k h = absurd (owner_wrong m (Queue cpu) lane prev w (λ _. refl) h)
-step_kept m o lane prev w k h = quiet_kept m o lane prev w refl refl k h
+pub step_kept : CallsMove → (m : Machine) (o : Owner) (lane prev : ℕ) (w : What) → Kept m → MayBeAdded m (entry o lane prev w) → Kept (after m (entry o lane prev w))
+step_kept law m (Queue cpu) lane prev (Did r) k h = did_kept law m cpu lane prev r k h
+step_kept law m o lane prev (Did r) k h = absurd (owner_wrong m o lane prev (Did r) (λ _. refl) h)
+step_kept law m (Queue cpu) lane prev (Out cause to ts) k h = out_kept law m cpu lane prev cause to ts k h
+step_kept law m o lane prev (Out cause to ts) k h = absurd (owner_wrong m o lane prev (Out cause to ts) (λ _. refl) h)
+step_kept law m (Queue cpu) lane prev (Landed ts) k h = landed_kept law m cpu lane prev ts k h
+step_kept law m o lane prev (Landed ts) k h = absurd (owner_wrong m o lane prev (Landed ts) (λ _. refl) h)
+step_kept law m (Queue cpu) lane prev (Turn ps) k h = still_kept m cpu lane prev (Turn ps) refl k h
+step_kept law m (Queue cpu) lane prev Shut k h = still_kept m cpu lane prev Shut refl k h
+step_kept law m (Queue cpu) lane prev (Close p w i f) k h = still_kept m cpu lane prev (Close p w i f) refl k h
+step_kept law m (Queue cpu) lane prev (Ask r) k h = still_kept m cpu lane prev (Ask r) refl k h
+step_kept law m (Queue cpu) lane prev (Kick r) k h = still_kept m cpu lane prev (Kick r) refl k h
+step_kept law m (Queue cpu) lane prev Over k h = still_kept m cpu lane prev Over refl k h
+step_kept law m (Queue cpu) lane prev w k h = absurd (owner_wrong m (Queue cpu) lane prev w (λ _. refl) h)
+step_kept law m o lane prev w k h = quiet_kept m o lane prev w refl refl k h
 
-pub run_kept : (es : List Entry) (m : Machine) → Kept m → MayFollow es m → Kept (run es m)
-run_kept [] m k h = k
-run_kept (e ∷ es) m k h = run_kept es (after m e) (step_kept m e.owner e.lane e.prev e.what k h.0) h.1
+pub run_kept : CallsMove → (es : List Entry) (m : Machine) → Kept m → MayFollow es m → Kept (run es m)
+run_kept law [] m k h = k
+run_kept law (e ∷ es) m k h = run_kept law es (after m e) (step_kept law m e.owner e.lane e.prev e.what k h.0) h.1

@@ -1,262 +1,162 @@
--- The last `use` of a lane, as long as its turn lasts: the course keeps its version, kind, CPU and
--- masks.
-use Rattle.std.proofs.Common.{◌≡◌, ℕ, zero, suc, ◌+◌, ◌-◌, ◌<◌, ◌≤◌, Bool, true, false, not, cond, ◌==◌, ◌&&◌, ◌||◌, eqb, ltb, List, [], ◌∷◌, ◌++◌, length, get_or, set, max, Option, Some, None, refl, sym, ◌∙◌, ap, arith, rules, subst, inl, inr, get_or-set_same, get_or-set_other}
-use Rattle.std.proofs.lemmas.Bool.{or_parts, and_parts, not-false, eqb-true, eq-eqb, ne_eqb, cases_eq, ltb-false}
+-- What is said of turns holds of every front: one lane at most has a turn open at a queue.
+use Rattle.std.proofs.Common.{◌≡◌, ℕ, ◌+◌, ◌-◌, ◌<◌, ◌≤◌, Bool, true, false, List, [], ◌∷◌, ◌++◌, length, get_or, set, max, Option, Some, None, IfSome, is_some, unwrap_or, refl, sym, ◌∙◌, ap, arith, subst, inl, inr, get_or-set_same, get_or-set_other}
+use Rattle.std.proofs.lemmas.Bool.{not-false, cases_eq, ltb-false}
+use Rattle.std.proofs.lemmas.List.{length-set, length-map, length-append, get_or_append_left}
 use Rattle.lb_base.specs.declared.mask.Mask.{Mask}
 use Rattle.lb_base.specs.declared.shape.Kind.{Kind}
-use Rattle.lb_base.specs.declared.shape.Kind.TheVariants.{Tick as TickTurn, Idle, Nohz}
 use Rattle.lb_base.specs.Sets.{least, least_above}
-use Rattle.lb_detach.specs.declared.Env.{Env}
-use Rattle.lb_queue.specs.declared.answers.AskReply.{AskReply}
-use Rattle.lb_queue.specs.declared.answers.AskReply.TheVariants.{New, Old}
+use Rattle.lb_domain.specs.declared.domain.Domain.{Domain}
+use Rattle.lb_domain.specs.Domains.{domains_of}
+use Rattle.lb_domain.specs.Laws.{StandInOrder}
+use Rattle.lb_interval.specs.declared.Counters.{Counters}
+use Rattle.lb_queue.specs.declared.answers.OpenTurn.{OpenTurn}
 use Rattle.lb_queue.specs.declared.answers.OutCause.{OutCause}
-use Rattle.lb_queue.specs.declared.answers.OutCause.TheVariants.{Wake as WakeOut, Stop as StopOut, Pull as PullOut, Push as PushOut}
-use Rattle.lb_queue.specs.declared.answers.Stop.{Stop}
-use Rattle.lb_queue.specs.Queue.{QueueState, away}
-use Rattle.lb_queue.specs.Requests.{next_stop}
+use Rattle.lb_queue.specs.declared.answers.OutCause.TheVariants.{Wake as WakeOut, Pull as PullOut}
+use Rattle.lb_queue.specs.Queue.{QueueState}
+use Rattle.lb_queue.specs.Turns.{close_look}
 use Rattle.lb_trace.specs.declared.trace.Command.{Command}
-use Rattle.lb_trace.specs.declared.trace.Command.TheVariants.{Wake, Sleep, Exit, SetMask, Nice, Tick, Rebuild}
+use Rattle.lb_trace.specs.declared.trace.Command.TheVariants.{Rebuild}
 use Rattle.lb_trace.specs.declared.trace.Header.{Header}
 use Rattle.lb_core.specs.declared.course.Course.{Course}
 use Rattle.lb_core.specs.declared.course.Form.{Form}
-use Rattle.lb_core.specs.declared.course.Form.TheVariants.{Rest, Asked, Flight, Serving, Due, Used, Position, Looked, Landed as LandedForm, Closed, Done, ScanDue, Kicking, Ended}
-use Rattle.lb_core.specs.declared.rule.Rule.TheVariants.{Version}
-use Rattle.lb_core.specs.declared.entry.OutcomeWord.{OutcomeWord}
-use Rattle.lb_core.specs.declared.entry.OutcomeWord.TheVariants.{NotMine as NotMineWord, Balanced as BalancedWord, Moved as MovedWord, Pinned as PinnedWord, Failed as FailedWord, Asking as AskingWord}
+use Rattle.lb_core.specs.declared.course.Form.TheVariants.{Rest, Flight, Looked, Landed as LandedForm}
 use Rattle.lb_core.specs.declared.entry.Owner.{Owner}
 use Rattle.lb_core.specs.declared.entry.Owner.TheVariants.{Publisher, Lane, Queue}
 use Rattle.lb_core.specs.declared.entry.What.{What}
-use Rattle.lb_core.specs.declared.entry.What.TheVariants.{Row, Adopt, Look, Scan, End, Did, Out, Landed, Turn, Shut, Close, Ask, Kick, Over, Pub}
+use Rattle.lb_core.specs.declared.entry.What.TheVariants.{Adopt, Look, Scan, Did, Out, Landed, Turn, Shut, Close, Ask, Kick, Over, Pub}
 use Rattle.lb_core.specs.declared.entry.Entry.{Entry}
-use Rattle.lb_core.specs.Course.{kind_of, env_of, is_tick, is_newly, turn_domains}
-use Rattle.lb_core.specs.Sight.{Sight, tickless_in}
-use Rattle.lb_core.specs.Stage.{draws, target_of}
-use Rattle.lb_core.specs.Leaving.{Leaving, leaving, wake_to, wake_out, stop_out, push_out, served_out, pull_out, out_by}
-use Rattle.lb_core.specs.QueueAfter.{cause_of, queue_after}
-use Rattle.lb_core.specs.CourseAfter.{course_after, course_by, drew, cpu_of, goes_to, scanned, kicks_next, kicked, ends_turn, turn_ends, after_sleep, answered, lands, closes, takes_off, rests, begins_anew, lets_go, left_idle, names as names_of}
-use Rattle.lb_core.specs.Machine.{Machine, no_course, course_at, masks_at, sight}
+use Rattle.lb_core.specs.declared.rule.Rule.TheVariants.{Reply as ReplyRule, Version, Counters as CountersRule}
+use Rattle.lb_core.specs.Course.{kind_of, turn_domains, shapes_of}
+use Rattle.lb_core.specs.Sight.{Sight}
+use Rattle.lb_core.specs.Stage.{draws}
+use Rattle.lb_core.specs.Leaving.{Leaving, leaving, out_by}
+use Rattle.lb_core.specs.Rules.{breaks_counters}
+use Rattle.lb_core.specs.QueueAfter.{cause_of, queue_by, queue_after}
+use Rattle.lb_core.specs.CourseAfter.{course_after, course_by, drew, cpu_of, goes_to, lands, closes, takes_off, names as names_of}
+use Rattle.lb_core.specs.Machine.{Machine, no_queue, no_course, queue_at, course_at, masks_at, opening_queue, start, sight}
+use Rattle.lb_core.specs.Elsewhere.{is_rest}
 use Rattle.lb_core.specs.Step.{after, versions_after}
-use Rattle.lb_core.specs.Legal.{MayBeAdded}
-use Rattle.lb_core.specs.Passes.{Use, use_or, last_use}
+use Rattle.lb_core.specs.Legal.{MayBeAdded, run, MayFollow}
+use Rattle.lb_core.specs.TurnCounters.{TurnsFitAlways}
+use Rattle.lb_core.specs.LaneEntries.{Use, use_or, last_use, row_or, last_row}
 use Rattle.lb_core.proofs.Unbroken.{unbroken_here, unbroken_elsewhere}
-use Rattle.lb_core.proofs.Placing.{lane_there, form_lets}
+use Rattle.lb_core.proofs.Placing.{entry, lane_there, cpu_there, form_lets}
+use Rattle.lb_core.proofs.Opening.{opening_at}
+use Rattle.lb_core.proofs.Equality.{mask_is}
+use Rattle.lb_core.proofs.Next.{front_holds}
+use Rattle.lb_core.proofs.AtWork.{clash, opens_so, opening_rests}
+use Rattle.lb_core.proofs.Turns.{own_said, other_said, turning, in_turn, opens, is_open, open_turns, look_works, close_works, out_works, landed_works, ask_closed, over_opens, turn_used, pull_turns, row_part, scanned_out, kicked_out, turn_out, answered_out, lands_out, row_by, own_turn, UseKey, use_key, Key, key_of, HasTurn, Turned, reforms, next_on, closes_turn, closed_turn, IsPublished, OpensBelow, Fits, finds_many, with_turn, opened_turn}
+use Rattle.lb_queue.specs.Laws.{CallsKeepRest}
+use Rattle.lb_core.proofs.Quiet.{TurnPart, part_of, turns, quiet_by}
+use Rattle.lb_core.proofs.Positions.{AreMany, found_many, positions_below}
 
--- ---- the last `use` in a longer list
-pub last_use-snoc : (lane : ℕ) (o : Option Use) (pre : List Entry) (e : Entry) → last_use lane o (pre ++ e ∷ []) ≡ cond (e.lane == lane) (use_or e.what (last_use lane o pre)) (last_use lane o pre)
-last_use-snoc lane o [] e = refl
-last_use-snoc lane o (x ∷ pre) e = last_use-snoc lane (cond (x.lane == lane) (use_or x.what o) o) pre e
+-- what all this rests on: what a queue's call leaves of turns, and that domains stand at their positions
+pub record TurnLaws : Type 0 where
+  pub rest : CallsKeepRest
+  pub order : StandInOrder
 
--- ---- a lane in its turn
-abbrev is_pull_cause : OutCause → Bool
-is_pull_cause PullOut = true
-is_pull_cause cause = false
+-- ---- the lane that draws
+-- the part of the queue of its turn, before and after
+record Parts (w : What) (s : Sight) (lane : ℕ) (t t' : TurnPart) : Type 0 where
+  quiet : turns w ≡ false → t' ≡ t
+  was : turns w ≡ true → part_of s.queue ≡ t
+  now : turns w ≡ true → part_of (queue_by w s lane) ≡ t'
 
-abbrev pub turning : Form → OutCause → Bool
-turning Used o = true
-turning Position o = true
-turning Looked o = true
-turning LandedForm o = true
-turning Closed o = true
-turning Done o = true
-turning Flight o = is_pull_cause o
-turning f o = false
+abbrev Held : ℕ → Header → Course → TurnPart → Type 0
+Held lane h c t = is_open c ≡ true → Turned lane h (use_key c) c t
 
-abbrev pub in_turn : Course → Bool
-in_turn c = turning c.form (cause_of c)
-
--- the turn is the same
-record IsAlike (c c' : Course) : Type 0 where
-  version : c'.version ≡ c.version
-  kind : c'.kind ≡ c.kind
-  cpu : c'.cpu ≡ c.cpu
-  masks : c'.masks ≡ c.masks
-
-record Stays (c c' : Course) : Type 0 where
+record Stays (lane : ℕ) (h : Header) (c c' : Course) (t : TurnPart) : Type 0 where
   was : in_turn c ≡ true
-  alike : IsAlike c c'
+  now : Turned lane h (use_key c) c' t
 
--- by their forms
-pub look_form : (f : Form) (h : Header) (c : Course) (q : QueueState) (lane p : ℕ) (x : Mask) (names : _) (d : _) (o : OutCause) → draws f h c q lane (Look p x names d) ≡ true → turning f o ≡ true
-unfolding draws
-look_form Position h c q lane p x names d o k = refl
-look_form LandedForm h c q lane p x names d o k = refl
-look_form f h c q lane p x names d o k = absurd (let y : ⊥ = cc in y)
-
-turn_form : (f : Form) (h : Header) (c : Course) (q : QueueState) (lane : ℕ) (ps : Mask) (o : OutCause) → draws f h c q lane (Turn ps) ≡ true → turning f o ≡ true
-unfolding draws
-turn_form Used h c q lane ps o k = refl
-turn_form f h c q lane ps o k = absurd (let y : ⊥ = cc in y)
-
-close_form : (f : Form) (h : Header) (c : Course) (q : QueueState) (lane p : ℕ) (w : OutcomeWord) (i n : ℕ) (o : OutCause) → draws f h c q lane (Close p w i n) ≡ true → turning f o ≡ true
-unfolding draws
-close_form Looked h c q lane p w i n o k = refl
-close_form LandedForm h c q lane p w i n o k = refl
-close_form f h c q lane p w i n o k = absurd (let y : ⊥ = cc in y)
-
-ask_form : (f : Form) (h : Header) (c : Course) (q : QueueState) (lane : ℕ) (r : AskReply) (o : OutCause) → draws f h c q lane (Ask r) ≡ true → turning f o ≡ true
-unfolding draws
-ask_form Closed h c q lane r o k = refl
-ask_form f h c q lane r o k = absurd (let y : ⊥ = cc in y)
-
-landing_form : (f : Form) (h : Header) (c : Course) (q : QueueState) (lane : ℕ) (tasks : List ℕ) → draws f h c q lane (Landed tasks) ≡ true → turning f PullOut ≡ true
-unfolding draws
-landing_form Flight h c q lane tasks k = refl
-landing_form f h c q lane tasks k = absurd (let y : ⊥ = cc in y)
-
--- ---- a pull leaves in a turn alone
-abbrev NoPull : Option Leaving → Type 0
-NoPull o = (l : Leaving) → o ≡ Some l → is_pull_cause l.cause ≡ false
-
-wake_no_pull : (d : Option ℕ) (at t : ℕ) (q : QueueState) → NoPull (wake_to d at t q)
-wake_no_pull None at t q l e = absurd (let y : ⊥ = cc in y)
-wake_no_pull (Some to) at t q l e = ap is_pull_cause (sym (let k : WakeOut ≡ l.cause = cc in k))
-
-stop_no_pull : (o : Option Stop) (at : ℕ) (q : QueueState) → NoPull (stop_out o at q)
-stop_no_pull None at q l e = absurd (let y : ⊥ = cc in y)
-stop_no_pull (Some stop) at q l e = ap is_pull_cause (sym (let k : StopOut ≡ l.cause = cc in k))
-
-push_no_pull : (o : Option ℕ) (at : ℕ) (q : QueueState) → NoPull (push_out o at q)
-push_no_pull None at q l e = absurd (let y : ⊥ = cc in y)
-push_no_pull (Some to) at q l e = ap is_pull_cause (sym (let k : PushOut ≡ l.cause = cc in k))
-
-served_no_pull : (o : Option Stop) (at : ℕ) (q : QueueState) → NoPull (served_out o at q)
-served_no_pull None at q l e = push_no_pull q.active at q l e
-served_no_pull (Some stop) at q l e = stop_no_pull (Some stop) at q l e
-
-command_no_pull : (command : Option Command) (at : ℕ) (q : QueueState) → NoPull (wake_out command at q)
-command_no_pull (Some (Wake t)) at q l e = wake_no_pull (away q t) at t q l e
-command_no_pull command at q l e = absurd (let y : ⊥ = cc in y)
-
-clash : (b : Bool) → b ≡ true → b ≡ false → ⊥
-clash b h k = cc
-
-pull_turns : (f : Form) (h : Header) (c : Course) (q : QueueState) (l : Leaving) (o : OutCause) → out_by f h c q ≡ Some l → is_pull_cause l.cause ≡ true → turning f o ≡ true
-pull_turns Looked h c q l o e k = refl
-pull_turns Rest h c q l o e k = absurd (clash _ k (stop_no_pull (next_stop q false) c.at q l e))
-pull_turns Asked h c q l o e k = absurd (clash _ k (command_no_pull c.command c.at q l e))
-pull_turns Serving h c q l o e k = absurd (clash _ k (served_no_pull (next_stop q true) c.at q l e))
-pull_turns f h c q l o e k = absurd (let y : ⊥ = cc in y)
-
--- ---- each entry leaves a turn as it is, but for a `use`
 abbrev is_use : What → Bool
 is_use (Adopt v kind cpu) = true
 is_use w = false
 
-goes_alike : (p : Option ℕ) (c : Course) → IsAlike c (goes_to p c)
-goes_alike None c = record { version = refl; kind = refl; cpu = refl; masks = refl }
-goes_alike (Some p) c = record { version = refl; kind = refl; cpu = refl; masks = refl }
+pub in_turn_from : (c : Course) → is_open c ≡ true → in_turn c ≡ true
+in_turn_from c k = open_turns c.form (cause_of c) k
 
-cond_alike : (b : Bool) (c x y : Course) → IsAlike c x → IsAlike c y → IsAlike c (cond b x y)
-cond_alike true c x y h k = h
-cond_alike false c x y h k = k
-
-closes_alike : (w : OutcomeWord) (c : Course) → IsAlike c (closes w c)
-closes_alike AskingWord c = record { version = refl; kind = refl; cpu = refl; masks = refl }
-closes_alike NotMineWord c = record { version = refl; kind = refl; cpu = refl; masks = refl }
-closes_alike MovedWord c = cond_alike (is_newly (kind_of c)) c (goes_to None c) (goes_to (least_above c.positions c.position) c) (goes_alike None c) (goes_alike (least_above c.positions c.position) c)
-closes_alike BalancedWord c = goes_alike (least_above c.positions c.position) c
-closes_alike PinnedWord c = goes_alike (least_above c.positions c.position) c
-closes_alike FailedWord c = goes_alike (least_above c.positions c.position) c
-
-abbrev Out_ : Course → Type 0
-Out_ c = in_turn c ≡ false
-
-cond_out : (b : Bool) (x y : Course) → Out_ x → Out_ y → Out_ (cond b x y)
-cond_out true x y h k = h
-cond_out false x y h k = k
-
-next_out : (p : Option ℕ) (c : Course) → Out_ (kicks_next p c)
-next_out None c = refl
-next_out (Some p) c = refl
-
-scanned_out : (p : Option ℕ) (c : Course) → Out_ (scanned p c)
-scanned_out None c = refl
-scanned_out (Some p) c = refl
-
-kicked_out : (r : AskReply) (c : Course) → Out_ (kicked r c)
-kicked_out New c = next_out (target_of c) c
-kicked_out Old c = refl
-
-ends_out : (k : Kind) (h : Header) (c : Course) → Out_ (ends_turn k h c)
-ends_out TickTurn h c = cond_out (ltb 1 c.awake && ltb 0 (length (turn_domains h c))) (record (begins_anew c) { form = ScanDue }) (rests c) refl refl
-ends_out Idle h c = refl
-ends_out Nohz h c = next_out (least_above (tickless_in c.figures) c.cpu) c
-
-turn_out : (h : Header) (c : Course) → Out_ (turn_ends h c)
-unfolding turn_ends
-turn_out h c = ends_out (kind_of c) h c
-
-sleep_out : (b : Bool) (cpu : ℕ) (c : Course) → Out_ (after_sleep b cpu c)
-sleep_out true cpu c = refl
-sleep_out false cpu c = refl
-
-answered_out : (command : Option Command) (cpu : ℕ) (before now : QueueState) (c : Course) → Out_ (answered command cpu before now c)
-answered_out (Some (Sleep t)) cpu before now c = sleep_out (left_idle t before now) cpu c
-answered_out (Some (Exit t)) cpu before now c = sleep_out (left_idle t before now) cpu c
-answered_out (Some (Tick u)) cpu before now c = refl
-answered_out command cpu before now c = refl
-
-lands_out : (o : OutCause) (c : Course) → is_pull_cause o ≡ false → Out_ (lands o c)
-lands_out PullOut c h = absurd (let y : ⊥ = cc in y)
-lands_out WakeOut c h = cond_out (is_tick c.command) (record (lets_go c) { form = Serving; took = 0 }) (rests c) refl refl
-lands_out StopOut c h = cond_out (is_tick c.command) (record (lets_go c) { form = Serving; took = 0 }) (rests c) refl refl
-lands_out PushOut c h = cond_out (is_tick c.command) (record (lets_go c) { form = Serving; took = 0 }) (rests c) refl refl
-
-landed_stays : (o : OutCause) (c : Course) → cause_of c ≡ o → turning c.form PullOut ≡ true → in_turn (lands o c) ≡ true → Stays c (lands o c)
-landed_stays PullOut c e t h = record { was = ap (turning c.form) e ∙ t; alike = record { version = refl; kind = refl; cpu = refl; masks = refl } }
-landed_stays WakeOut c e t h = absurd (clash _ h (lands_out WakeOut c refl))
-landed_stays StopOut c e t h = absurd (clash _ h (lands_out StopOut c refl))
-landed_stays PushOut c e t h = absurd (clash _ h (lands_out PushOut c refl))
-
-off_stays : (o : Option Leaving) (c : Course) (hd : Header) (q : QueueState) → out_by c.form hd c q ≡ o → in_turn (takes_off o c) ≡ true → Stays c (takes_off o c)
-off_stays None c hd q e h = record { was = h; alike = record { version = refl; kind = refl; cpu = refl; masks = refl } }
-off_stays (Some l) c hd q e h = record { was = pull_turns c.form hd c q l (cause_of c) e h; alike = record { version = refl; kind = refl; cpu = refl; masks = refl } }
-
-alike_turn : (s : Sight) (ps : Mask) (p : Option ℕ) (counters : _) → IsAlike s.course (goes_to p (record s.course { positions = ps; counters = counters }))
-alike_turn s ps None counters = record { version = refl; kind = refl; cpu = refl; masks = refl }
-alike_turn s ps (Some p) counters = record { version = refl; kind = refl; cpu = refl; masks = refl }
-
-by_stays : (w : What) (s : Sight) (lane cpu : ℕ) (now : QueueState) → draws s.course.form s.header s.course s.queue lane w ≡ true → is_use w ≡ false → in_turn (course_by w s cpu now) ≡ true → Stays s.course (course_by w s cpu now)
+stays : StandInOrder → (w : What) (s : Sight) (lane cpu : ℕ) (now : QueueState) (vs : List (List Mask)) (t t' : TurnPart) → draws s.course.form s.header s.course s.queue lane w ≡ true → breaks_counters s w ≡ false → Parts w s lane t t' → Fits s.header vs s.course.cpu t →
+    (in_turn s.course ≡ true → IsPublished vs (use_key s.course)) → Held lane s.header s.course t → is_use w ≡ false → in_turn (course_by w s cpu now) ≡ true → Stays lane s.header s.course (course_by w s cpu now) t'
 unfolding leaving
-by_stays (Row n at command) s lane cpu now d u h = absurd (let y : ⊥ = cc in y)
-by_stays (Adopt v kind t) s lane cpu now d u h = absurd (let y : ⊥ = cc in y)
-by_stays (Look p x names v) s lane cpu now d u h = record { was = look_form s.course.form s.header s.course s.queue lane p x names v (cause_of s.course) d; alike = record { version = refl; kind = refl; cpu = refl; masks = refl } }
-by_stays (Scan names t) s lane cpu now d u h = absurd (clash _ h (scanned_out t (record s.course { figures = s.figs; named = names_of names s.course.named })))
-by_stays (End cpus) s lane cpu now d u h = absurd (let y : ⊥ = cc in y)
-by_stays (Did r) s lane cpu now d u h = absurd (clash _ h (answered_out s.course.command cpu s.queue now s.course))
-by_stays (Out cause to tasks) s lane cpu now d u h = off_stays (out_by s.course.form s.header s.course s.queue) s.course s.header s.queue refl h
-by_stays (Landed tasks) s lane cpu now d u h = landed_stays (cause_of s.course) s.course refl (landing_form s.course.form s.header s.course s.queue lane tasks d) h
-by_stays (Turn ps) s lane cpu now d u h = record { was = turn_form s.course.form s.header s.course s.queue lane ps (cause_of s.course) d; alike = alike_turn s ps (least ps) _ }
-by_stays Shut s lane cpu now d u h = absurd (clash _ h (turn_out s.header s.course))
-by_stays (Close p w i f) s lane cpu now d u h = record { was = close_form s.course.form s.header s.course s.queue lane p w i f (cause_of s.course) d; alike = closes_alike w s.course }
-by_stays (Ask r) s lane cpu now d u h = record { was = ask_form s.course.form s.header s.course s.queue lane r (cause_of s.course) d; alike = goes_alike (least_above s.course.positions s.course.position) s.course }
-by_stays (Kick r) s lane cpu now d u h = absurd (clash _ h (kicked_out r s.course))
-by_stays Over s lane cpu now d u h = absurd (clash _ h (turn_out s.header s.course))
-by_stays (Pub v) s lane cpu now d u h = absurd (let y : ⊥ = cc in y)
+stays order (Look p x names v) s lane cpu now vs t t' d b ps f u held n k =
+    let c = s.course in
+    let g = look_works c.form s.header c s.queue lane p x names v (cause_of c) d in
+    record { was = in_turn_from c g.0; now = subst (HasTurn lane s.header (use_key c) Looked (key_of c)) (sym (ps.quiet refl)) (reforms lane s.header (use_key c) c.form Looked (key_of c) t g.1 refl (held g.0)) }
+stays order (Out cause to ts) s lane cpu now vs t t' d b ps f u held n k = off (out_by s.course.form s.header s.course s.queue) refl k
+  where
+    off : (l : Option Leaving) → out_by s.course.form s.header s.course s.queue ≡ l → in_turn (takes_off l s.course) ≡ true → Stays lane s.header s.course (takes_off l s.course) t'
+    off None z k =
+        let c = s.course in
+        let g = out_works c.form s.header c s.queue lane cause to ts (cause_of c) (cause_of c) d k in
+        record { was = k; now = subst (Turned lane s.header (use_key c) c) (sym (ps.quiet refl)) (held g.0) }
+    off (Some l) z k =
+        let c = s.course in
+        let g = out_works c.form s.header c s.queue lane cause to ts (cause_of c) WakeOut d (pull_turns c.form s.header c s.queue l WakeOut z k) in
+        record { was = in_turn_from c g.0; now = subst (HasTurn lane s.header (use_key c) Flight (key_of c)) (sym (ps.quiet refl)) (reforms lane s.header (use_key c) c.form Flight (key_of c) t g.1 refl (held g.0)) }
+stays order (Landed ts) s lane cpu now vs t t' d b ps f u held n k = by_cause (cause_of s.course) refl k
+  where
+    by_cause : (cause : OutCause) → cause_of s.course ≡ cause → in_turn (lands cause s.course) ≡ true → Stays lane s.header s.course (lands cause s.course) t'
+    by_cause PullOut z k =
+        let c = s.course in
+        let g = landed_works c.form s.header c s.queue lane ts d in
+        let o = ap (opens c.form) z ∙ g.0 in
+        record { was = in_turn_from c o; now = subst (HasTurn lane s.header (use_key c) LandedForm (key_of c)) (sym (ps.quiet refl)) (reforms lane s.header (use_key c) c.form LandedForm (key_of c) t g.1 refl (held o)) }
+    by_cause cause z k = clash _ k (lands_out cause s.course refl).0
+stays order (Turn ps') s lane cpu now vs t t' d b ps f u held n k =
+    let c = s.course in
+    let g : in_turn c ≡ true = ap (λ (x : Form). turning x (cause_of c)) (turn_used c.form s.header c s.queue lane ps' d) in
+    let due = mask_is ps' _ (not-false _ b) in
+    record { was = g; now = subst (Turned lane s.header (use_key c) (goes_to (least ps') (with_turn s.header c s.queue ps'))) (ps.now refl) (opened_turn lane s.header vs c s.queue ps' due (u g) (subst (Fits s.header vs c.cpu) (sym (ps.was refl)) f)) }
+stays order (Close p w i m) s lane cpu now vs t t' d b ps f u held n k =
+    let c = s.course in
+    let g = close_works c.form s.header c s.queue lane p w i m (cause_of c) d in
+    let before = subst (Turned lane s.header (use_key c) c) (sym (ps.was refl)) (held g.0) in
+    record { was = in_turn_from c g.0; now = subst (Turned lane s.header (use_key c) (closes w c)) (ps.now refl) (closes_turn lane s.header (use_key c) w c _ (closed_turn order lane s.header c s.queue g.1 before)) }
+stays order (Ask r) s lane cpu now vs t t' d b ps f u held n k =
+    let c = s.course in
+    let z = ask_closed c.form s.header c s.queue lane r d in
+    let o : is_open c ≡ true = ap (λ (x : Form). opens x (cause_of c)) z in
+    let before = subst (λ (x : Form). HasTurn lane s.header (use_key c) x (key_of c) t) z (held o) in
+    record { was = in_turn_from c o; now = subst (Turned lane s.header (use_key c) (goes_to (least_above c.positions c.position) c)) (sym (ps.quiet refl)) (next_on lane s.header (use_key c) c t before) }
+stays order (Scan names v) s lane cpu now vs t t' d b ps f u held n k = clash _ k (scanned_out v (record s.course { figures = s.figs; named = names_of names s.course.named })).0
+stays order (Did r) s lane cpu now vs t t' d b ps f u held n k = clash _ k (answered_out s.course.command cpu s.queue now s.course).0
+stays order (Kick r) s lane cpu now vs t t' d b ps f u held n k = clash _ k (kicked_out r s.course).0
+stays order Shut s lane cpu now vs t t' d b ps f u held n k = clash _ k (turn_out s.header s.course).0
+stays order Over s lane cpu now vs t t' d b ps f u held n k = clash _ k (turn_out s.header s.course).0
+stays order w s lane cpu now vs t t' d b ps f u held n k = absurd (let y : ⊥ = cc in y)
 
--- ---- the invariant
-abbrev pub use_of : Course → Use
-use_of c = record { version = c.version; kind = kind_of c; cpu = c.cpu }
+-- what an entry that changes a turn leaves of its queue
+set_many : (cs : List Counters) (i n : ℕ) (x : Counters) (o : Option (List Counters)) → o ≡ Some cs → AreMany o n → length (set (unwrap_or o []) i x) ≡ n
+set_many cs i n x None e h = absurd (let y : ⊥ = cc in y)
+set_many cs i n x (Some ds) e h = length-set ds i x ∙ h
 
-pub record HasUse (lane : ℕ) (pre : List Entry) (m : Machine) (c : Course) : Type 0 where
-  pub last : last_use lane None pre ≡ Some (use_of c)
-  pub from_first : 1 ≤ c.version
-  pub published : c.version ≤ length m.versions
-  pub masks : c.masks ≡ masks_at m c.version
+-- any counters will do
+still_below : (o : Option OpenTurn) (cs : Option (List Counters)) (n : ℕ) → OpensBelow o cs n → OpensBelow o (Some []) n
+still_below None cs n h = tt
+still_below (Some turn) cs n h = (refl, h.1)
 
-pub record Turning (pre : List Entry) (m : Machine) : Type 0 where
-  pub each : (lane : ℕ) → in_turn (course_at m.courses lane) ≡ true → HasUse lane pre m (course_at m.courses lane)
+fits_after : (w : What) (s : Sight) (lane : ℕ) (vs : List (List Mask)) → turns w ≡ true → draws s.course.form s.header s.course s.queue lane w ≡ true → (in_turn s.course ≡ true → IsPublished vs (use_key s.course)) → Held lane s.header s.course (part_of s.queue) →
+    Fits s.header vs s.course.cpu (part_of s.queue) → Fits s.header vs s.course.cpu (part_of (queue_by w s lane))
+unfolding close_look
+fits_after (Turn ps) s lane vs t d u held f =
+    let c = s.course in
+    let is = u (ap (λ (x : Form). turning x (cause_of c)) (turn_used c.form s.header c s.queue lane ps d)) in
+    let l = length-map (turn_domains s.header c) (λ (e : Domain). e.shape) in
+    let same = ap (λ (parts : List Mask). length (domains_of s.header.cpus s.header.distances parts c.cpu)) is.masks in
+    record {
+      from = is.from;
+      to = is.to;
+      many = found_many s.queue c.at c.version (shapes_of (turn_domains s.header c)) (finds_many s.header c vs s.queue is f) ∙ l ∙ same;
+      below = (refl, λ p k. let b = positions_below s.queue c.at (kind_of c) c.version p (shapes_of (turn_domains s.header c)) (finds_many s.header c vs s.queue is f) k in omega arith);
+    }
+fits_after (Close p w i n) s lane vs t d u held f =
+    let c = s.course in
+    record { from = f.from; to = f.to; many = set_many _ _ _ _ s.queue.counters (held (close_works c.form s.header c s.queue lane p w i n (cause_of c) d).0).there.are f.many; below = still_below s.queue.open_turn s.queue.counters _ f.below }
+fits_after Over s lane vs t d u held f = record { from = f.from; to = f.to; many = f.many; below = tt }
+fits_after w s lane vs t d u held f = absurd (let y : ⊥ = cc in y)
 
--- versions stay
-pub get_or-snoc : {A : Type 0} (xs : List A) (x : A) (i : ℕ) (d : A) → i < length xs → get_or (xs ++ x ∷ []) i d ≡ get_or xs i d
-get_or-snoc [] x i d h = absurd (omega arith)
-get_or-snoc (y ∷ ys) x zero d h = refl
-get_or-snoc (y ∷ ys) x (suc i) d h = get_or-snoc ys x i d (omega arith)
-
-pub length-snoc : {A : Type 0} (xs : List A) (x : A) → length (xs ++ x ∷ []) ≡ length xs + 1
-length-snoc [] x = refl
-length-snoc (y ∷ ys) x = let h = length-snoc ys x in omega arith
-
+-- ---- versions stay
 record Grows (vs ws : List (List Mask)) : Type 0 where
   longer : length vs ≤ length ws
   same : (i : ℕ) → i < length vs → get_or ws i [] ≡ get_or vs i []
@@ -265,97 +165,274 @@ grows-refl : (vs : List (List Mask)) → Grows vs vs
 grows-refl vs = record { longer = omega arith; same = λ i h. refl }
 
 versions_grow : (w : What) (command : Option Command) (vs : List (List Mask)) → Grows vs (versions_after w command vs)
-versions_grow (Pub v) (Some (Rebuild parts)) vs = record { longer = let h = length-snoc vs parts in omega arith; same = λ i h. get_or-snoc vs parts i [] h }
+versions_grow (Pub v) (Some (Rebuild parts)) vs = record { longer = let h = length-append vs (parts ∷ []) in omega arith; same = λ i h. get_or_append_left vs (parts ∷ []) [] i h }
 versions_grow (Pub v) None vs = grows-refl vs
 versions_grow (Pub v) (Some command) vs = still command vs
   where
     still : (command : Command) (vs : List (List Mask)) → Grows vs (versions_after (Pub v) (Some command) vs)
-    still (Rebuild parts) vs = record { longer = let h = length-snoc vs parts in omega arith; same = λ i h. get_or-snoc vs parts i [] h }
+    still (Rebuild parts) vs = record { longer = let h = length-append vs (parts ∷ []) in omega arith; same = λ i h. get_or_append_left vs (parts ∷ []) [] i h }
     still command vs = grows-refl vs
 versions_grow w command vs = grows-refl vs
 
-keeps_use : (lane : ℕ) (pre pre' : List Entry) (m m' : Machine) (c c' : Course) → last_use lane None pre' ≡ last_use lane None pre → Grows m.versions m'.versions → IsAlike c c' → HasUse lane pre m c → HasUse lane pre' m' c'
-keeps_use lane pre pre' m m' c c' l g a h = record {
-  last = l ∙ h.last ∙ (let v = a.version in let k = a.kind in let u = a.cpu in rw (v, k, u) refl);
-  from_first = let v = a.version in let f = h.from_first in omega arith;
-  published = let v = a.version in let f = h.published in let n = g.longer in omega arith;
-  masks =
-      a.masks ∙ h.masks
-      ∙ sym (g.same (c.version - 1) (let f = h.from_first in let p = h.published in omega arith))
-      ∙ ap (λ (x : ℕ). get_or m'.versions (x - 1) []) (sym a.version);
+more_published : (vs ws : List (List Mask)) (u : UseKey) → Grows vs ws → IsPublished vs u → IsPublished ws u
+more_published vs ws u g h = record {
+  from = h.from;
+  to = let a = h.to in let b = g.longer in omega arith;
+  masks = h.masks ∙ sym (g.same (u.version - 1) (let a = h.from in let b = h.to in omega arith));
 }
 
--- ---- one step
+more_fits : (h : Header) (vs ws : List (List Mask)) (cpu : ℕ) (t : TurnPart) → Grows vs ws → Fits h vs cpu t → Fits h ws cpu t
+more_fits h vs ws cpu t g f = record {
+  from = f.from;
+  to = let a = f.to in let b = g.longer in omega arith;
+  many = subst (λ (parts : List Mask). AreMany t.counters (length (domains_of h.cpus h.distances parts cpu))) same f.many;
+  below = subst (λ (parts : List Mask). OpensBelow t.opened t.counters (length (domains_of h.cpus h.distances parts cpu))) same f.below;
+}
+  where
+    same : get_or vs (t.version - 1) [] ≡ get_or ws (t.version - 1) []
+    same = sym (g.same (t.version - 1) (let a = f.from in let b = f.to in omega arith))
+
+-- ---- the queues after an entry
+abbrev pub part_at : Machine → ℕ → TurnPart
+part_at m cpu = part_of (queue_at m.queues cpu)
+
+-- the one that draws it
+record Mine (m : Machine) (e : Entry) (cpu : ℕ) : Type 0 where
+  now : part_at (after m e) cpu ≡ part_of (queue_by e.what (sight m e) e.lane)
+  was : (sight m e).queue ≡ queue_at m.queues cpu
+
+mine : (m : Machine) (o : Owner) (lane prev cpu : ℕ) (w : What) → o ≡ Queue cpu → MayBeAdded m (entry o lane prev w) → Mine m (entry o lane prev w) cpu
+unfolding after queue_after sight
+mine m (Queue u) lane prev cpu w own a =
+    let e = entry (Queue u) lane prev w in
+    let k : u ≡ cpu = cc in
+    record {
+      now = subst (λ (x : ℕ). part_at (after m e) x ≡ part_of (queue_by w (sight m e) lane)) k (ap part_of (get_or-set_same m.queues u (queue_after (sight m e) e) no_queue (cpu_there m u lane prev w a)));
+      was = ap (queue_at m.queues) k;
+    }
+mine m o lane prev cpu w own a = absurd (let y : ⊥ = cc in y)
+
+-- any other, and this one too where no turn changes
+others : CallsKeepRest → (m : Machine) (o : Owner) (lane prev cpu : ℕ) (w : What) → (o ≡ Queue cpu → turns w ≡ false) → MayBeAdded m (entry o lane prev w) → part_at (after m (entry o lane prev w)) cpu ≡ part_at m cpu
+unfolding after
+others law m (Queue u) lane prev cpu w n a =
+    let e = entry (Queue u) lane prev w in
+    elim (cases_eq cpu u) [
+      | inl same ↦ let own = ap Queue (sym same) in let k = mine m (Queue u) lane prev cpu w own a in k.now ∙ quiet_by law w (sight m e) lane (n own) ∙ ap part_of k.was
+      | inr other ↦ ap part_of (get_or-set_other m.queues u cpu (queue_after (sight m e) e) no_queue other)
+    ]
+others law m o lane prev cpu w n a = refl
+
+-- ---- what holds of each front
+-- the last `use` of the lane
+pub record HasUse (lane : ℕ) (pre : List Entry) (m : Machine) (u : UseKey) : Type 0 where
+  pub last : last_use lane pre ≡ Some (record { version = u.version; kind = u.kind; cpu = u.cpu })
+  pub published : IsPublished m.versions u
+
+pub record InTurn (lane : ℕ) (pre : List Entry) (m : Machine) (f : Form) (o : OutCause) (k : Key) : Type 0 where
+  pub row : k.row ≡ last_row lane pre
+  pub used : turning f o ≡ true → HasUse lane pre m k.taken_up
+  pub open_ : opens f o ≡ true → HasTurn lane m.header k.taken_up f k (part_at m k.taken_up.cpu)
+
+abbrev pub InTurnAt : ℕ → List Entry → Machine → Course → Type 0
+InTurnAt lane pre m c = InTurn lane pre m c.form (cause_of c) (key_of c)
+
+pub record Turning (pre : List Entry) (m : Machine) : Type 0 where
+  pub each : (lane : ℕ) → InTurnAt lane pre m (course_at m.courses lane)
+  pub fits : (cpu : ℕ) → Fits m.header m.versions cpu (part_at m cpu)
+
+-- ---- one turn at a queue
+lane_of : (a b : OpenTurn) → Some a ≡ Some b → a.lane ≡ b.lane
+lane_of a b e = let k : a ≡ b = cc in ap (λ (t : OpenTurn). t.lane) k
+
+own_at : (m : Machine) (o : Owner) (lane prev : ℕ) (w : What) → MayBeAdded m (entry o lane prev w) → turns w ≡ true → o ≡ Queue (course_at m.courses lane).cpu
+own_at m o lane prev w a t = let c = course_at m.courses lane in let lets = form_lets m (entry o lane prev w) a in own_turn c.form m.header c (sight m (entry o lane prev w)).queue lane o w t lets.0 lets.1
+
+-- a close and an end are drawn by the lane whose turn is open
+by_opener : (m : Machine) (pre : List Entry) (o : Owner) (l prev lane cpu : ℕ) (w : What) → Turning pre m → MayBeAdded m (entry o l prev w) → turns w ≡ true → is_open (course_at m.courses l) ≡ true → o ≡ Queue cpu →
+    (k : Kind) (ps : Mask) → (part_at m cpu).opened ≡ Some (record { lane = lane; kind = k; positions = ps }) → l ≡ lane
+by_opener m pre o l prev lane cpu w held a t z own k ps e =
+    let c = course_at m.courses l in
+    let same : c.cpu ≡ cpu = let y : Queue c.cpu ≡ Queue cpu = sym (own_at m o l prev w a t) ∙ own in cc in
+    lane_of _ _ (sym ((held.each l).open_ z).there.opened ∙ ap (λ (u : ℕ). (part_at m u).opened) same ∙ e)
+
+alone : (m : Machine) (pre : List Entry) (o : Owner) (l prev lane cpu : ℕ) (w : What) → Turning pre m → MayBeAdded m (entry o l prev w) → turns w ≡ true → o ≡ Queue cpu →
+    (k : Kind) (ps : Mask) → (part_at m cpu).opened ≡ Some (record { lane = lane; kind = k; positions = ps }) → l ≡ lane
+alone m pre o l prev lane cpu (Turn ps') held a t own k ps e =
+    let at = mine m o l prev cpu (Turn ps') own a in
+    clash (is_some (sight m (entry o l prev (Turn ps'))).queue.open_turn) (ap (λ (q : QueueState). is_some q.open_turn) at.was ∙ ap (λ (x : Option OpenTurn). is_some x) e) (unbroken_here m (entry o l prev (Turn ps')) a ReplyRule)
+alone m pre o l prev lane cpu (Close p w i n) held a t own k ps e =
+    let c = course_at m.courses l in
+    by_opener m pre o l prev lane cpu (Close p w i n) held a t (close_works c.form m.header c _ l p w i n (cause_of c) (form_lets m (entry o l prev (Close p w i n)) a).1).0 own k ps e
+alone m pre o l prev lane cpu Over held a t own k ps e =
+    let c = course_at m.courses l in
+    by_opener m pre o l prev lane cpu Over held a t (over_opens c.form m.header c _ l (cause_of c) (form_lets m (entry o l prev Over) a).1) own k ps e
+alone m pre o l prev lane cpu w held a t own k ps e = absurd (let y : ⊥ = cc in y)
+
+-- ---- one step of the queues
+fits_kept : CallsKeepRest → (m : Machine) (o : Owner) (lane prev : ℕ) (w : What) (pre : List Entry) → MayBeAdded m (entry o lane prev w) → Turning pre m → (cpu : ℕ) → Fits m.header m.versions cpu (part_at (after m (entry o lane prev w)) cpu)
+unfolding sight
+fits_kept law m o lane prev w pre a held cpu = by_turns (turns w) refl
+  where
+    e : Entry
+    e = entry o lane prev w
+
+    c : Course
+    c = course_at m.courses lane
+
+    still_fits : (o ≡ Queue cpu → turns w ≡ false) → Fits m.header m.versions cpu (part_at (after m e) cpu)
+    still_fits n = subst (Fits m.header m.versions cpu) (sym (others law m o lane prev cpu w n a)) (held.fits cpu)
+
+    by_turns : (b : Bool) → turns w ≡ b → Fits m.header m.versions cpu (part_at (after m e) cpu)
+    by_turns false b = still_fits (λ _. b)
+    by_turns true b =
+        let own = own_at m o lane prev w a b in
+        let at = mine m o lane prev c.cpu w own a in
+        let was = sym (ap part_of at.was) in
+        let mine_fits = fits_after w (sight m e) lane m.versions b (form_lets m e a).1 (λ k. ((held.each lane).used k).published) (λ k. subst (Turned lane m.header (use_key c) c) was ((held.each lane).open_ k)) (subst (Fits m.header m.versions c.cpu) was (held.fits c.cpu)) in
+        elim (cases_eq cpu c.cpu) [
+          | inl same ↦ subst (λ (u : ℕ). Fits m.header m.versions u (part_at (after m e) u)) (sym same) (subst (Fits m.header m.versions c.cpu) (sym at.now) mine_fits)
+          | inr other ↦ still_fits (λ z. absurd (other (let y : Queue cpu ≡ Queue c.cpu = sym z ∙ own in cc)))
+        ]
+
+-- ---- one step of the lanes
+keeps_use : (lane : ℕ) (pre pre' : List Entry) (m m' : Machine) (u : UseKey) → last_use lane pre' ≡ last_use lane pre → Grows m.versions m'.versions → HasUse lane pre m u → HasUse lane pre' m' u
+keeps_use lane pre pre' m m' u l g h = record { last = l ∙ h.last; published = more_published m.versions m'.versions u g h.published }
+
 no_use : (w : What) (o : Option Use) → is_use w ≡ false → use_or w o ≡ o
 no_use (Adopt v kind cpu) o h = absurd (let y : ⊥ = cc in y)
 no_use w o h = refl
 
-drew_alike : (o : Owner) (n : ℕ) (c : Course) → IsAlike c (drew o n c)
-drew_alike (Queue cpu) n c = record { version = refl; kind = refl; cpu = refl; masks = refl }
-drew_alike Publisher n c = record { version = refl; kind = refl; cpu = refl; masks = refl }
-drew_alike (Lane l) n c = record { version = refl; kind = refl; cpu = refl; masks = refl }
+-- a lane that does not draw
+other_step : CallsKeepRest → (m : Machine) (o : Owner) (l prev lane : ℕ) (w : What) (pre : List Entry) → MayBeAdded m (entry o l prev w) → Turning pre m → (l ≡ lane → ⊥) → InTurnAt lane (pre ++ entry o l prev w ∷ []) (after m (entry o l prev w)) (course_at m.courses lane)
+unfolding after
+other_step law m o l prev lane w pre a held n = record {
+  row = it.row ∙ sym (other_said row_or lane (0, 0) pre e n);
+  used = λ k. keeps_use lane pre (pre ++ e ∷ []) m (after m e) (use_key c) (other_said use_or lane None pre e n) (versions_grow w (sight m e).course.command m.versions) (it.used k);
+  open_ = λ k. subst (Turned lane m.header (use_key c) c) (sym (others law m o l prev c.cpu w (λ own. by_turns (turns w) refl own k) a)) (it.open_ k);
+}
+  where
+    e : Entry
+    e = entry o l prev w
 
-drew_turn : (o : Owner) (n : ℕ) (c : Course) → in_turn (drew o n c) ≡ in_turn c
-drew_turn (Queue cpu) n c = refl
-drew_turn Publisher n c = refl
-drew_turn (Lane l) n c = refl
+    c : Course
+    c = course_at m.courses lane
 
-alike-trans : (a b c : Course) → IsAlike a b → IsAlike b c → IsAlike a c
-alike-trans a b c h k = record { version = k.version ∙ h.version; kind = k.kind ∙ h.kind; cpu = k.cpu ∙ h.cpu; masks = k.masks ∙ h.masks }
+    it : InTurnAt lane pre m c
+    it = held.each lane
 
-other_lane : (e : Entry) (lane : ℕ) (pre : List Entry) → (lane ≡ e.lane → ⊥) → last_use lane None (pre ++ e ∷ []) ≡ last_use lane None pre
-other_lane e lane pre n = let b = ne_eqb e.lane lane (λ h. n (sym h)) in last_use-snoc lane None pre e ∙ rw b refl
+    by_turns : (b : Bool) → turns w ≡ b → o ≡ Queue c.cpu → is_open c ≡ true → b ≡ false
+    by_turns false b own k = refl
+    by_turns true b own k = absurd (n (alone m pre o l prev lane c.cpu w held a b own _ _ (it.open_ k).there.opened))
 
-own_lane : (e : Entry) (pre : List Entry) → is_use e.what ≡ false → last_use e.lane None (pre ++ e ∷ []) ≡ last_use e.lane None pre
-own_lane e pre n = let b = eq-eqb e.lane e.lane refl in last_use-snoc e.lane None pre e ∙ (rw b (no_use e.what (last_use e.lane None pre) n))
+-- the lane that draws
+drew_stays : (o : Owner) (n : ℕ) (c : Course) (P : Form → OutCause → Key → Type 0) → P c.form (cause_of c) (key_of c) → P (drew o n c).form (cause_of (drew o n c)) (key_of (drew o n c))
+drew_stays (Queue u) n c P h = h
+drew_stays (Lane l) n c P h = h
+drew_stays Publisher n c P h = h
 
-taken_by : (o : Owner) (n lane : ℕ) (pre : List Entry) (m : Machine) (v : ℕ) (kind : Kind) (cpu : ℕ) (c : Course) → last_use lane None pre ≡ Some (record { version = v; kind = kind; cpu = cpu }) → 1 ≤ v → v ≤ length m.versions →
-    HasUse lane pre m (drew o n (record c { form = Used; version = v; masks = masks_at m v; kind = Some kind; cpu = cpu }))
-taken_by (Queue u) n lane pre m v kind cpu c l a b = record { last = l; from_first = a; published = b; masks = refl }
-taken_by Publisher n lane pre m v kind cpu c l a b = record { last = l; from_first = a; published = b; masks = refl }
-taken_by (Lane u) n lane pre m v kind cpu c l a b = record { last = l; from_first = a; published = b; masks = refl }
-
-use_taken : (m : Machine) (o : Owner) (lane prev v : ℕ) (kind : Kind) (cpu : ℕ) (pre : List Entry) → (let e : Entry = record { owner = o; lane = lane; prev = prev; what = Adopt v kind cpu } in MayBeAdded m e) →
-    (let e : Entry = record { owner = o; lane = lane; prev = prev; what = Adopt v kind cpu } in HasUse lane (pre ++ e ∷ []) (after m e) (course_after (sight m e) e))
-unfolding sight course_after after
-use_taken m o lane prev v kind cpu pre h =
-    let e : Entry = record { owner = o; lane = lane; prev = prev; what = Adopt v kind cpu } in
-    let b = eq-eqb lane lane refl in
+taken_up : (m : Machine) (o : Owner) (lane prev v : ℕ) (kind : Kind) (cpu : ℕ) (pre : List Entry) → MayBeAdded m (entry o lane prev (Adopt v kind cpu)) →
+    HasUse lane (pre ++ entry o lane prev (Adopt v kind cpu) ∷ []) (after m (entry o lane prev (Adopt v kind cpu))) (record { version = v; kind = kind; cpu = cpu; masks = masks_at m v })
+unfolding sight after
+taken_up m o lane prev v kind cpu pre h =
+    let e = entry o lane prev (Adopt v kind cpu) in
     let low = ltb-false v (max (course_at m.courses lane).named_version 1) (unbroken_here m e h Version) in
     let high = ltb-false (length m.versions) v (unbroken_elsewhere m e h Version) in
-    taken_by o ((sight m e).count + 1) lane (pre ++ e ∷ []) (after m e) v kind cpu (record (course_at m.courses lane) { named_version = v }) (last_use-snoc lane None pre e ∙ rw b refl) (let x = low in omega arith) high
+    record { last = own_said use_or lane None pre e refl; published = record { from = omega arith; to = high; masks = refl } }
 
-adopted : (m : Machine) (o : Owner) (lane prev : ℕ) (w : What) (pre : List Entry) → is_use w ≡ true → (let e : Entry = record { owner = o; lane = lane; prev = prev; what = w } in MayBeAdded m e) →
-    (let e : Entry = record { owner = o; lane = lane; prev = prev; what = w } in HasUse lane (pre ++ e ∷ []) (after m e) (course_after (sight m e) e))
-adopted m o lane prev (Adopt v kind cpu) pre u h = use_taken m o lane prev v kind cpu pre h
-adopted m o lane prev w pre u h = absurd (let y : ⊥ = cc in y)
-
--- the course of the entry's lane
-own_step : (m : Machine) (e : Entry) (pre : List Entry) (b : Bool) → is_use e.what ≡ b → MayBeAdded m e → Turning pre m → in_turn (course_after (sight m e) e) ≡ true → HasUse e.lane (pre ++ e ∷ []) (after m e) (course_after (sight m e) e)
-unfolding sight course_after after
-own_step m e pre true u h t k = adopted m e.owner e.lane e.prev e.what pre u h
-own_step m e pre false u h t k =
-    let s = sight m e in
-    let now = queue_after s e in
-    let c' = course_by e.what s (cpu_of e.owner) now in
-    let stays = by_stays e.what s e.lane (cpu_of e.owner) now (form_lets m e h).1 u (sym (drew_turn e.owner (s.count + 1) c') ∙ k) in
-    keeps_use e.lane pre (pre ++ e ∷ []) m (after m e) s.course (drew e.owner (s.count + 1) c') (own_lane e pre u) (versions_grow e.what s.course.command m.versions)
-    (alike-trans s.course c' (drew e.owner (s.count + 1) c') stays.alike (drew_alike e.owner (s.count + 1) c')) (t.each e.lane stays.was)
-
-pub turning_step : (m : Machine) (e : Entry) (pre : List Entry) → MayBeAdded m e → Turning pre m → Turning (pre ++ e ∷ []) (after m e)
-unfolding after
-turning_step m e pre h t = record {
-  each = λ lane k. elim (cases_eq lane e.lane) [
-    | inl same ↦
-        let at : course_at (after m e).courses lane ≡ course_after (sight m e) e = ap (course_at (after m e).courses) same ∙ get_or-set_same m.courses e.lane (course_after (sight m e) e) no_course (lane_there m e h) in
-        let k' : in_turn (course_after (sight m e) e) ≡ true = ap in_turn (sym at) ∙ k in
-        let u = own_step m e pre (is_use e.what) refl h t k' in
-        rw (at, same) u
-    | inr other ↦
-        let at : course_at (after m e).courses lane ≡ course_at m.courses lane = get_or-set_other m.courses e.lane lane (course_after (sight m e) e) no_course other in
-        let k' : in_turn (course_at m.courses lane) ≡ true = ap in_turn (sym at) ∙ k in
-        let c = course_at m.courses lane in
-        let u = keeps_use lane pre (pre ++ e ∷ []) m (after m e) c c (other_lane e lane pre other) (versions_grow e.what (sight m e).course.command m.versions) (record { version = refl; kind = refl; cpu = refl; masks = refl }) (t.each lane k') in
-        rw at u
-  ];
+own_kept : TurnLaws → (m : Machine) (o : Owner) (lane prev : ℕ) (w : What) (pre : List Entry) → MayBeAdded m (entry o lane prev w) → Turning pre m → is_use w ≡ false →
+    (let e = entry o lane prev w in InTurnAt lane (pre ++ e ∷ []) (after m e) (course_by w (sight m e) (cpu_of o) (queue_after (sight m e) e)))
+unfolding after sight
+own_kept law m o lane prev w pre a held n = record {
+  row = row_by w (sight m e) (cpu_of o) (queue_after (sight m e) e) ∙ ap (row_or w) it.row ∙ sym (own_said row_or lane (0, 0) pre e refl);
+  used = λ k.
+      let st = kept k in
+      let l = own_said use_or lane None pre e refl ∙ no_use w (last_use lane pre) n in
+      subst (HasUse lane (pre ++ e ∷ []) (after m e)) (sym st.now.at) (keeps_use lane pre (pre ++ e ∷ []) m (after m e) (use_key c) l (versions_grow w c.command m.versions) (it.used st.was));
+  open_ = λ k. let st = kept (in_turn_from c' k) in subst (λ (u : UseKey). Turned lane m.header u c' (part_at (after m e) u.cpu)) (sym st.now.at) st.now;
 }
+  where
+    e : Entry
+    e = entry o lane prev w
+
+    c : Course
+    c = course_at m.courses lane
+
+    c' : Course
+    c' = course_by w (sight m e) (cpu_of o) (queue_after (sight m e) e)
+
+    it : InTurnAt lane pre m c
+    it = held.each lane
+
+    ps : Parts w (sight m e) lane (part_at m c.cpu) (part_at (after m e) c.cpu)
+    ps = record {
+      quiet = λ z. others law.rest m o lane prev c.cpu w (λ _. z) a;
+      was = λ t. ap part_of (mine m o lane prev c.cpu w (own_at m o lane prev w a t) a).was;
+      now = λ t. sym (mine m o lane prev c.cpu w (own_at m o lane prev w a t) a).now;
+    }
+
+    kept : in_turn c' ≡ true → Stays lane m.header c c' (part_at (after m e) c.cpu)
+    kept k = stays law.order w (sight m e) lane (cpu_of o) (queue_after (sight m e) e) m.versions (part_at m c.cpu) (part_at (after m e) c.cpu) (form_lets m e a).1 (unbroken_here m e a CountersRule) ps (held.fits c.cpu) (λ z. (it.used z).published) it.open_ n k
+
+own_step : TurnLaws → (m : Machine) (o : Owner) (lane prev : ℕ) (w : What) (pre : List Entry) → MayBeAdded m (entry o lane prev w) → Turning pre m →
+    (let e = entry o lane prev w in InTurnAt lane (pre ++ e ∷ []) (after m e) (course_by w (sight m e) (cpu_of o) (queue_after (sight m e) e)))
+unfolding sight
+own_step law m o lane prev (Adopt v kind cpu) pre a held = record { row = (held.each lane).row ∙ sym (own_said row_or lane (0, 0) pre (entry o lane prev (Adopt v kind cpu)) refl); used = λ k. taken_up m o lane prev v kind cpu pre a; open_ = λ k. absurd (let y : ⊥ = cc in y) }
+own_step law m o lane prev w pre a held = own_kept law m o lane prev w pre a held refl
+
+turning_step : TurnLaws → (m : Machine) (e : Entry) (pre : List Entry) → MayBeAdded m e → Turning pre m → Turning (pre ++ e ∷ []) (after m e)
+unfolding after course_after
+turning_step law m e pre a held = record {
+  each = λ lane. elim (cases_eq e.lane lane) [
+    | inl same ↦
+        let at : course_at (after m e).courses e.lane ≡ course_after (sight m e) e = get_or-set_same m.courses e.lane (course_after (sight m e) e) no_course (lane_there m e a) in
+        let made = course_by e.what (sight m e) (cpu_of e.owner) (queue_after (sight m e) e) in
+        let r = drew_stays e.owner ((sight m e).count + 1) made (InTurn e.lane (pre ++ e ∷ []) (after m e)) (own_step law m e.owner e.lane e.prev e.what pre a held) in
+        subst (λ (l : ℕ). InTurnAt l (pre ++ e ∷ []) (after m e) (course_at (after m e).courses l)) same (subst (InTurnAt e.lane (pre ++ e ∷ []) (after m e)) (sym at) r)
+    | inr other ↦
+        let at : course_at (after m e).courses lane ≡ course_at m.courses lane = get_or-set_other m.courses e.lane lane (course_after (sight m e) e) no_course (λ z. other (sym z)) in
+        subst (InTurnAt lane (pre ++ e ∷ []) (after m e)) (sym at) (other_step law.rest m e.owner e.lane e.prev lane e.what pre a held other)
+  ];
+  fits = λ cpu. more_fits m.header m.versions (after m e).versions cpu (part_at (after m e) cpu) (versions_grow e.what (sight m e).course.command m.versions) (fits_kept law.rest m e.owner e.lane e.prev e.what pre a held cpu);
+}
+
+-- ---- the opening state
+rest_shut : {A : Type 0} (f : Form) (o : OutCause) → is_rest f ≡ true → turning f o ≡ true → A
+rest_shut Rest o r k = absurd (let y : ⊥ = cc in y)
+rest_shut f o r k = absurd (let y : ⊥ = cc in y)
+
+opening_part : (h : Header) (cpu : ℕ) → part_at (start h) cpu ≡ record { version = 1; counters = None; opened = None }
+unfolding opening_queue
+opening_part h cpu = elim (opening_at h cpu) [ inl a ↦ ap part_of a.0 | inr b ↦ ap part_of b.0 ]
+
+turning_start : (h : Header) → Turning [] (start h)
+unfolding start
+turning_start h = record {
+  each = λ lane. let c = course_at (start h).courses lane in record {
+    row = elim (opens_so h lane) [ inl x ↦ ap row_part x | inr z ↦ ap row_part z ];
+    used = λ k. rest_shut c.form (cause_of c) (opening_rests h lane) k;
+    open_ = λ k. rest_shut c.form (cause_of c) (opening_rests h lane) (in_turn_from c k);
+  };
+  fits = λ cpu. subst (Fits h (h.parts ∷ []) cpu) (sym (opening_part h cpu)) (record { from = omega arith; to = omega arith; many = tt; below = tt });
+}
+
+-- ---- every front
+pub turning_at : TurnLaws → (h : Header) (es : List Entry) → MayFollow es (start h) → Turning es (run es (start h))
+turning_at law h es l = front_holds Turning (λ pre m e a k. turning_step law m e pre a k) es [] (start h) l (turning_start h)
+
+-- ---- the law that counters fit
+some_many : (o : Option (List Counters)) (n : ℕ) → AreMany o n → IfSome o (λ cs. length cs ≡ n)
+some_many None n h = tt
+some_many (Some cs) n h = h
+
+pub run-header : (es : List Entry) (m : Machine) → (run es m).header ≡ m.header
+unfolding after
+run-header [] m = refl
+run-header (e ∷ es) m = run-header es (after m e)
+
+pub turns_fit_always : TurnLaws → TurnsFitAlways
+turns_fit_always law h es cpu legal =
+    let m = run es (start h) in
+    let q = queue_at m.queues cpu in
+    let f = (turning_at law h es legal).fits cpu in
+    record { from_first = f.from; published = f.to; counters = some_many q.counters _ f.many; turn = f.below }

@@ -1,4 +1,4 @@
--- An entry that may be added breaks no rule.
+-- An entry that may be added breaks no rule. For callers too: so rule by rule, here and elsewhere.
 use Rattle.std.proofs.Common.{◌≡◌, Bool, true, false, cond, Option, Some, None, refl}
 use Rattle.std.proofs.lemmas.Bool.{or_parts}
 use Rattle.lb_core.specs.declared.rule.Rule.{Rule}

@@ -155,6 +155,7 @@ abbrev pub env_of : Header → Course → Option Env
 env_of h c = env_by h c c.decision
 
 -- ---- the last take
+-- it examined something, and all of that was pinned
 abbrev pub is_all_pinned : Option Taken → Bool
 is_all_pinned None = false
 is_all_pinned (Some t) = t.all_pinned
@@ -163,7 +164,8 @@ is_all_pinned (Some t) = t.all_pinned
 abbrev pub others_left : Header → Course → Mask
 others_left h c = without (without (turn_domain h c).shape.span c.excluded) (group_at (turn_domain h c).groups 0)
 
--- a further look is due after a take that was all pinned
+-- a further look is due where the take examined something, all of that was pinned, and one of these CPUs
+-- is left
 abbrev pub looks_again : Header → Course → Bool
 looks_again h c = is_all_pinned c.taken && not (is_empty (others_left h c))
 

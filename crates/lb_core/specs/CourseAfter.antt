@@ -94,6 +94,11 @@ abbrev pub is_push : OutCause → Bool
 is_push PushOut = true
 is_push cause = false
 
+-- what is kept of a take: a pull alone changes it
+abbrev pub last_take : {A : Type 0} → OutCause → A → A → A
+last_take PullOut now earlier = now
+last_take cause now earlier = earlier
+
 abbrev pub takes_off : Option Leaving → Course → Course
 takes_off None c = c
 takes_off (Some l) c =
@@ -103,8 +108,8 @@ takes_off (Some l) c =
       to = l.to;
       moment = l.rest.clock;
       hand = l.hand;
-      took = length l.hand;
-      taken = l.taken;
+      took = last_take l.cause (length l.hand) c.took;
+      taken = last_take l.cause l.taken c.taken;
       pushed = c.pushed || is_push l.cause;
     }
 
@@ -114,7 +119,7 @@ excluding c = if is_all_pinned c.taken then either c.excluded (only (source_of c
 
 abbrev pub lands : OutCause → Course → Course
 lands PullOut c = record (lets_go c) { form = LandedForm; excluded = excluding c }
-lands cause c = if is_tick c.command then record (lets_go c) { form = Serving; took = 0 } else rests c
+lands cause c = if is_tick c.command then record (lets_go c) { form = Serving } else rests c
 
 -- ---- looks and scans
 -- the named numbers are the greatest now

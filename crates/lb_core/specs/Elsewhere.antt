@@ -1,6 +1,7 @@
 -- Which rules an entry breaks by the rest of the machine: what its own step does not read. These are
--- the lane's last ticket, what is declared, the other lanes and queues, the place of a task, and
--- whether a version or a figure was published.
+-- the lane's last ticket, what is declared, the other lanes and queues, the place of a task, whether a
+-- version or a figure was published, the requests that are pending at queues which do not own the entry,
+-- and whether a stop was served at rest or the end was drawn.
 use Rattle.std.specs.Prelude.{ℕ, ◌==◌, nat_lt, Bool, true, false, not, ◌&&◌, ◌||◌, Option, Some, None, is_some, length, find}
 use Rattle.std.specs.List.{slice_index_or, range_with_len, list_any, list_all}
 use Rattle.lb_base.specs.declared.mask.Mask.{Mask}

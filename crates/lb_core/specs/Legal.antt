@@ -1,6 +1,8 @@
 -- When a list of entries is a legal front or a legal history, and the first fault of a list that is
--- none. A history is legal where each entry may be added to the state that those before it leave, and
--- the last one is the end.
+-- none. A front is legal where each entry may be added to the state that those before it leave. It is a
+-- legal history where the end was drawn, as the machine's flag `ended` says; nothing may be added then,
+-- so the end is the last entry. Whether what an entry says is in range is not asked here: `Ranges` says
+-- it.
 use Rattle.std.specs.Prelude.{ℕ, ◌+◌, ◌≡◌, Bool, true, false, Option, Some, None, List, [], ◌∷◌}
 use Rattle.lb_trace.specs.declared.trace.Header.{Header}
 use Rattle.lb_core.specs.declared.entry.Entry.{Entry}

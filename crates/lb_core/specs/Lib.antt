@@ -15,4 +15,10 @@ pub mod Placed
 pub mod Permitted
 pub mod Choices
 pub mod OfTrace
+pub mod Serial
+pub mod LaneEntries
+pub mod Replies
 pub mod Passes
+pub mod TurnCounters
+pub mod OpenTurns
+pub mod Ranges

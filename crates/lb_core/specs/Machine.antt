@@ -65,7 +65,7 @@ figures_at figures cpu = slice_index_or figures cpu []
 abbrev pub entries_at : Machine → ℕ → ℕ
 entries_at m cpu = length (figures_at m.figures cpu) - 1
 
--- the place of a task; that of an undeclared one is no place of any other
+-- the place of a task; for an undeclared one the hand of no declared lane
 abbrev pub place_at : Machine → ℕ → Place
 place_at m t = slice_index_or m.places t (HandOf (length m.courses))
 

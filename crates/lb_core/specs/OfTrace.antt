@@ -1,6 +1,6 @@
 -- When a history is one of a trace: it is legal, has the trace's header, and holds each lane's rows
--- once, in file order, with the lane's next entry as the reply to each.
-use Rattle.std.specs.Prelude.{ℕ, ◌≡◌, ◌==◌, if◌then◌else◌, Option, Some, None, List, [], ◌∷◌, ◌++◌, filter}
+-- once, in file order.
+use Rattle.std.specs.Prelude.{ℕ, ◌≡◌, ◌==◌, List, [], ◌∷◌, ◌++◌, filter}
 use Rattle.lb_trace.specs.declared.trace.Row.{Row}
 use Rattle.lb_trace.specs.declared.trace.Trace.{Trace}
 use Rattle.lb_core.specs.declared.entry.Entry.{Entry}
@@ -28,18 +28,3 @@ pub record IsHistoryOf (t : Trace) (history : History) : Type 0 where
   pub header : history.header ≡ t.header
   pub legal : IsLegalHistory history.header history.entries
   pub rows : (lane : ℕ) → of_lane lane (rows_drawn history.entries) ≡ of_lane lane t.rows
-
--- ---- replies
--- the next entry of a lane
-abbrev pub next_of : ℕ → List Entry → Option Entry
-next_of lane [] = None
-next_of lane (e ∷ es) = if e.lane == lane then Some e else next_of lane es
-
-abbrev pub reply_to : What → ℕ → List Entry → List (Option Entry)
-reply_to (RowEntry n at command) lane later = next_of lane later ∷ []
-reply_to w lane later = []
-
--- the reply to each row, in the order of the rows' tickets
-abbrev pub replies : List Entry → List (Option Entry)
-replies [] = []
-replies (e ∷ es) = reply_to e.what e.lane es ++ replies es

@@ -13,17 +13,19 @@ pub enum Rule {
     Prev,
     /// The lane may draw this kind of entry with this owner now.
     Stage,
-    /// A row has the next number, and names what is declared.
+    /// A row has the next number and names what is declared; the masks of a rebuild share no CPU; and
+    /// no other lane ticked the CPU that a row ticks.
     Row,
     /// The queue that answers a task's command is the one where the task is.
     Place,
     /// A reply, a refusal of a turn or a published version is what the state says.
     Reply,
-    /// A named version was published, and none before it is named later.
+    /// A `use` names a published version, and none below the greatest that this lane used or published.
     Version,
     /// The named figures are those of the right CPUs, published and not too old.
     Figure,
-    /// A decision or a target is that of the named figures.
+    /// A look is at the position in work, without the CPUs that are excluded there, and its decision is
+    /// that of the named figures; so is the target of a scan; a close is of the position in work.
     Decision,
     /// The tasks that leave a queue are those that the rules pick.
     Pick,
@@ -31,7 +33,8 @@ pub enum Rule {
     Flight,
     /// Positions, outcomes, intervals and failures are those of the counters.
     Counters,
-    /// No stop request that is owed is passed over.
+    /// No stop request is owed at the CPU of a tick, or of a tick's `use`; and at the end none is
+    /// pending anywhere.
     Owed,
     /// The end names the unserved requests, and nothing follows it.
     End,
