@@ -2,7 +2,7 @@
 use Rattle.std.specs.Prelude.{◌≡◌, None, refl}
 use Rattle.lb_base.specs.Mask.{has, members_below, members, first_cpus, only, both, either, without}
 use Rattle.lb_base.specs.Sets.{least, least_above, is_below, are_apart, mask_where}
-use Rattle.lb_base.specs.Figures.{total}
+use Rattle.lb_base.specs.Figures.{total, is_tickless}
 use Rattle.lb_base.specs.Greatest.{is_first_greatest, first_greatest}
 use Rattle.lb_base.specs.Weight.{weights, weight_of}
 use Rattle.lb_pelt.specs.Decay.{inverses, inverse_at, decayed}
@@ -11,7 +11,7 @@ use Rattle.lb_interval.specs.After.{counters_after}
 use Rattle.lb_detach.specs.Rules.{refuses}
 use Rattle.lb_detach.specs.Picks.{task_at, left_before, refused_at, taken, refused, free, ends, examined, ids_at, picked_ids, kept_ids}
 use Rattle.lb_newidle.specs.Budget.{average_after}
-use Rattle.lb_nohz.specs.Kick.{is_tickless, tickless_cpus}
+use Rattle.lb_nohz.specs.Kick.{tickless_cpus}
 use Rattle.lb_stats.specs.Statistics.{idle_count, any_marked, stats_of}
 use Rattle.lb_busiest.specs.Ranking.{is_busier, may_be_busiest, is_busier_at, busiest_of}
 use Rattle.lb_busiest.specs.Sources.{may_be_source, has_more, source_of}
