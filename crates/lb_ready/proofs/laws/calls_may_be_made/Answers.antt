@@ -1,0 +1,13 @@
+use Rattle.lb_ready.proofs.Keeping.{DomainLaws}
+use Rattle.lb_ready.proofs.Calls.{calls_may_be_made, looks_may_be_decided, stops_may_be_taken}
+use Rattle.lb_ready.proofs.laws.calls_may_be_made.Goals as goal
+
+pub returns : goal.returns
+returns c =
+    let laws : DomainLaws = record {
+      few = c.domains_are_few.ensures.most;
+      order = c.domains_stand_in_order.ensures;
+      inside = c.spans_lie_inside.ensures;
+      part = c.groups_part_the_span.ensures;
+    } in
+    record { calls = calls_may_be_made laws; looks = looks_may_be_decided laws; stops = stops_may_be_taken c.next_stops.ensures.taken }

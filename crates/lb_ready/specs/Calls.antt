@@ -1,0 +1,94 @@
+-- What the call that an entry stands for asks, with the values that the course of its lane fixes: of the
+-- queue that draws the entry, of a decision, and of the search for the target of a kick.
+use Rattle.std.specs.Prelude.{◌≡◌, ℕ, pos, negsuc, ◌≤◌, ◌≤ℤ◌, true, false, Option, Some, None, IfSome, IsSome, Bool, All, length, find, is_some, ◌==◌, List}
+use Rattle.lb_base.specs.declared.mask.TheConstants.{MAX_CPUS}
+use Rattle.lb_base.specs.Mask.{has}
+use Rattle.lb_base.specs.Figures.{AllHaveFigures}
+use Rattle.lb_imbalance.specs.Conditions.{IsUnion, HaveSmallSums}
+use Rattle.lb_trace.specs.declared.trace.Command.{Command}
+use Rattle.lb_trace.specs.declared.trace.Command.TheVariants.{Wake, Nice, Tick}
+use Rattle.lb_queue.specs.declared.record.TaskRecord.{TaskRecord}
+use Rattle.lb_queue.specs.declared.answers.OutCause.{OutCause}
+use Rattle.lb_queue.specs.declared.answers.OutCause.TheVariants.{Wake as WakeOut, Push as PushOut}
+use Rattle.lb_queue.specs.Tasks.{ids, occurs}
+use Rattle.lb_queue.specs.Queue.{QueueState, away, knows}
+use Rattle.lb_queue.specs.Requests.{has_owed, next_stop}
+use Rattle.lb_queue.specs.Hands.{stop_to}
+use Rattle.lb_queue.specs.Turns.{AreInOrder, FitCounters, IsOpenAt}
+use Rattle.lb_core.specs.declared.course.Course.{Course}
+use Rattle.lb_core.specs.declared.entry.What.{What}
+use Rattle.lb_core.specs.declared.entry.What.TheVariants.{Look, Did, Out, Landed, Turn, Shut, Close, Over, Scan}
+use Rattle.lb_core.specs.declared.entry.CpuFig.{CpuFig}
+use Rattle.lb_core.specs.Course.{turn_domains, turn_domain, shapes_of, widest_span}
+use Rattle.lb_core.specs.Sight.{Sight, by_cpu}
+use Rattle.lb_core.specs.Leaving.{leaving}
+use Rattle.lb_ready.specs.Ready.{local_group}
+
+-- a wake is for a task that stays, a nice value is in range, and a tick passes no owed request over
+abbrev pub CommandAsks : Option Command → QueueState → Type 0
+CommandAsks (Some (Wake t)) q = away q t ≡ None
+CommandAsks (Some (Nice t nice)) q = (negsuc 19 ≤ℤ nice) × (nice ≤ℤ pos 19)
+CommandAsks (Some (Tick cpu)) q = has_owed q ≡ false
+CommandAsks command q = Unit {0}
+
+-- a task that wakes elsewhere has to, and a push goes where the active request goes
+abbrev pub LeavingAsks : OutCause → Option Command → ℕ → QueueState → Type 0
+LeavingAsks WakeOut (Some (Wake t)) to q = away q t ≡ Some to
+LeavingAsks PushOut command to q = q.active ≡ Some to
+LeavingAsks cause command to q = Unit {0}
+
+-- the tasks of the hand come to this queue, each once; they may run there, and it does not know them
+pub record LandingAsks (c : Course) (q : QueueState) : Type 0 where
+  pub to : c.to ≡ q.cpu
+  pub differ : (id : ℕ) → occurs id (ids c.hand) ≤ 1
+  pub unknown : All (λ (t : TaskRecord). knows q t.id ≡ false) c.hand
+  pub permitted : All (λ (t : TaskRecord). has t.mask q.cpu ≡ true) c.hand
+
+-- the domains of a turn are few, stand in order, and fit the counters
+pub record TurnAsks (s : Sight) : Type 0 where
+  pub few : length (shapes_of (turn_domains s.header s.course)) ≤ 20
+  pub in_order : AreInOrder (shapes_of (turn_domains s.header s.course))
+  pub fit : FitCounters s.queue s.course.version (shapes_of (turn_domains s.header s.course))
+
+-- by the kind of the entry
+abbrev pub QueueAsks : What → Sight → Type 0
+QueueAsks (Did r) s = CommandAsks s.course.command s.queue
+QueueAsks (Out cause to tasks) s = IfSome (leaving s) (λ l. LeavingAsks l.cause s.course.command l.to s.queue)
+QueueAsks (Landed tasks) s = LandingAsks s.course s.queue
+QueueAsks (Turn ps) s = TurnAsks s
+QueueAsks Shut s = TurnAsks s
+QueueAsks (Close p w i f) s = IsOpenAt s.queue.open_turn (turn_domain s.header s.course).shape.position
+QueueAsks Over s = IsSome s.queue.open_turn
+QueueAsks w s = Unit {0}
+
+-- the next stop of a queue is that of a task that is asked to leave
+abbrev pub StopAsks : QueueState → Type 0
+StopAsks q = (owed : Bool) → IfSome (next_stop q owed) (λ s. stop_to q s.id ≡ Some s.to)
+
+-- ---- decisions
+-- the entry names a figure of the CPU
+abbrev pub IsNamed : List CpuFig → ℕ → Type 0
+IsNamed figures k = is_some (find (λ f. f.cpu == k) figures) ≡ true
+
+-- the groups of the domain are few and make up its span; the first has the CPU, and none of its CPUs
+-- is excluded; each CPU of the span has a figure, of those that are not excluded a named one, and the
+-- sums of the figures are small
+pub record DecideAsks (s : Sight) : Type 0 where
+  pub count : length (turn_domain s.header s.course).groups ≤ MAX_CPUS
+  pub union : IsUnion (turn_domain s.header s.course).shape.span (turn_domain s.header s.course).groups
+  pub local : has (local_group s.header s.course) s.course.cpu ≡ true
+  pub kept : (k : ℕ) → has (local_group s.header s.course) k ≡ true → has s.course.excluded k ≡ false
+  pub figures : AllHaveFigures (by_cpu s.figs) (turn_domain s.header s.course).shape.span
+  pub named : (k : ℕ) → has (turn_domain s.header s.course).shape.span k ≡ true → has s.course.excluded k ≡ false → IsNamed s.figs k
+  pub sums : HaveSmallSums (by_cpu s.figs) s.course.excluded (turn_domain s.header s.course).groups
+
+-- each CPU of the span that is scanned has a named figure
+pub record ScanAsks (s : Sight) : Type 0 where
+  pub figures : AllHaveFigures (by_cpu s.figs) (widest_span s.header s.course)
+  pub named : (k : ℕ) → has (widest_span s.header s.course) k ≡ true → IsNamed s.figs k
+
+-- what is asked of a decision, and of the search for a target
+abbrev pub LookAsks : What → Sight → Type 0
+LookAsks (Look p x names d) s = DecideAsks s
+LookAsks (Scan names t) s = ScanAsks s
+LookAsks w s = Unit {0}

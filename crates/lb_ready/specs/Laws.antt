@@ -1,0 +1,102 @@
+-- Laws of the machine: what its states keep, how many entries are left, that a serial run always has
+-- a next entry, and that every accepted trace has a serial history.
+use Rattle.std.specs.Prelude.{length, ◌≡◌, ℕ, ◌+◌, ◌<◌, Bool, true, false, [], ◌*◌, ◌^◌, ◌≤◌}
+use Rattle.std.specs.List.{slice_index_or, list_all}
+use Rattle.lb_trace.specs.declared.trace.Header.{Header}
+use Rattle.lb_trace.specs.declared.trace.Row.{Row}
+use Rattle.lb_trace.specs.declared.trace.Trace.{Trace}
+use Rattle.lb_trace.specs.Accepted.{is_row, IsHeader, IsTrace}
+use Rattle.lb_core.specs.declared.entry.Entry.{Entry}
+use Rattle.lb_core.specs.declared.entry.Owner.TheVariants.{Lane}
+use Rattle.lb_core.specs.declared.entry.What.TheVariants.{Row as RowEntry}
+use Rattle.lb_core.specs.declared.history.History.{History}
+use Rattle.lb_core.specs.declared.entry.What.{What}
+use Rattle.lb_core.specs.Elsewhere.{is_rest, ticked_elsewhere}
+use Rattle.lb_core.specs.Machine.{Machine, queue_at, course_at, start, sight}
+use Rattle.lb_core.specs.Step.{after, ended_after}
+use Rattle.lb_core.specs.Legal.{MayBeAdded}
+use Rattle.lb_core.specs.OfTrace.{row_of, IsHistoryOf}
+use Rattle.lb_core.specs.Serial.{is_serial, IsSerialHistory}
+use Rattle.lb_ready.specs.Ready.{is_in_range, IsReady}
+use Rattle.lb_ready.specs.Calls.{QueueAsks, LookAsks, StopAsks}
+use Rattle.lb_ready.specs.Left.{rows_before, entries_left, row_work}
+use Rattle.lb_core.specs.Ranges.{what_fits, entry_fits, entries_fit}
+
+-- the opening machine of an accepted header is ready
+abbrev pub OpensReady : Type 0
+OpensReady = (h : Header) → IsHeader h → IsReady (start h)
+
+-- an entry that may be added, and is in range, keeps the machine ready
+abbrev pub StaysReady : Type 0
+StaysReady = (m : Machine) (e : Entry) → IsReady m → MayBeAdded m e → is_in_range e.what ≡ true → IsReady (after m e)
+
+-- what is in the ranges of its text is in the range that a machine asks for
+abbrev pub ReadsInRange : Type 0
+ReadsInRange = (w : What) → what_fits w ≡ true → is_in_range w ≡ true
+
+-- every entry that may be added lowers the number of entries that are left
+abbrev pub EntriesFall : Type 0
+EntriesFall = (m : Machine) (e : Entry) (rows : ℕ) → IsReady m → MayBeAdded m e → entries_left rows (after m e) < entries_left (rows_before e.what rows) m
+
+-- an entry that may be added to a ready machine meets what the calls of its queue ask
+abbrev pub CallsMayBeMade : Type 0
+CallsMayBeMade = (m : Machine) (e : Entry) → IsReady m → MayBeAdded m e → QueueAsks e.what (sight m e)
+
+-- and a look what a decision asks, a scan what the search for a target asks
+abbrev pub LooksMayBeDecided : Type 0
+LooksMayBeDecided = (m : Machine) (e : Entry) → IsReady m → MayBeAdded m e → LookAsks e.what (sight m e)
+
+abbrev pub StopsMayBeTaken : Type 0
+StopsMayBeTaken = (m : Machine) (cpu : ℕ) → IsReady m → cpu < length m.header.cpus → StopAsks (queue_at m.queues cpu)
+
+-- ---- a serial run is never stuck
+abbrev pub rests : Machine → ℕ → Bool
+rests m lane = is_rest (course_at m.courses lane).form
+
+-- every other lane is at rest
+abbrev pub OthersRest : Machine → ℕ → Type 0
+OthersRest m lane = (l : ℕ) → (l ≡ lane → ⊥) → rests m l ≡ true
+
+-- a serial entry of the lane may be added, and takes up no row
+pub record GoesOn (m : Machine) (lane : ℕ) : Type 0 where
+  pub entry : Entry
+  pub own : entry.lane ≡ lane
+  pub may : MayBeAdded m entry
+  pub serial : is_serial m entry.what ≡ true
+  pub rowless : (l : ℕ) → row_of entry.what l ≡ []
+  pub in_range : is_in_range entry.what ≡ true
+
+-- a lane that serves its row, while the others rest, goes on, and does not end the history
+abbrev pub ServiceGoesOn : Type 0
+ServiceGoesOn = (m : Machine) (lane : ℕ) → IsReady m → m.ended ≡ false → rests m lane ≡ false → OthersRest m lane → (g : GoesOn m lane) × (ended_after g.entry.what false ≡ false)
+
+-- where all rest and the closing has not begun, every row that is accepted may be taken up
+abbrev pub RowsAreTaken : Type 0
+RowsAreTaken =
+    (m : Machine) (row : Row) → IsReady m → m.ended ≡ false → m.closing ≡ false → ((l : ℕ) → rests m l ≡ true) → is_row m.header row ≡ true →
+    let c = course_at m.courses row.lane in
+    ticked_elsewhere m row.lane (RowEntry (c.rows + 1) row.at row.command) ≡ false →
+    let entry : Entry = record { owner = Lane row.lane; lane = row.lane; prev = slice_index_or m.last row.lane 0; what = RowEntry (c.rows + 1) row.at row.command } in
+    MayBeAdded m entry × (is_serial m entry.what ≡ true)
+
+-- where all rest, lane 0 goes on closing the history, up to its end
+abbrev pub ClosingGoesOn : Type 0
+ClosingGoesOn = (m : Machine) → IsReady m → m.ended ≡ false → ((l : ℕ) → rests m l ≡ true) → GoesOn m 0
+
+-- ---- serial histories
+abbrev pub TracesHaveRuns : Type 0
+TracesHaveRuns = (t : Trace) → IsTrace t → (history : History) × IsSerialHistory t history
+
+-- ---- histories
+-- a history of an accepted trace has at most 811,405 entries a row, and the end
+abbrev pub HistoriesEnd : Type 0
+HistoriesEnd = (t : Trace) (history : History) → IsTrace t → IsHistoryOf t history → length history.entries ≤ row_work * length t.rows + 1
+
+-- and each of them says what is in range
+abbrev pub EntriesFit : Type 0
+EntriesFit = (t : Trace) (history : History) → IsTrace t → IsHistoryOf t history → entries_fit history.entries ≡ true
+
+-- so does each entry that may be added to a ready machine of fewer than 2^40 tickets, where its row, if it
+-- takes one up, is accepted
+abbrev pub EntryFits : Type 0
+EntryFits = (m : Machine) (e : Entry) → IsReady m → m.ticket < 2 ^ 40 → MayBeAdded m e → list_all (is_row m.header) (row_of e.what e.lane) ≡ true → entry_fits (m.ticket + 1) e ≡ true

@@ -1,0 +1,4 @@
+pub mod Ready
+pub mod Left
+pub mod Calls
+pub mod Laws
