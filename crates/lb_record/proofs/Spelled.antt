@@ -1,4 +1,5 @@
--- Which bytes stand in the fields of an entry and in the lines of a header.
+-- Which bytes stand in the fields of an entry and in the lines of a header. What reads a history cites
+-- `runs_over`, `entry_over`, `line_over` and `header_over`.
 use Rattle.std.proofs.Common.{◌≡◌, ℕ, Option, Some, None, true, eqb, List, [], ◌∷◌, ◌++◌, map, refl, arith, inl, inr}
 use Rattle.std.specs.Prelude.{decimal, codes}
 use Rattle.std.specs.Fmt.{signed_decimal}
@@ -54,7 +55,7 @@ run_over run = elim (cases_Bool (eqb run.0 run.1)) [
   | inr e ↦ rw e (over_append 44 (decimal run.0) (45 ∷ decimal run.1) (decimal_over 44 run.0 (omega arith)) (over_cons 44 45 (decimal run.1) (omega arith) (decimal_over 44 run.1 (omega arith))))
 ]
 
-runs_over : (mask : Mask) → over 44 (runs_text mask) ≡ true
+pub runs_over : (mask : Mask) → over 44 (runs_text mask) ≡ true
 unfolding runs_text
 runs_over mask = between_over 44 59 (map run_text (runs_of (members mask))) (omega arith) (each_map 44 run_text (runs_of (members mask)) run_over)
 
@@ -157,10 +158,10 @@ what_over (whats.Kick reply) = (refl, (request_over reply, tt))
 what_over whats.Over = (refl, tt)
 what_over (whats.Pub version) = (refl, (number version, tt))
 
-entry_over : (ticket : ℕ) (entry : Entry) → EachOver 32 (entry_fields ticket entry)
+pub entry_over : (ticket : ℕ) (entry : Entry) → EachOver 32 (entry_fields ticket entry)
 entry_over ticket entry = (number ticket, (owner_over entry.owner entry.lane, (number entry.prev, what_over entry.what)))
 
-line_over : (ticket : ℕ) (entry : Entry) → over 31 (entry_line ticket entry) ≡ true
+pub line_over : (ticket : ℕ) (entry : Entry) → over 31 (entry_line ticket entry) ≡ true
 unfolding entry_line
 line_over ticket entry = joined_over 31 32 (entry_fields ticket entry) (omega arith) (each_weaker 31 32 (entry_fields ticket entry) (omega arith) (entry_over ticket entry))
 
@@ -196,7 +197,7 @@ unfolding task_line
 task_over id task =
     repeated_over (codes "task" ∷ decimal id ∷ signed_decimal task.nice ∷ decimal task.home ∷ runs_text task.mask ∷ []) (refl, (digits_over id, (signed_over 31 task.nice (omega arith), (digits_over task.home, (cpus_over task.mask, tt)))))
 
-header_over : (header : Header) → EachOver 31 (header_lines header)
+pub header_over : (header : Header) → EachOver 31 (header_lines header)
 unfolding header_lines
 header_over header =
     let cpus : EachOver 31 (codes "lbhist 1" ∷ numbered cpu_line 0 header.cpus) = (refl, each_numbered 31 cpu_line 0 header.cpus cpu_over) in

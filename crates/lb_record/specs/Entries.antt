@@ -2,6 +2,7 @@
 -- and the fields of that kind, with a space between each two.
 use Rattle.std.specs.Prelude.{ℕ, List, [], ◌∷◌, ◌++◌, map, codes, decimal}
 use Rattle.std.specs.Fmt.{signed_decimal}
+use Rattle.lb_text.specs.declared.marks.TheConstants.{SPACE}
 use Rattle.lb_text.specs.Runs.{list_text}
 use Rattle.lb_imbalance.specs.declared.decision.Decision.{Decision}
 use Rattle.lb_imbalance.specs.declared.decision.Decision.TheVariants as decisions
@@ -63,4 +64,4 @@ entry_fields ticket entry = decimal ticket ∷ owner_text entry.owner entry.lane
 
 -- its line
 unfoldable pub entry_line : ℕ → Entry → List ℕ
-entry_line ticket entry = joined 32 (entry_fields ticket entry)
+entry_line ticket entry = joined SPACE (entry_fields ticket entry)

@@ -5,6 +5,7 @@ use Rattle.std.specs.Prelude.{ℕ, List, [], ◌∷◌, ◌++◌, map, codes, de
 use Rattle.std.specs.Fmt.{signed_decimal}
 use Rattle.lb_base.specs.declared.mask.Mask.{Mask}
 use Rattle.lb_levels.specs.declared.cpu_row.CpuRow.{CpuRow}
+use Rattle.lb_text.specs.declared.marks.TheConstants.{COMMA}
 use Rattle.lb_text.specs.Runs.{runs_text}
 use Rattle.lb_trace.specs.declared.trace.TaskRow.{TaskRow}
 use Rattle.lb_trace.specs.declared.trace.Header.{Header}
@@ -12,7 +13,7 @@ use Rattle.lb_record.specs.Lines.{joined, lines_text, numbered}
 
 -- a line of a trace, as a history repeats it
 abbrev pub repeated : List (List ℕ) → List ℕ
-repeated fields = codes "= " ++ joined 44 fields
+repeated fields = codes "= " ++ joined COMMA fields
 
 unfoldable pub cpu_line : ℕ → CpuRow → List ℕ
 cpu_line id cpu = repeated (codes "cpu" ∷ decimal id ∷ decimal cpu.core ∷ decimal cpu.cache ∷ decimal cpu.node ∷ [])

@@ -5,3 +5,4 @@ pub mod Header
 pub mod Entries
 pub mod History
 pub mod Laws
+pub mod Rows

@@ -2,10 +2,11 @@
 -- a mark stands between each two of its fields: a comma in a line of a trace, a space in an entry's.
 use Rattle.std.specs.Prelude.{◌≡◌, ℕ, ◌+◌, List, [], ◌∷◌, ◌++◌, length, take}
 use Rattle.std.specs.List.{flat_map}
+use Rattle.lb_text.specs.declared.marks.TheConstants.{LINE_FEED}
 
 -- the text of lines
 abbrev pub lines_text : List (List ℕ) → List ℕ
-lines_text lines = flat_map (λ line. line ++ 10 ∷ []) lines
+lines_text lines = flat_map (λ line. line ++ LINE_FEED ∷ []) lines
 
 -- the lines of things that are counted from a number on
 abbrev pub numbered : {A : Type 0} → (ℕ → A → List ℕ) → ℕ → List A → List (List ℕ)

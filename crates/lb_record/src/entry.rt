@@ -1,6 +1,7 @@
-ghost use Rattle.std.specs.Prelude.{◌≡◌, ◌∷◌, ◌++◌, [], OnOk, OnErr, decimal};
+ghost use Rattle.std.specs.Prelude.{◌≡◌, true, ◌∷◌, ◌++◌, [], OnOk, OnErr, decimal};
 ghost use Rattle.lb_text.specs.Runs.{list_text};
 ghost use Rattle.lb_core.specs.declared.entry.What.TheVariants as whats;
+ghost use Rattle.lb_core.specs.Ranges.{entry_fits};
 ghost use Rattle.lb_record.specs.Lines.{joined, marked, StillStands};
 ghost use Rattle.lb_record.specs.Entries.{owner_text, command_fields, decision_fields, what_fields, entry_line};
 
@@ -12,13 +13,13 @@ use lb_base::{Kind, Mask, NoMemory};
 use lb_core::{Entry, FigName, OutcomeWord, Owner, What};
 use lb_imbalance::Decision;
 use lb_queue::OutCause;
-use lb_text::put_number;
+use lb_text::{LINE_FEED, SPACE, put_number};
 use lb_trace::Command;
 
 // Whose an entry is, behind a space.
 #[tactic(auto, unfolding(crate::specs::Entries::owner_text))]
 fn put_owner(owner: Owner, lane: u32, to: &mut Vec<u8>) -> Result<(), NoMemory>
-    ensures ok { OnOk result (to.new.items ≡ to.old.items ++ 32 ∷ owner_text owner lane) }
+    ensures ok { OnOk result (to.new.items ≡ to.old.items ++ SPACE ∷ owner_text owner lane) }
     ensures refused { OnErr result (StillStands to.old.items to.new.items) }
 {
     match owner {
@@ -41,7 +42,7 @@ fn put_owner(owner: Owner, lane: u32, to: &mut Vec<u8>) -> Result<(), NoMemory>
 // What a row asks for, each field behind a space.
 #[tactic(auto, unfolding(crate::specs::Entries::command_fields))]
 fn put_command(command: &Command, at: u64, to: &mut Vec<u8>) -> Result<(), NoMemory>
-    ensures ok { OnOk result (to.new.items ≡ to.old.items ++ marked 32 (command_fields command.now at)) }
+    ensures ok { OnOk result (to.new.items ≡ to.old.items ++ marked SPACE (command_fields command.now at)) }
     ensures refused { OnErr result (StillStands to.old.items to.new.items) }
 {
     match command {
@@ -54,12 +55,12 @@ fn put_command(command: &Command, at: u64, to: &mut Vec<u8>) -> Result<(), NoMem
         }
         Command::Nice { task, nice } => {
             put_moment("nice", *task, at, to)?;
-            put_nice(b' ', *nice, to)
+            put_nice(SPACE, *nice, to)
         }
         Command::Tick { cpu } => put_moment("tick", *cpu, at, to),
         Command::Rebuild { parts } => {
             put_word("rebuild", to)?;
-            put_count(b' ', at, to)?;
+            put_count(SPACE, at, to)?;
             put_masks(parts.as_slice(), to)
         }
     }
@@ -67,41 +68,41 @@ fn put_command(command: &Command, at: u64, to: &mut Vec<u8>) -> Result<(), NoMem
 
 // A command's word, its task or CPU, and its moment, each behind a space.
 fn put_moment(word: &str, of: u32, at: u64, to: &mut Vec<u8>) -> Result<(), NoMemory>
-    ensures ok { OnOk result (to.new.items ≡ to.old.items ++ marked 32 (word.now ∷ decimal of ∷ decimal at ∷ [])) }
+    ensures ok { OnOk result (to.new.items ≡ to.old.items ++ marked SPACE (word.now ∷ decimal of ∷ decimal at ∷ [])) }
     ensures refused { OnErr result (StillStands to.old.items to.new.items) }
 {
     put_word(word, to)?;
-    put_count(b' ', u64::from(of), to)?;
-    put_count(b' ', at, to)
+    put_count(SPACE, u64::from(of), to)?;
+    put_count(SPACE, at, to)
 }
 
 // The kind `row` with its fields, each behind a space.
 #[tactic(auto, unfolding(crate::specs::Entries::what_fields))]
 fn put_row(number: u64, at: u64, command: &Command, to: &mut Vec<u8>) -> Result<(), NoMemory>
-    ensures ok { OnOk result (to.new.items ≡ to.old.items ++ marked 32 (what_fields (whats.Row number at command.now))) }
+    ensures ok { OnOk result (to.new.items ≡ to.old.items ++ marked SPACE (what_fields (whats.Row number at command.now))) }
     ensures refused { OnErr result (StillStands to.old.items to.new.items) }
 {
     put_word("row", to)?;
-    put_count(b' ', number, to)?;
+    put_count(SPACE, number, to)?;
     put_command(command, at, to)
 }
 
 // The kind `use` with its fields, each behind a space.
 #[tactic(auto, unfolding(crate::specs::Entries::what_fields))]
 fn put_adopt(version: u64, kind: Kind, cpu: u32, to: &mut Vec<u8>) -> Result<(), NoMemory>
-    ensures ok { OnOk result (to.new.items ≡ to.old.items ++ marked 32 (what_fields (whats.Adopt version kind cpu))) }
+    ensures ok { OnOk result (to.new.items ≡ to.old.items ++ marked SPACE (what_fields (whats.Adopt version kind cpu))) }
     ensures refused { OnErr result (StillStands to.old.items to.new.items) }
 {
     put_word("use", to)?;
-    put_count(b' ', version, to)?;
+    put_count(SPACE, version, to)?;
     put_word(turn_word(kind), to)?;
-    put_count(b' ', u64::from(cpu), to)
+    put_count(SPACE, u64::from(cpu), to)
 }
 
 // A decision, each field behind a space.
 #[tactic(auto, unfolding(crate::specs::Entries::decision_fields))]
 fn put_decision(decision: Decision, to: &mut Vec<u8>) -> Result<(), NoMemory>
-    ensures ok { OnOk result (to.new.items ≡ to.old.items ++ marked 32 (decision_fields decision)) }
+    ensures ok { OnOk result (to.new.items ≡ to.old.items ++ marked SPACE (decision_fields decision)) }
     ensures refused { OnErr result (StillStands to.old.items to.new.items) }
 {
     match decision {
@@ -113,9 +114,9 @@ fn put_decision(decision: Decision, to: &mut Vec<u8>) -> Result<(), NoMemory>
             imbalance,
         } => {
             put_word("pull", to)?;
-            put_count(b' ', u64::from(source), to)?;
+            put_count(SPACE, u64::from(source), to)?;
             put_word(move_word(kind), to)?;
-            put_count(b' ', imbalance, to)
+            put_count(SPACE, imbalance, to)
         }
     }
 }
@@ -130,11 +131,11 @@ fn put_look(
     to: &mut Vec<u8>,
 ) -> Result<(), NoMemory>
     ensures ok { OnOk result (to.new.items ≡ to.old.items
-        ++ marked 32 (what_fields (whats.Look position excluded figures.now decision))) }
+        ++ marked SPACE (what_fields (whats.Look position excluded figures.now decision))) }
     ensures refused { OnErr result (StillStands to.old.items to.new.items) }
 {
     put_word("look", to)?;
-    put_count(b' ', u64::from(position), to)?;
+    put_count(SPACE, u64::from(position), to)?;
     put_mask(excluded, to)?;
     put_figures(figures, to)?;
     put_decision(decision, to)
@@ -143,7 +144,7 @@ fn put_look(
 // The kind `scan` with its fields, each behind a space.
 #[tactic(auto, unfolding(crate::specs::Entries::what_fields))]
 fn put_scan(figures: &[FigName], target: Option<u32>, to: &mut Vec<u8>) -> Result<(), NoMemory>
-    ensures ok { OnOk result (to.new.items ≡ to.old.items ++ marked 32 (what_fields (whats.Scan figures.now target))) }
+    ensures ok { OnOk result (to.new.items ≡ to.old.items ++ marked SPACE (what_fields (whats.Scan figures.now target))) }
     ensures refused { OnErr result (StillStands to.old.items to.new.items) }
 {
     put_word("scan", to)?;
@@ -155,12 +156,12 @@ fn put_scan(figures: &[FigName], target: Option<u32>, to: &mut Vec<u8>) -> Resul
 #[tactic(auto, unfolding(crate::specs::Entries::what_fields))]
 fn put_out(cause: OutCause, destination: u32, ids: &[u32], to: &mut Vec<u8>) -> Result<(), NoMemory>
     ensures ok { OnOk result (to.new.items ≡ to.old.items
-        ++ marked 32 (what_fields (whats.Out cause destination ids.now))) }
+        ++ marked SPACE (what_fields (whats.Out cause destination ids.now))) }
     ensures refused { OnErr result (StillStands to.old.items to.new.items) }
 {
     put_word("out", to)?;
     put_word(cause_word(cause), to)?;
-    put_count(b' ', u64::from(destination), to)?;
+    put_count(SPACE, u64::from(destination), to)?;
     put_ids(ids, to)
 }
 
@@ -174,19 +175,19 @@ fn put_close(
     to: &mut Vec<u8>,
 ) -> Result<(), NoMemory>
     ensures ok { OnOk result (to.new.items ≡ to.old.items
-        ++ marked 32 (what_fields (whats.Close position outcome interval failures))) }
+        ++ marked SPACE (what_fields (whats.Close position outcome interval failures))) }
     ensures refused { OnErr result (StillStands to.old.items to.new.items) }
 {
     put_word("close", to)?;
-    put_count(b' ', u64::from(position), to)?;
+    put_count(SPACE, u64::from(position), to)?;
     put_word(outcome_word(outcome), to)?;
-    put_count(b' ', interval, to)?;
-    put_count(b' ', u64::from(failures), to)
+    put_count(SPACE, interval, to)?;
+    put_count(SPACE, u64::from(failures), to)
 }
 
 // A kind that has a word for its field, each behind a space.
 fn put_answer(kind: &str, word: &str, to: &mut Vec<u8>) -> Result<(), NoMemory>
-    ensures ok { OnOk result (to.new.items ≡ to.old.items ++ marked 32 (kind.now ∷ word.now ∷ [])) }
+    ensures ok { OnOk result (to.new.items ≡ to.old.items ++ marked SPACE (kind.now ∷ word.now ∷ [])) }
     ensures refused { OnErr result (StillStands to.old.items to.new.items) }
 {
     put_word(kind, to)?;
@@ -195,7 +196,7 @@ fn put_answer(kind: &str, word: &str, to: &mut Vec<u8>) -> Result<(), NoMemory>
 
 // A kind that has a list of CPUs or positions for its field, each behind a space.
 fn put_set(kind: &str, mask: Mask, to: &mut Vec<u8>) -> Result<(), NoMemory>
-    ensures ok { OnOk result (to.new.items ≡ to.old.items ++ marked 32 (kind.now ∷ list_text mask ∷ [])) }
+    ensures ok { OnOk result (to.new.items ≡ to.old.items ++ marked SPACE (kind.now ∷ list_text mask ∷ [])) }
     ensures refused { OnErr result (StillStands to.old.items to.new.items) }
 {
     put_word(kind, to)?;
@@ -205,7 +206,7 @@ fn put_set(kind: &str, mask: Mask, to: &mut Vec<u8>) -> Result<(), NoMemory>
 // The kind of an entry and its fields, each behind a space.
 #[tactic(auto, unfolding(crate::specs::Entries::what_fields))]
 fn put_what(what: &What, to: &mut Vec<u8>) -> Result<(), NoMemory>
-    ensures ok { OnOk result (to.new.items ≡ to.old.items ++ marked 32 (what_fields what.now)) }
+    ensures ok { OnOk result (to.new.items ≡ to.old.items ++ marked SPACE (what_fields what.now)) }
     ensures refused { OnErr result (StillStands to.old.items to.new.items) }
 {
     match what {
@@ -246,26 +247,26 @@ fn put_what(what: &What, to: &mut Vec<u8>) -> Result<(), NoMemory>
         What::Over => put_word("over", to),
         What::Pub { version } => {
             put_word("pub", to)?;
-            put_count(b' ', *version, to)
+            put_count(SPACE, *version, to)
         }
     }
 }
 
 // The ticket of an entry, its owner, and the ticket of the lane's entry before it.
 fn put_origin(ticket: u64, entry: &Entry, to: &mut Vec<u8>) -> Result<(), NoMemory>
-    ensures ok { OnOk result (to.new.items ≡ to.old.items ++ joined 32
+    ensures ok { OnOk result (to.new.items ≡ to.old.items ++ joined SPACE
         (decimal ticket ∷ owner_text entry.now.owner entry.now.lane ∷ decimal entry.now.prev ∷ [])) }
     ensures refused { OnErr result (StillStands to.old.items to.new.items) }
 {
     put_number(ticket, to)?;
     put_owner(entry.owner, entry.lane, to)?;
-    put_count(b' ', entry.prev, to)
+    put_count(SPACE, entry.prev, to)
 }
 
 // The line of an entry. After a refusal what stood in the text still stands in front.
 #[tactic(auto, unfolding(crate::specs::Entries::entry_line))]
 fn put_entry_line(ticket: u64, entry: &Entry, to: &mut Vec<u8>) -> Result<(), NoMemory>
-    ensures ok { OnOk result (to.new.items ≡ to.old.items ++ entry_line ticket entry.now ++ 10 ∷ []) }
+    ensures ok { OnOk result (to.new.items ≡ to.old.items ++ entry_line ticket entry.now ++ LINE_FEED ∷ []) }
     ensures refused { OnErr result (StillStands to.old.items to.new.items) }
 {
     put_origin(ticket, entry, to)?;
@@ -275,12 +276,11 @@ fn put_entry_line(ticket: u64, entry: &Entry, to: &mut Vec<u8>) -> Result<(), No
 }
 
 /// Appends the line of an entry, with the line feed that ends it (docs/rules/history-text.md). The
-/// ticket of an entry is its place in its history, from 1. After a refusal the text is as before.
-///
-/// An answer that the queue does not know the task, which no legal history has, is written as
-/// `did nothere`.
+/// ticket of an entry is its place in its history, from 1. Ticket and entry say what a line can say:
+/// each entry of a history of an accepted trace does. After a refusal the text is as before.
 pub fn put_entry(ticket: u64, entry: &Entry, to: &mut Vec<u8>) -> Result<(), NoMemory>
-    ensures ok { OnOk result (to.new.items ≡ to.old.items ++ entry_line ticket entry.now ++ 10 ∷ []) }
+    requires { entry_fits ticket entry.now ≡ true }
+    ensures ok { OnOk result (to.new.items ≡ to.old.items ++ entry_line ticket entry.now ++ LINE_FEED ∷ []) }
     ensures refused { OnErr result (to.new.items ≡ to.old.items) }
 {
     let before = to.len();

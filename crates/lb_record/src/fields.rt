@@ -8,11 +8,11 @@ ghost use Rattle.lb_record.specs.Fields.{ids_text, figure_text, figures_text, ta
 use itoa::Buffer;
 use lb_base::{Mask, NoMemory};
 use lb_core::FigName;
-use lb_text::{put_list, put_number};
+use lb_text::{COLON, COMMA, SEMICOLON, SPACE, put_list, put_number};
 
 // A word behind a space.
 pub(crate) fn put_word(word: &str, to: &mut Vec<u8>) -> Result<(), NoMemory>
-    ensures ok { OnOk result (to.new.items ≡ to.old.items ++ 32 ∷ word.now) }
+    ensures ok { OnOk result (to.new.items ≡ to.old.items ++ SPACE ∷ word.now) }
     ensures refused { OnErr result (StillStands to.old.items to.new.items) }
 {
     to.extend_from_slice(b" ")?;
@@ -53,7 +53,7 @@ pub(crate) fn put_nice(mark: u8, nice: i32, to: &mut Vec<u8>) -> Result<(), NoMe
 
 // The CPUs of a mask behind a space; `-` where there are none.
 pub(crate) fn put_mask(mask: Mask, to: &mut Vec<u8>) -> Result<(), NoMemory>
-    ensures ok { OnOk result (to.new.items ≡ to.old.items ++ 32 ∷ list_text mask) }
+    ensures ok { OnOk result (to.new.items ≡ to.old.items ++ SPACE ∷ list_text mask) }
     ensures refused { OnErr result (StillStands to.old.items to.new.items) }
 {
     to.extend_from_slice(b" ")?;
@@ -62,7 +62,7 @@ pub(crate) fn put_mask(mask: Mask, to: &mut Vec<u8>) -> Result<(), NoMemory>
 
 // The CPUs of masks, each behind a space.
 pub(crate) fn put_masks(masks: &[Mask], to: &mut Vec<u8>) -> Result<(), NoMemory>
-    ensures ok { OnOk result (to.new.items ≡ to.old.items ++ marked 32 (map list_text masks.now)) }
+    ensures ok { OnOk result (to.new.items ≡ to.old.items ++ marked SPACE (map list_text masks.now)) }
     ensures refused { OnErr result (StillStands to.old.items to.new.items) }
 {
     for mask in masks {
@@ -73,7 +73,7 @@ pub(crate) fn put_masks(masks: &[Mask], to: &mut Vec<u8>) -> Result<(), NoMemory
 
 // The CPUs of a mask behind a comma, as a line of a trace has them: nothing where there are none.
 pub(crate) fn put_runs(mask: Mask, to: &mut Vec<u8>) -> Result<(), NoMemory>
-    ensures ok { OnOk result (to.new.items ≡ to.old.items ++ 44 ∷ runs_text mask) }
+    ensures ok { OnOk result (to.new.items ≡ to.old.items ++ COMMA ∷ runs_text mask) }
     ensures refused { OnErr result (StillStands to.old.items to.new.items) }
 {
     to.extend_from_slice(b",")?;
@@ -85,14 +85,14 @@ pub(crate) fn put_runs(mask: Mask, to: &mut Vec<u8>) -> Result<(), NoMemory>
 
 // Numbers of tasks behind a space; `-` where there are none.
 pub(crate) fn put_ids(ids: &[u32], to: &mut Vec<u8>) -> Result<(), NoMemory>
-    ensures ok { OnOk result (to.new.items ≡ to.old.items ++ 32 ∷ ids_text ids.now) }
+    ensures ok { OnOk result (to.new.items ≡ to.old.items ++ SPACE ∷ ids_text ids.now) }
     ensures refused { OnErr result (StillStands to.old.items to.new.items) }
 {
     match ids {
         [] => put_word("-", to),
         [first, rest @ ..] => {
-            put_count(b' ', u64::from(*first), to)?;
-            put_counts(b';', rest, to)
+            put_count(SPACE, u64::from(*first), to)?;
+            put_counts(SEMICOLON, rest, to)
         }
     }
 }
@@ -103,12 +103,12 @@ fn put_figure(mark: u8, figure: FigName, to: &mut Vec<u8>) -> Result<(), NoMemor
     ensures refused { OnErr result (StillStands to.old.items to.new.items) }
 {
     put_count(mark, u64::from(figure.cpu), to)?;
-    put_count(b':', figure.n, to)
+    put_count(COLON, figure.n, to)
 }
 
 // Names of figures behind a space.
 pub(crate) fn put_figures(figures: &[FigName], to: &mut Vec<u8>) -> Result<(), NoMemory>
-    ensures ok { OnOk result (to.new.items ≡ to.old.items ++ 32 ∷ figures_text figures.now) }
+    ensures ok { OnOk result (to.new.items ≡ to.old.items ++ SPACE ∷ figures_text figures.now) }
     ensures refused { OnErr result (StillStands to.old.items to.new.items) }
 {
     match figures {
@@ -117,7 +117,7 @@ pub(crate) fn put_figures(figures: &[FigName], to: &mut Vec<u8>) -> Result<(), N
             Ok(())
         }
         [first, rest @ ..] => {
-            put_figure(b' ', *first, to)?;
+            put_figure(SPACE, *first, to)?;
             put_more_figures(rest, to)
         }
     }
@@ -125,22 +125,22 @@ pub(crate) fn put_figures(figures: &[FigName], to: &mut Vec<u8>) -> Result<(), N
 
 // Names of figures, each behind a comma.
 fn put_more_figures(figures: &[FigName], to: &mut Vec<u8>) -> Result<(), NoMemory>
-    ensures ok { OnOk result (to.new.items ≡ to.old.items ++ marked 44 (map figure_text figures.now)) }
+    ensures ok { OnOk result (to.new.items ≡ to.old.items ++ marked COMMA (map figure_text figures.now)) }
     ensures refused { OnErr result (StillStands to.old.items to.new.items) }
 {
     for figure in figures {
-        put_figure(b',', *figure, to)?;
+        put_figure(COMMA, *figure, to)?;
     }
     Ok(())
 }
 
 // The target of a scan behind a space; `-` where there is none.
 pub(crate) fn put_target(target: Option<u32>, to: &mut Vec<u8>) -> Result<(), NoMemory>
-    ensures ok { OnOk result (to.new.items ≡ to.old.items ++ 32 ∷ target_text target) }
+    ensures ok { OnOk result (to.new.items ≡ to.old.items ++ SPACE ∷ target_text target) }
     ensures refused { OnErr result (StillStands to.old.items to.new.items) }
 {
     match target {
         None => put_word("-", to),
-        Some(cpu) => put_count(b' ', u64::from(cpu), to),
+        Some(cpu) => put_count(SPACE, u64::from(cpu), to),
     }
 }

@@ -1,4 +1,6 @@
-ghost use Rattle.std.specs.Prelude.{◌≡◌, ◌++◌, IfOk, OnOk};
+ghost use Rattle.std.specs.Prelude.{◌≡◌, ◌++◌, true, IfOk, OnOk};
+ghost use Rattle.lb_trace.specs.Accepted.{IsHeader};
+ghost use Rattle.lb_core.specs.Ranges.{entries_fit};
 ghost use Rattle.lb_record.specs.Lines.{lines_text, numbered};
 ghost use Rattle.lb_record.specs.Entries.{entry_line};
 ghost use Rattle.lb_record.specs.History.{history_text};
@@ -10,8 +12,12 @@ use lb_core::Entry;
 use lb_trace::Header;
 use std::alloc::Global;
 
+/// The length of the longest text that is read as a history, in bytes: 512 MiB.
+pub const MAX_HISTORY_BYTES: u64 = 536_870_912;
+
 // The lines of entries, from ticket 1.
 fn put_entries(entries: &[Entry], to: &mut Vec<u8>) -> Result<(), NoMemory>
+    requires { entries_fit entries.now ≡ true }
     ensures { OnOk result (to.new.items ≡ to.old.items ++ lines_text (numbered entry_line 1 entries.now)) }
 {
     for (i, entry) in entries.iter().enumerate() {
@@ -24,6 +30,8 @@ fn put_entries(entries: &[Entry], to: &mut Vec<u8>) -> Result<(), NoMemory>
 /// tickets (docs/rules/history-text.md).
 #[tactic(auto, unfolding(crate::specs::History::history_text, crate::specs::History::history_lines, crate::specs::Header::header_text))]
 pub fn history_text(alloc: Global, header: &Header, entries: &[Entry]) -> Result<Vec<u8>, NoMemory>
+    requires header { IsHeader header.now }
+    requires entries { entries_fit entries.now ≡ true }
     ensures { IfOk result (λ text. text.items ≡ history_text header.now entries.now) }
 {
     let mut text = Vec::new(alloc);

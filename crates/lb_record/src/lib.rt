@@ -11,7 +11,4 @@ mod words;
 
 pub use entry::put_entry;
 pub use header::put_header;
-pub use history::history_text;
-
-#[cfg(test)]
-mod tests;
+pub use history::{MAX_HISTORY_BYTES, history_text};
