@@ -13,7 +13,7 @@ use Rattle.lb_core.specs.Legal.{MayBeAdded, run, MayFollow}
 use Rattle.lb_core.specs.OfTrace.{row_of, rows_drawn}
 use Rattle.lb_serial.specs.declared.front.Front.{Front}
 use Rattle.lb_serial.specs.Fronts.{with_entry}
-use Rattle.lb_serial.specs.Serial.{is_serial, AreSerial}
+use Rattle.lb_core.specs.Serial.{is_serial, AreSerial}
 
 pub run_one : (es : List Entry) (e : Entry) (m : Machine) → run (es ++ e ∷ []) m ≡ after (run es m) e
 run_one [] e m = refl

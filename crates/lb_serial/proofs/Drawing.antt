@@ -36,7 +36,7 @@ use Rattle.lb_core.specs.Placed.{IsPlaced, PlacedAlways}
 use Rattle.lb_core.specs.OfTrace.{row_of, rows_drawn}
 use Rattle.lb_serial.specs.declared.front.Front.{Front}
 use Rattle.lb_serial.specs.Served.{serves, NamesDeclared, IsServedRow}
-use Rattle.lb_serial.specs.Serial.{is_serial}
+use Rattle.lb_core.specs.Serial.{is_serial}
 use Rattle.lb_serial.specs.Fronts.{HasNone, IsCalm, small_machine, IsFront, IsAtRest, IsAsked, IsIdleTurn, IsDue, IsTakenUp, IsOpened, IsAnswered, IsEnded, with_entry}
 use Rattle.lb_serial.proofs.Appending.{run_one, may_follow_one, serial_one, rows_one}
 use Rattle.lb_serial.proofs.NoDomains.{no_domains}

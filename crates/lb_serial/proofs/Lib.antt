@@ -6,6 +6,4 @@ pub mod Replies
 pub mod Unbroken
 pub mod Drawing
 pub mod Starting
-pub mod OneCpu
-pub mod Unique
 pub mod Trials

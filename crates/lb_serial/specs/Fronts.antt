@@ -23,7 +23,7 @@ use Rattle.lb_core.specs.Legal.{run, IsLegalFront, IsLegalHistory}
 use Rattle.lb_trace.specs.Accepted.{IsHeader}
 use Rattle.lb_core.specs.OfTrace.{rows_drawn}
 use Rattle.lb_serial.specs.declared.front.Front.{Front}
-use Rattle.lb_serial.specs.Serial.{AreSerial}
+use Rattle.lb_core.specs.Serial.{AreSerial}
 
 -- ---- the queue of CPU 0
 -- an awake task may stay here, and is not asked to leave

@@ -1,4 +1,2 @@
 pub mod Served
-pub mod Serial
 pub mod Fronts
-pub mod Unique

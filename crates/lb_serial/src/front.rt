@@ -5,7 +5,6 @@ ghost use Rattle.lb_core.specs.QueueAfter.{answer_to};
 ghost use Rattle.lb_core.specs.Rules.{leaves_instead};
 ghost use Rattle.lb_serial.specs.Served.{serves, IsServedRow};
 
-use crate::copies::copy_command;
 use lb_base::{Kind, Mask, NoMemory};
 use lb_core::laws::placed;
 use lb_core::{Entry, History, Owner, What};
@@ -73,7 +72,7 @@ impl Front {
         ensures header { OnOk result (self.new.history.header ≡ self.old.history.header) }
     {
         let at = row.at;
-        let command = copy_command(alloc, &row.command)?;
+        let command = row.command.copy(alloc)?;
         self.draw(
             Owner::Lane(0),
             What::Row {

@@ -2,9 +2,7 @@
 //! before the next is taken up (docs/rules/lanes.md).
 #![tactic(auto)]
 
-mod copies;
 mod front;
-pub mod laws;
 mod run;
 
 pub use run::serial;

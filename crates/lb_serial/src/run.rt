@@ -4,20 +4,19 @@ ghost use Rattle.lb_queue.specs.Queue.{empty_queue};
 ghost use Rattle.lb_core.specs.Machine.{tasks_at};
 ghost use Rattle.lb_serial.specs.Served.{IsServed, IsServedTask};
 ghost use Rattle.lb_serial.specs.Fronts.{IsAtRest};
-ghost use Rattle.lb_serial.specs.Serial.{IsSerialHistory};
+ghost use Rattle.lb_core.specs.Serial.{IsSerialHistory};
 
-use crate::copies::copy_header;
 use crate::front::Front;
 use lb_base::{Items, NoMemory};
 use lb_core::History;
 use lb_queue::Queue;
-use lb_trace::{TaskRow, Trace};
+use lb_trace::{MAX_TASKS, TaskRow, Trace};
 use std::alloc::Global;
 
 // The queue of CPU 0 before any entry: each task sleeps there.
 fn opening_queue(alloc: Global, tasks: &[TaskRow]) -> Result<Queue, NoMemory>
     requires tasks { All IsServedTask tasks.now }
-    requires most { length tasks.now ≤ 4096 }
+    requires most { length tasks.now ≤ MAX_TASKS }
     ensures { IfOk result (λ q. q.state ≡ record (empty_queue 0 1) { asleep = tasks_at 0 0 tasks.now }) }
 {
     let mut queue = Queue::new(alloc, 0, 1)?;
@@ -36,7 +35,7 @@ fn start(alloc: Global, trace: &Trace) -> Result<Front, NoMemory>
 {
     Ok(Front {
         history: History {
-            header: copy_header(alloc, &trace.header)?,
+            header: trace.header.copy(alloc)?,
             entries: Items::new(alloc),
         },
         queue: opening_queue(alloc, trace.header.tasks.as_slice())?,
