@@ -1,20 +1,21 @@
--- Where the work of `step` is done, what was written is the text of the trace's one history.
+-- Where the work of `step` is done, what was written is the text of the trace's one serial history.
 use Rattle.std.proofs.Common.{◌≡◌, ℕ, zero, suc, List, [], ◌∷◌, ◌++◌, take, Option, Some, None, Result, Ok, Err, refl, sym, ◌∙◌, ap, subst}
 use Rattle.lb_core.specs.declared.entry.Entry.{Entry}
 use Rattle.lb_core.specs.declared.history.History.{History}
 use Rattle.lb_core.specs.Machine.{Machine, start}
 use Rattle.lb_core.specs.Step.{after}
-use Rattle.lb_core.specs.Legal.{run, MayFollow, IsLegalFront}
+use Rattle.lb_core.specs.Legal.{run, MayFollow, IsLegalFront, IsLegalHistory}
 use Rattle.lb_core.specs.Placed.{IsPlaced, PlacedAlways}
 use Rattle.lb_core.specs.Permitted.{IsPermitted, PermittedAlways}
+use Rattle.lb_core.specs.Replies.{RepliesAlways}
 use Rattle.lb_core.specs.Passes.{PassesAlways}
 use Rattle.lb_trace.specs.declared.trace.Code.{Code}
 use Rattle.lb_trace.specs.declared.trace.Header.{Header}
 use Rattle.lb_trace.specs.declared.trace.Trace.{Trace}
 use Rattle.lb_trace.specs.Accepted.{IsTrace, IsHeader}
 use Rattle.lb_trace.specs.Grammar.{reading_of}
-use Rattle.lb_serial.specs.Serial.{IsSerialHistory}
-use Rattle.lb_serial.specs.Unique.{OneHistory}
+use Rattle.lb_core.specs.Serial.{IsSerialHistory, OneSerialHistory}
+use Rattle.lb_ready.specs.Laws.{EntriesFit}
 use Rattle.lb_record.specs.History.{history_text}
 use Rattle.lb.specs.declared.status.Status.{Status}
 use Rattle.lb.specs.declared.status.Status.TheVariants as status
@@ -33,22 +34,26 @@ pub record Laws : Type 0 where
   pub accepted : (text : List ℕ) (t : Trace) → reading_of text ≡ Ok t → IsTrace t
   pub placed : PlacedAlways
   pub permitted : PermittedAlways
+  pub replies : RepliesAlways
   pub passes : PassesAlways
-  pub one : OneHistory
+  pub one : OneSerialHistory
+  pub fit : EntriesFit
 
 front_taken : (n : ℕ) (es : List Entry) (m : Machine) → MayFollow es m → MayFollow (take n es) m
 front_taken zero es m legal = tt
 front_taken (suc n) [] m legal = tt
 front_taken (suc n) (e ∷ es) m legal = (legal.0, front_taken n es (after m e) legal.1)
 
-the_history : Laws → (t : Trace) (h : History) → IsTrace t → first_later t ≡ None → IsSerialHistory t h → IsTheHistory t h
-the_history law t h given none s =
+the_history : Laws → (t : Trace) (h : History) → IsTrace t → IsSerialHistory t h → IsTheHistory t h
+the_history law t h given s =
     let header : IsHeader h.header = subst (λ (x : Header). IsHeader x) (sym s.of_trace.header) given.header in
     let front : (n : ℕ) → IsLegalFront h.header (take n h.entries) = λ n. front_taken n h.entries (start h.header) s.of_trace.legal.0 in
     record {
       history = s.of_trace;
-      alone = λ other k. law.one t other h (is_served t given none) k s.of_trace;
+      in_range = law.fit t h given s.of_trace;
       serial = s;
+      alone = λ other k. law.one t other h k s;
+      replied = λ before later e is. law.replies h.header before later e (subst (λ (es : List Entry). IsLegalHistory h.header es) is s.of_trace.legal);
       placed = λ n. law.placed h.header (take n h.entries) header (front n);
       permitted = λ n. law.permitted h.header (take n h.entries) header (front n);
       passes = λ before later e is. law.passes h.header before later e (subst (λ (es : List Entry). IsLegalFront h.header es) is s.of_trace.legal.0);
@@ -76,7 +81,7 @@ TheText out t = (h : History) × IsTheHistory t h × Took out (history_text h.he
 the_text : Laws → (out : Side) (text : List ℕ) (t : Trace) → input_of Step text ≡ Ok t → (answer : List ℕ) × IsOutput Step t answer × Took out answer → TheText out t
 the_text law out text t is (answer, (h, serial, same), took) =
     let r = step_reads text t is in
-    (h, the_history law t h (law.accepted text t r.0) r.1 serial, subst (λ (bytes : List ℕ). Took out bytes) same took)
+    (h, the_history law t h (law.accepted text t r.0) serial, subst (λ (bytes : List ℕ). Took out bytes) same took)
 
 of_trace : Laws → (left : Option (List ℕ)) (out : Side) → IfSome left (λ text. (t : Trace) × (input_of Step text ≡ Ok t) × ((answer : List ℕ) × IsOutput Step t answer × Took out answer)) → IfSome left (λ text. (t : Trace) × (input_of Step text ≡ Ok t) × TheText out t)
 of_trace law None out h = tt

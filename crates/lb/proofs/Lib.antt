@@ -1,5 +1,4 @@
 pub mod TooLong
 pub mod Reporting
 pub mod Serving
-pub mod Building
 pub mod Headlines

@@ -1,23 +1,24 @@
 -- A trace of which no line asks for more is served: it has one CPU, one lane, one mask of that CPU,
 -- and rows that wake tasks, put them to sleep or end them.
-use Rattle.std.proofs.Common.{◌≡◌, ℕ, ℤ, pos, negsuc, zero, suc, ◌+◌, ◌<◌, ◌≤◌, ◌≤ℤ◌, ◌^◌, Bool, true, false, not, List, [], ◌∷◌, length, get_or, All, Option, Some, None, refl, sym, ◌∙◌, ap, subst, arith, cond, inl, inr, ◌⊎◌, ◌≢◌}
+use Rattle.std.proofs.Common.{◌≡◌, ℕ, zero, suc, ◌+◌, ◌<◌, ◌≤◌, ◌^◌, Bool, true, false, List, [], ◌∷◌, length, get_or, All, Option, Some, None, refl, sym, ◌∙◌, ap, subst, arith, cond, inl, inr, ◌⊎◌, ◌≢◌}
 use Rattle.std.specs.Prelude.{if◌then◌else◌, filter, find, nat_lt, is_none}
 use Rattle.std.specs.List.{list_all, range_with_len}
 use Rattle.std.specs.Int.{bit_at}
 use Rattle.std.proofs.lemmas.Bool.{and_parts, not-true, ltb-true, leb-true, lt-ltb, cases_lt, cases_eq, eq-eqb, eqb-true, both_ways}
-use Rattle.std.proofs.lemmas.Int.{ints}
 use Rattle.std.proofs.lemmas.List.Sums.{AllPass-from_list_all}
 use Rattle.std.proofs.lemmas.Nat.Bits.{bit_at-lt, bit_at-pow_same, bit_at-pow_other, same_from_bits_below}
 use Rattle.lb_base.specs.declared.mask.Mask.{Mask}
 use Rattle.lb_base.specs.Mask.{has, members, members_below, only, first_cpus}
 use Rattle.lb_base.specs.Sets.{least, is_empty, is_below}
+use Rattle.lb_trace.specs.declared.trace.TheConstants.{MAX_MOMENT}
 use Rattle.lb_trace.specs.declared.trace.Command.{Command}
 use Rattle.lb_trace.specs.declared.trace.Command.TheVariants.{Wake, Sleep, Exit, SetMask, Nice, Tick, Rebuild}
 use Rattle.lb_trace.specs.declared.trace.Row.{Row}
 use Rattle.lb_trace.specs.declared.trace.TaskRow.{TaskRow}
 use Rattle.lb_trace.specs.declared.trace.Header.{Header}
 use Rattle.lb_trace.specs.declared.trace.Trace.{Trace}
-use Rattle.lb_trace.specs.Accepted.{is_nice_value, is_mask, is_task, is_row, is_command, IsTrace}
+use Rattle.lb_trace.specs.Accepted.{is_task, is_row, is_command, IsTrace}
+use Rattle.lb_trace.proofs.RangeFacts.{nice_range}
 use Rattle.lb_serial.specs.Served.{IsServedTask, serves, NamesDeclared, IsServedRow, IsServed}
 use Rattle.lb.specs.Later.{line_after_distances, first_row_line, first_unserved, first_later}
 
@@ -40,10 +41,6 @@ is_one n some few =
     ]
 
 -- ---- the tasks
-nice_range : (nice : ℤ) → is_nice_value nice ≡ true → (negsuc 19 ≤ℤ nice) × (nice ≤ℤ pos 19)
-nice_range (pos n) h = let le : n ≤ 19 = leb-true n 19 h in (omega (arith, ints, le), omega (arith, ints, le))
-nice_range (negsuc n) h = let le : n ≤ 19 = leb-true n 19 h in (omega (arith, ints, le), omega (arith, ints, le))
-
 passes : (p : ℕ → Bool) (x : Bool) (a : ℕ) (rest : List ℕ) → list_all p (cond x (a ∷ rest) rest) ≡ true → (x ≡ true → p a ≡ true) × (list_all p rest ≡ true)
 passes p true a rest h = let b = and_parts (p a) _ h in (λ e. b.0, b.1)
 passes p false a rest h = (λ e. absurd (cc), h)
@@ -139,7 +136,7 @@ served_row h row one given served =
     let lane = ltb-true row.lane h.lanes b.0 in
     record {
       lane = omega (arith, lane, one);
-      moment = leb-true row.at 1000000000000000 b.1;
+      moment = leb-true row.at MAX_MOMENT b.1;
       served = served;
       declared = names_declared h row.command a.1 served;
     }

@@ -11,7 +11,7 @@ use Rattle.lb_trace.specs.declared.trace.Code.TheVariants.{Later}
 use Rattle.lb_trace.specs.declared.trace.Trace.{Trace}
 use Rattle.lb_trace.specs.Codes.{code_word}
 use Rattle.lb_trace.specs.Grammar.{reading_of}
-use Rattle.lb_serial.specs.Serial.{IsSerialHistory}
+use Rattle.lb_core.specs.Serial.{IsSerialHistory}
 use Rattle.lb_record.specs.History.{history_text}
 use Rattle.lb_topo.specs.Text.{topology_text}
 use Rattle.lb.specs.declared.status.Status.{Status}
@@ -49,9 +49,9 @@ pub record Side : Type 0 where
   pub faults_before : ℕ
   pub faults_after : ℕ
 
-abbrev pub side : Option (List ℕ) → Option (List ℕ) → ℕ → ℕ → Side
-side before after faults_before faults_after =
-    record { before = before; after = after; faults_before = faults_before; faults_after = faults_after }
+-- the side of an object that holds such bytes, and counts so many faults, before and after
+abbrev pub side_of : {X : Type 0} → (X → Option (List ℕ)) → (X → ℕ) → X → X → Side
+side_of bytes faults old new = record { before = bytes old; after = bytes new; faults_before = faults old; faults_after = faults new }
 
 abbrev pub IsUntouched : Side → Type 0
 IsUntouched s = s.after ≡ s.before
@@ -59,8 +59,15 @@ IsUntouched s = s.after ≡ s.before
 abbrev pub HadFault : Side → Type 0
 HadFault s = Rose s.faults_before s.faults_after
 
+abbrev pub HadNoFault : Side → Type 0
+HadNoFault s = s.faults_after ≡ s.faults_before
+
 abbrev pub Took : Side → List ℕ → Type 0
 Took s bytes = Appends s.before s.after bytes
+
+-- it took the first bytes, or none, and nothing else
+abbrev pub TookFront : Side → List ℕ → Type 0
+TookFront s bytes = AppendsFront s.before s.after bytes
 
 -- the words of a call, what its source had left, and what its out sink took
 pub record Call : Type 0 where
@@ -104,12 +111,8 @@ abbrev pub TookOutput : Call → Work → Trace → Type 0
 TookOutput c work t = (text : List ℕ) × IsOutput work t text × Took c.out text
 
 -- the out sink took a front of it
-abbrev pub TookFront : Call → Work → Trace → Type 0
-TookFront c work t = (text : List ℕ) × IsOutput work t text × AppendsFront c.out.before c.out.after text
-
--- the out sink took nothing, or had a fault and took a front
-abbrev pub TookNoMore : Call → Type 0
-TookNoMore c = IsUntouched c.out ⊎ (HadFault c.out × OfWork c (λ work. OfTrace work c (TookFront c work)))
+abbrev pub TookOutputFront : Call → Work → Trace → Type 0
+TookOutputFront c work t = (text : List ℕ) × IsOutput work t text × TookFront c.out text
 
 -- the work alone, before its status is reported
 abbrev pub Works : Status → Call → Type 0
@@ -117,24 +120,31 @@ Works status.Done c = OfWork c (λ work. IsAtEnd c.source.after × OfTrace work 
 Works status.ReadFault c = OfWork c (λ work. HadFault c.source) × IsUntouched c.out
 Works status.Usage c = (work_of c.words ≡ None) × IsUntouched c.source × IsUntouched c.out
 Works (status.Refused line code) c = OfWork c (λ work. IfSome c.source.before (λ text. input_of work text ≡ Err (line, code))) × IsUntouched c.out
-Works status.WriteFault c = HadFault c.out × OfWork c (λ work. OfTrace work c (TookFront c work))
+Works status.WriteFault c = HadFault c.out × OfWork c (λ work. OfTrace work c (TookOutputFront c work))
 Works status.NoMemory c = IsUntouched c.out
 
 -- ---- the report
--- the error sink took the status's text
+-- the error sink took the whole text of the status, and none of its calls failed
 abbrev pub Told : Status → Side → Type 0
-Told s error = Took error (status_text s)
+Told s error = Took error (status_text s) × HadNoFault error
 
--- a status is reported to the error sink, and this one stands then
+-- a call of the error sink failed: it took a front of the text of the status, and nothing after it
+abbrev pub ToldFront : Status → Side → Type 0
+ToldFront s error = (s ≡ status.Done → ⊥) × TookFront error (status_text s) × HadFault error
+
+-- a status was to be told, and this one stands then
+abbrev pub Tells : Status → Status → Side → Type 0
+Tells was now error = ((now ≡ was) × Told was error) ⊎ ((now ≡ status.WriteFault) × ToldFront was error)
+
+-- the same, where want of memory may be told in place of a refusal, whose text needs memory
 abbrev pub Reports : Status → Status → Side → Type 0
-Reports was now error =
-    ((now ≡ was) × Told was error)
-    ⊎ (((now ≡ status.WriteFault) × (was ≡ status.Done → ⊥) × HadFault error)
-    ⊎ ((line : ℕ) × (code : Code) × (was ≡ status.Refused line code) × (now ≡ status.NoMemory) × Told status.NoMemory error))
+Reports was now error = Tells was now error ⊎ ((line : ℕ) × (code : Code) × (was ≡ status.Refused line code) × Tells status.NoMemory now error)
 
 -- ---- the whole call
+-- A status says what the work did, and was told whole. A write fault is the work's own, or stands in
+-- place of the status `was` that the work ended with and that could not be told whole.
 abbrev pub Answers : Status → Call → Side → Type 0
-Answers status.WriteFault c error = ((HadFault c.out × Told status.WriteFault error) ⊎ HadFault error) × TookNoMore c
+Answers status.WriteFault c error = (Works status.WriteFault c × Told status.WriteFault error) ⊎ ((was : Status) × Works was c × ToldFront was error)
 Answers s c error = Works s c × Told s error
 
 -- where nothing failed, a trace that the work serves is answered

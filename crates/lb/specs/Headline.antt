@@ -1,30 +1,36 @@
--- The headline: what the program wrote is the text of the one legal history of its trace, after each
--- entry of which every task stands where it may, and each look of which takes exactly what the rules
--- pick.
-use Rattle.std.specs.Prelude.{ℕ, ◌≡◌, List, ◌∷◌, ◌++◌, take}
+-- The headline: what the program wrote is the text of the one serial history of its trace, which is
+-- legal and holds each lane's rows with their replies; after each entry of it every task stands where it
+-- may, and each look of it takes exactly what the rules pick.
+use Rattle.std.specs.Prelude.{ℕ, ◌≡◌, true, List, ◌∷◌, ◌++◌, take}
 use Rattle.std.specs.Io.KnownBytes.{IsAtEnd}
 use Rattle.lb_core.specs.declared.entry.Entry.{Entry}
 use Rattle.lb_core.specs.declared.history.History.{History}
 use Rattle.lb_core.specs.Machine.{start}
 use Rattle.lb_core.specs.Legal.{run}
+use Rattle.lb_core.specs.Ranges.{entries_fit}
 use Rattle.lb_core.specs.OfTrace.{IsHistoryOf}
 use Rattle.lb_core.specs.Placed.{IsPlaced}
 use Rattle.lb_core.specs.Permitted.{IsPermitted}
+use Rattle.lb_core.specs.Replies.{ReplyAt}
 use Rattle.lb_core.specs.Passes.{PassAt}
-use Rattle.lb_serial.specs.Serial.{IsSerialHistory}
+use Rattle.lb_core.specs.Serial.{IsSerialHistory}
 use Rattle.lb_trace.specs.declared.trace.Trace.{Trace}
 use Rattle.lb_record.specs.History.{history_text}
 use Rattle.lb.specs.declared.words.Work.TheVariants.{Step}
 use Rattle.lb.specs.Answers.{Call, OfTrace, Took}
 
--- the history of a trace
+-- the serial history of a trace
 pub record IsTheHistory (t : Trace) (h : History) : Type 0 where
   -- it is legal, and holds each lane's rows, each once, in order
   pub history : IsHistoryOf t h
-  -- no other is
-  pub alone : (other : History) → IsHistoryOf t other → other ≡ h
-  -- the rows stand in file order, each with all that follows it
+  -- what each entry says is in the ranges of its text
+  pub in_range : entries_fit h.entries ≡ true
+  -- the rows stand in file order, each with all that follows it, over the newest versions and figures
   pub serial : IsSerialHistory t h
+  -- no other history is so
+  pub alone : (other : History) → IsSerialHistory t other → other ≡ h
+  -- each row has its reply
+  pub replied : (before later : List Entry) (e : Entry) → h.entries ≡ before ++ e ∷ later → ReplyAt h.header before e later e.what
   -- at every prefix each task stands at one place
   pub placed : (n : ℕ) → IsPlaced (run (take n h.entries) (start h.header))
   -- at every prefix each awake task may run there, or is asked to leave

@@ -1,7 +1,6 @@
 -- The first line of a trace that asks for what the run on one thread does not serve yet: a second
 -- CPU, a partition, a second lane, or a row other than a wake, a sleep or an exit.
-use Rattle.std.specs.Prelude.{ℕ, ◌+◌, nat_lt, Bool, true, false, not, if◌then◌else◌, Option, Some, None, List, [], ◌∷◌, length}
-use Rattle.std.specs.Option.{option_map}
+use Rattle.std.specs.Prelude.{ℕ, ◌+◌, nat_lt, if◌then◌else◌, Option, Some, None, List, [], ◌∷◌, length}
 use Rattle.lb_trace.specs.declared.trace.Row.{Row}
 use Rattle.lb_trace.specs.declared.trace.Trace.{Trace}
 use Rattle.lb_serial.specs.Served.{serves}

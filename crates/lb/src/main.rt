@@ -1,6 +1,8 @@
 //! A load balancer's machine, run over a trace.
 #![tactic(auto)]
 
+ghost use Rattle.std.specs.Prelude.{◌≡◌, ◌⊎◌, IfErr};
+
 mod later;
 mod once;
 mod status;
@@ -13,8 +15,11 @@ use std::process::ExitCode;
 use std::{env, io};
 use top::top;
 
-// The words after the program's name. Words that are not UTF-8 are no command.
-fn words_of(rt: &HostRuntime) -> Result<Vec<String>, Status> {
+// The words after the program's name. Words that are not UTF-8 are no command. What the system hands
+// over no clause of std says; so this one says of what fails alone.
+fn words_of(rt: &HostRuntime) -> Result<Vec<String>, Status>
+    ensures { IfErr result (λ status. (status ≡ Status.Usage) ⊎ (status ≡ Status.NoMemory)) }
+{
     let mut words = Vec::new(rt.alloc());
     match env::args(rt) {
         Ok(args) => {
@@ -41,6 +46,3 @@ fn main(rt: HostRuntime) -> ExitCode {
     };
     ExitCode::from(status.number())
 }
-
-#[cfg(test)]
-mod tests;

@@ -3,17 +3,17 @@ ghost use Rattle.lb_trace.specs.Accepted.{IsTrace};
 ghost use Rattle.lb_trace.specs.Grammar.{Gives};
 ghost use Rattle.lb.specs.Words.{work_of};
 ghost use Rattle.lb.specs.Later.{first_later};
-ghost use Rattle.lb.specs.Answers.{side, call_of, input_of, IsOutput, Works, Answers, Completes};
+ghost use Rattle.lb.specs.Answers.{side_of, call_of, input_of, IsOutput, Works, Answers, Completes};
 ghost use Rattle.lb.specs.Headline.{Headline};
 
 use crate::later::first_later;
 use crate::status::{Status, report};
 use crate::words::{Work, work_of};
 use lb_base::NoMemory;
-use lb_core::laws::{permitted, placed};
+use lb_core::laws::{one_serial_history, permitted, placed, replies};
 use lb_io::{ReadError, Sink, Source, read_all, write_all};
+use lb_ready::laws::entries_fit;
 use lb_record::history_text;
-use lb_serial::laws::one_history;
 use lb_serial::serial;
 use lb_topo::topology_text;
 use lb_trace::laws::accepted;
@@ -27,6 +27,7 @@ fn input_of(alloc: Global, work: Work, text: &[u8]) -> Result<Trace, TraceError>
     ensures accepted { IfOk result (λ trace. IsTrace trace) }
     ensures served { work ≡ Work.Step → IfOk result (λ trace. first_later trace ≡ None) }
 {
+    // A text that is accepted is a trace that keeps to its limits.
     accepted();
     let trace = Trace::read(alloc, text)?;
     match work {
@@ -50,6 +51,8 @@ fn output_of(alloc: Global, work: Work, trace: &Trace) -> Result<Vec<u8>, NoMemo
     match work {
         Work::Topo => topology_text(alloc, trace),
         Work::Step => {
+            // What the entries of a history of an accepted trace say is in range.
+            entries_fit();
             let history = serial(alloc, trace)?;
             history_text(alloc, &history.header, history.entries.as_slice())
         }
@@ -58,7 +61,8 @@ fn output_of(alloc: Global, work: Work, trace: &Trace) -> Result<Vec<u8>, NoMemo
 
 // The work of the words, before its status is reported.
 fn work<S: Source, O: Sink>(alloc: Global, words: &[String], src: &mut S, out: &mut O) -> Status
-    ensures { Works result (call_of (map string_bytes words.now) (side (S.left src.old) (S.left src.new) (S.faults src.old) (S.faults src.new)) (side (O.taken out.old) (O.taken out.new) (O.faults out.old) (O.faults out.new))) }
+    ensures { Works result
+        (call_of (map string_bytes words.now) (side_of S.left S.faults src.old src.new) (side_of O.taken O.faults out.old out.new)) }
 {
     let Some(work) = work_of(words) else {
         return Status::Usage;
@@ -96,14 +100,25 @@ pub fn once<S: Source, O: Sink, E: Sink>(
     out: &mut O,
     err: &mut E,
 ) -> Status
-    ensures answers { Answers result (call_of (map string_bytes words.now) (side (S.left src.old) (S.left src.new) (S.faults src.old) (S.faults src.new)) (side (O.taken out.old) (O.taken out.new) (O.faults out.old) (O.faults out.new))) (side (E.taken err.old) (E.taken err.new) (E.faults err.old) (E.faults err.new)) }
-    ensures completes { Completes result (call_of (map string_bytes words.now) (side (S.left src.old) (S.left src.new) (S.faults src.old) (S.faults src.new)) (side (O.taken out.old) (O.taken out.new) (O.faults out.old) (O.faults out.new))) (side (E.taken err.old) (E.taken err.new) (E.faults err.old) (E.faults err.new)) }
-    ensures headline { result ≡ Status.Done → work_of (map string_bytes words.now) ≡ Some Work.Step → Headline (call_of (map string_bytes words.now) (side (S.left src.old) (S.left src.new) (S.faults src.old) (S.faults src.new)) (side (O.taken out.old) (O.taken out.new) (O.faults out.old) (O.faults out.new))) }
+    ensures answers { Answers result
+        (call_of (map string_bytes words.now) (side_of S.left S.faults src.old src.new) (side_of O.taken O.faults out.old out.new))
+        (side_of E.taken E.faults err.old err.new) }
+    ensures completes { Completes result
+        (call_of (map string_bytes words.now) (side_of S.left S.faults src.old src.new) (side_of O.taken O.faults out.old out.new))
+        (side_of E.taken E.faults err.old err.new) }
+    ensures headline { result ≡ Status.Done → work_of (map string_bytes words.now) ≡ Some Work.Step → Headline
+        (call_of (map string_bytes words.now) (side_of S.left S.faults src.old src.new) (side_of O.taken O.faults out.old out.new)) }
 {
+    // What the headline rests on. The text that was read is a trace that keeps to its limits; after each
+    // legal front every task stands at one place, where it may run unless it is asked to leave; each look
+    // takes what the rules pick, and each row has its reply; no other history of the trace is serial; and
+    // what the entries of a history say is in range.
     accepted();
     placed();
     permitted();
-    one_history();
+    replies();
+    one_serial_history();
+    entries_fit();
     let status = work(alloc, words, src, out);
     report(alloc, status, err)
 }

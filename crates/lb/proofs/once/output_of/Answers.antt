@@ -1,10 +1,6 @@
 use Rattle.std.proofs.Common.{rules}
-use Rattle.lb.proofs.Building.{can_be_built}
 use Rattle.lb.proofs.Serving.{is_served}
 use Rattle.lb.proofs.once.output_of.Goals as goal
 
 pub serial-requires : goal.serial-requires
 serial-requires c = is_served c.args.trace.now c.requires.accepted (c.requires.served (search rules))
-
-pub topology_text-requires : goal.topology_text-requires
-topology_text-requires c = can_be_built c.args.trace.now c.requires.accepted
