@@ -103,10 +103,6 @@ parts_are : (r : Reading) (o : Option (List Mask)) → length r.cpus ≤ MAX_CPU
 parts_are r None few are = all_cpus (length r.cpus) few
 parts_are r (Some parts) few are = are.partition
 
-one_part : (o : Option (List Mask)) (parts : List Mask) → is_some o ≡ false → unwrap_or o parts ≡ parts
-one_part None parts none = refl
-one_part (Some other) parts none = absurd (cc)
-
 is_trace : (r : Reading) → IsWhole r → IsTrace (trace_of r)
 unfolding trace_of
 is_trace r whole =
@@ -143,7 +139,6 @@ is_trace r whole =
       most_rows = h.rows.most;
       rows = h.rows.all;
       ticks = h.rows.ticks;
-      one_part = one_part r.parts (first_cpus (length r.cpus) ∷ []);
     }
 
 trace_is : (t : Trace) (o : Result Reading (ℕ × Code)) → ((r : Reading) → o ≡ Ok r → IsWhole r) → (o >>= λ r. Ok (trace_of r)) ≡ Ok t → IsTrace t

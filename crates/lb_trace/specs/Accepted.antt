@@ -4,7 +4,6 @@ use Rattle.std.specs.Prelude.{◌≡◌, ℕ, ℤ, pos, negsuc, ◌<◌, ◌≤�
 use Rattle.std.specs.List.{list_all}
 use Rattle.lb_base.specs.declared.mask.Mask.{Mask}
 use Rattle.lb_base.specs.declared.mask.TheConstants.{MAX_CPUS}
-use Rattle.lb_base.specs.Mask.{first_cpus}
 use Rattle.lb_base.specs.Sets.{is_empty, is_below}
 use Rattle.lb_levels.specs.declared.cpu_row.CpuRow.{CpuRow}
 use Rattle.lb_levels.specs.Faults.{fault_of, parts_fault_of}
@@ -93,4 +92,3 @@ pub record IsTrace (t : Trace) : Type 0 where
   pub most_rows : length t.rows ≤ MAX_ROWS
   pub rows : list_all (is_row t.header) t.rows ≡ true
   pub ticks : ticks_agree t.rows ≡ true
-  pub one_part : t.has_parts ≡ false → t.header.parts ≡ first_cpus (length t.header.cpus) ∷ []

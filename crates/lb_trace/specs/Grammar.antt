@@ -1,6 +1,6 @@
 -- The text of a trace, line after line: what was read with a line more, and which trace the whole text
 -- is, or its first bad line and that line's code.
-use Rattle.std.specs.Prelude.{◌≡◌, ℕ, ◌+◌, ◌==◌, nat_le, Bool, true, false, List, [], ◌∷◌, ◌++◌, length, if◌then◌else◌, Option, Some, None, is_some, unwrap_or, Result, Ok, Err}
+use Rattle.std.specs.Prelude.{◌≡◌, ℕ, ◌+◌, ◌==◌, nat_le, Bool, true, false, List, [], ◌∷◌, ◌++◌, length, if◌then◌else◌, Option, Some, None, unwrap_or, Result, Ok, Err}
 use Rattle.lb_base.specs.Mask.{first_cpus}
 use Rattle.lb_text.specs.declared.marks.TheConstants.{COMMA, LINE_FEED}
 use Rattle.lb_fields.specs.Parts.{parts}
@@ -80,7 +80,6 @@ trace_of r =
         tasks = r.tasks;
       };
       rows = r.rows;
-      has_parts = is_some r.parts;
     }
 
 -- the trace that a text is, or its first bad line and that line's first code; line 0 stands for the text

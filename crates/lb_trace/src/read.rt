@@ -68,7 +68,6 @@ fn trace_of(alloc: Global, reading: Reading) -> Result<Trace, NoMemory>
         tasks,
         rows,
     } = reading;
-    let has_parts = parts.is_some();
     let parts = match parts {
         Some(parts) => parts,
         None => Items::from_slice(alloc, &[Mask::all(cpus.len() as u32)])?,
@@ -80,11 +79,7 @@ fn trace_of(alloc: Global, reading: Reading) -> Result<Trace, NoMemory>
         lanes: lanes.unwrap_or(0),
         tasks,
     };
-    Ok(Trace {
-        header,
-        rows,
-        has_parts,
-    })
+    Ok(Trace { header, rows })
 }
 
 impl Trace {

@@ -136,8 +136,6 @@ pub struct Trace {
     pub header: Header,
     /// What happens, in file order: at most `MAX_ROWS` rows.
     pub rows: Rows,
-    /// Whether the text has a line `parts`. Without it the header has one mask of all CPUs.
-    pub has_parts: bool,
 }
 
 /// Why a line is refused (docs/rules/trace.md has the whole table).
@@ -181,8 +179,6 @@ pub enum Code {
     Ticks,
     /// The line is none of a history at its place.
     BadLine,
-    /// The line is one that a later version serves.
-    Later,
 }
 
 impl Code {
@@ -212,7 +208,6 @@ impl Code {
             Code::Mask => "mask",
             Code::Ticks => "ticks",
             Code::BadLine => "bad-line",
-            Code::Later => "later",
         }
     }
 }
