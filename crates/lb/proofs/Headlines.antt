@@ -1,5 +1,5 @@
 -- Where the work of `step` is done, what was written is the text of the trace's one serial history.
-use Rattle.std.proofs.Common.{◌≡◌, ℕ, zero, suc, List, [], ◌∷◌, ◌++◌, take, Option, Some, None, Result, Ok, Err, refl, sym, ◌∙◌, ap, subst}
+use Rattle.std.proofs.Common.{◌≡◌, ℕ, zero, suc, List, [], ◌∷◌, ◌++◌, take, Option, Some, None, Ok, sym, ◌∙◌, ap, subst}
 use Rattle.lb_core.specs.declared.entry.Entry.{Entry}
 use Rattle.lb_core.specs.declared.history.History.{History}
 use Rattle.lb_core.specs.Machine.{Machine, start}
@@ -9,7 +9,6 @@ use Rattle.lb_core.specs.Placed.{IsPlaced, PlacedAlways}
 use Rattle.lb_core.specs.Permitted.{IsPermitted, PermittedAlways}
 use Rattle.lb_core.specs.Replies.{RepliesAlways}
 use Rattle.lb_core.specs.Passes.{PassesAlways}
-use Rattle.lb_trace.specs.declared.trace.Code.{Code}
 use Rattle.lb_trace.specs.declared.trace.Header.{Header}
 use Rattle.lb_trace.specs.declared.trace.Trace.{Trace}
 use Rattle.lb_trace.specs.Accepted.{IsTrace, IsHeader}
@@ -24,10 +23,8 @@ use Rattle.std.specs.Io.KnownBytes.{IsAtEnd}
 use Rattle.lb.specs.declared.words.Work.{Work}
 use Rattle.lb.specs.declared.words.Work.TheVariants.{Step, Topo}
 use Rattle.lb.specs.Words.{work_of}
-use Rattle.lb.specs.Later.{first_later}
-use Rattle.lb.specs.Answers.{Side, Call, Took, input_of, served_by, unless_later, IsOutput, OfTrace, TookOutput, Answers}
+use Rattle.lb.specs.Answers.{Side, Call, Took, IsOutput, OfTrace, TookOutput, Answers}
 use Rattle.lb.specs.Headline.{IsTheHistory, Headline}
-use Rattle.lb.proofs.Serving.{is_served}
 
 -- the laws that the headline stands on
 pub record Laws : Type 0 where
@@ -59,35 +56,22 @@ the_history law t h given s =
       passes = λ before later e is. law.passes h.header before later e (subst (λ (es : List Entry). IsLegalFront h.header es) is s.of_trace.legal.0);
     }
 
--- ---- what `step` read
-none_later : (t s : Trace) (later : Option ℕ) → unless_later t later ≡ Ok s → (t ≡ s) × (later ≡ None)
-none_later t s None is = (cc, refl)
-none_later t s (Some line) is = absurd (cc)
-
-served_step : (reading : Result Trace (ℕ × Code)) (t : Trace) → served_by Step reading ≡ Ok t → (reading ≡ Ok t) × (first_later t ≡ None)
-served_step (Err refusal) t is = absurd (cc)
-served_step (Ok s) t is =
-    let n = none_later s t (first_later s) is in
-    (ap (λ (x : Trace). Ok x) n.0, ap first_later (sym n.0) ∙ n.1)
-
-step_reads : (text : List ℕ) (t : Trace) → input_of Step text ≡ Ok t → (reading_of text ≡ Ok t) × (first_later t ≡ None)
-unfolding input_of
-step_reads text t is = served_step (reading_of text) t is
-
 -- ---- the headline
 abbrev TheText : Side → Trace → Type 0
 TheText out t = (h : History) × IsTheHistory t h × Took out (history_text h.header h.entries)
 
-the_text : Laws → (out : Side) (text : List ℕ) (t : Trace) → input_of Step text ≡ Ok t → (answer : List ℕ) × IsOutput Step t answer × Took out answer → TheText out t
+the_text : Laws → (out : Side) (text : List ℕ) (t : Trace) → reading_of text ≡ Ok t
+    → (answer : List ℕ) × IsOutput Step t answer × Took out answer → TheText out t
 the_text law out text t is (answer, (h, serial, same), took) =
-    let r = step_reads text t is in
-    (h, the_history law t h (law.accepted text t r.0) serial, subst (λ (bytes : List ℕ). Took out bytes) same took)
+    (h, the_history law t h (law.accepted text t is) serial, subst (λ (bytes : List ℕ). Took out bytes) same took)
 
-of_trace : Laws → (left : Option (List ℕ)) (out : Side) → IfSome left (λ text. (t : Trace) × (input_of Step text ≡ Ok t) × ((answer : List ℕ) × IsOutput Step t answer × Took out answer)) → IfSome left (λ text. (t : Trace) × (input_of Step text ≡ Ok t) × TheText out t)
+of_trace : Laws → (left : Option (List ℕ)) (out : Side)
+    → IfSome left (λ text. (t : Trace) × (reading_of text ≡ Ok t) × ((answer : List ℕ) × IsOutput Step t answer × Took out answer))
+    → IfSome left (λ text. (t : Trace) × (reading_of text ≡ Ok t) × TheText out t)
 of_trace law None out h = tt
 of_trace law (Some text) out (t, is, a) = (t, is, the_text law out text t is a)
 
-step_done : Laws → (c : Call) (work : Work) → work ≡ Step → IsAtEnd c.source.after × OfTrace work c (TookOutput c work) → Headline c
+step_done : Laws → (c : Call) (work : Work) → work ≡ Step → IsAtEnd c.source.after × OfTrace c (TookOutput c work) → Headline c
 step_done law c Step is w = (w.0, of_trace law c.source.before c.out w.1)
 step_done law c Topo is w = absurd (cc)
 

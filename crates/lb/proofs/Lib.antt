@@ -1,4 +1,3 @@
 pub mod TooLong
 pub mod Reporting
-pub mod Serving
 pub mod Headlines

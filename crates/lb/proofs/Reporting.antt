@@ -6,7 +6,7 @@ use Rattle.lb_trace.specs.declared.trace.Trace.{Trace}
 use Rattle.lb.specs.declared.status.Status.{Status}
 use Rattle.lb.specs.declared.status.Status.TheVariants as status
 use Rattle.lb.specs.declared.words.Work.{Work}
-use Rattle.lb.specs.Answers.{Side, Call, IsUntouched, input_of, Works, Told, Tells, Reports, Answers, Completes}
+use Rattle.lb.specs.Answers.{Side, Call, IsUntouched, Works, Told, Tells, Reports, Answers, Completes}
 
 told : (s : Status) (c : Call) (error : Side) → Works s c → Told s error → Answers s c error
 told status.Done c error w t = (w, t)

@@ -7,7 +7,6 @@ use Rattle.lb_io.specs.Faults.{Rose}
 use Rattle.lb_io.specs.Moved.{AppendsFront}
 use Rattle.lb_core.specs.declared.history.History.{History}
 use Rattle.lb_trace.specs.declared.trace.Code.{Code}
-use Rattle.lb_trace.specs.declared.trace.Code.TheVariants.{Later}
 use Rattle.lb_trace.specs.declared.trace.Trace.{Trace}
 use Rattle.lb_trace.specs.Codes.{code_word}
 use Rattle.lb_trace.specs.Grammar.{reading_of}
@@ -19,7 +18,6 @@ use Rattle.lb.specs.declared.status.Status.TheVariants as status
 use Rattle.lb.specs.declared.words.Work.{Work}
 use Rattle.lb.specs.declared.words.Work.TheVariants.{Step, Topo}
 use Rattle.lb.specs.Words.{work_of}
-use Rattle.lb.specs.Later.{first_later}
 
 -- ---- statuses
 -- the exit status
@@ -79,20 +77,6 @@ abbrev pub call_of : List (List ℕ) → Side → Side → Call
 call_of words source out = record { words = words; source = source; out = out }
 
 -- ---- the works
-abbrev pub unless_later : Trace → Option ℕ → Result Trace (ℕ × Code)
-unless_later t None = Ok t
-unless_later t (Some line) = Err (line, Later)
-
--- the trace that was read, as far as the work serves it yet
-abbrev pub served_by : Work → Result Trace (ℕ × Code) → Result Trace (ℕ × Code)
-served_by Topo reading = reading
-served_by Step (Err refusal) = Err refusal
-served_by Step (Ok t) = unless_later t (first_later t)
-
--- the trace that the work reads from a text, or the line and the code of the refusal
-unfoldable pub input_of : Work → List ℕ → Result Trace (ℕ × Code)
-input_of work text = served_by work (reading_of text)
-
 -- the text that the work writes for a trace
 abbrev pub IsOutput : Work → Trace → List ℕ → Type 0
 IsOutput Step t text = (h : History) × IsSerialHistory t h × (text ≡ history_text h.header h.entries)
@@ -102,9 +86,9 @@ IsOutput Topo t text = text ≡ topology_text t
 abbrev pub OfWork : Call → (Work → Type 0) → Type 0
 OfWork c P = (work : Work) × (work_of c.words ≡ Some work) × P work
 
--- the source told a trace that the work serves, and P holds of it
-abbrev pub OfTrace : Work → Call → (Trace → Type 0) → Type 0
-OfTrace work c P = IfSome c.source.before (λ text. (t : Trace) × (input_of work text ≡ Ok t) × P t)
+-- the source told a trace, and P holds of it
+abbrev pub OfTrace : Call → (Trace → Type 0) → Type 0
+OfTrace c P = IfSome c.source.before (λ text. (t : Trace) × (reading_of text ≡ Ok t) × P t)
 
 -- the out sink took the whole text of the work
 abbrev pub TookOutput : Call → Work → Trace → Type 0
@@ -116,11 +100,11 @@ TookOutputFront c work t = (text : List ℕ) × IsOutput work t text × TookFron
 
 -- the work alone, before its status is reported
 abbrev pub Works : Status → Call → Type 0
-Works status.Done c = OfWork c (λ work. IsAtEnd c.source.after × OfTrace work c (TookOutput c work))
+Works status.Done c = OfWork c (λ work. IsAtEnd c.source.after × OfTrace c (TookOutput c work))
 Works status.ReadFault c = OfWork c (λ work. HadFault c.source) × IsUntouched c.out
 Works status.Usage c = (work_of c.words ≡ None) × IsUntouched c.source × IsUntouched c.out
-Works (status.Refused line code) c = OfWork c (λ work. IfSome c.source.before (λ text. input_of work text ≡ Err (line, code))) × IsUntouched c.out
-Works status.WriteFault c = HadFault c.out × OfWork c (λ work. OfTrace work c (TookOutputFront c work))
+Works (status.Refused line code) c = OfWork c (λ work. IfSome c.source.before (λ text. reading_of text ≡ Err (line, code))) × IsUntouched c.out
+Works status.WriteFault c = HadFault c.out × OfWork c (λ work. OfTrace c (TookOutputFront c work))
 Works status.NoMemory c = IsUntouched c.out
 
 -- ---- the report
@@ -147,9 +131,9 @@ abbrev pub Answers : Status → Call → Side → Type 0
 Answers status.WriteFault c error = (Works status.WriteFault c × Told status.WriteFault error) ⊎ ((was : Status) × Works was c × ToldFront was error)
 Answers s c error = Works s c × Told s error
 
--- where nothing failed, a trace that the work serves is answered
+-- where nothing failed, an accepted trace is answered
 abbrev pub Completes : Status → Call → Side → Type 0
 Completes s c error =
-    (work : Work) (text : List ℕ) (t : Trace) → work_of c.words ≡ Some work → c.source.before ≡ Some text → input_of work text ≡ Ok t
+    (work : Work) (text : List ℕ) (t : Trace) → work_of c.words ≡ Some work → c.source.before ≡ Some text → reading_of text ≡ Ok t
     → (HadFault c.source → ⊥) → (HadFault c.out → ⊥) → (HadFault error → ⊥)
     → (s ≡ status.Done) ⊎ (s ≡ status.NoMemory)

@@ -16,7 +16,6 @@ use Rattle.lb_core.specs.Passes.{PassAt}
 use Rattle.lb_core.specs.Serial.{IsSerialHistory}
 use Rattle.lb_trace.specs.declared.trace.Trace.{Trace}
 use Rattle.lb_record.specs.History.{history_text}
-use Rattle.lb.specs.declared.words.Work.TheVariants.{Step}
 use Rattle.lb.specs.Answers.{Call, OfTrace, Took}
 
 -- the serial history of a trace
@@ -40,4 +39,4 @@ pub record IsTheHistory (t : Trace) (h : History) : Type 0 where
 
 -- the source was read to its end, and the out sink took the text of the history of its trace
 abbrev pub Headline : Call → Type 0
-Headline c = IsAtEnd c.source.after × OfTrace Step c (λ t. (h : History) × IsTheHistory t h × Took c.out (history_text h.header h.entries))
+Headline c = IsAtEnd c.source.after × OfTrace c (λ t. (h : History) × IsTheHistory t h × Took c.out (history_text h.header h.entries))

@@ -1,12 +1,9 @@
-ghost use Rattle.std.specs.Prelude.{◌≡◌, map, Some, None, IfOk, string_bytes};
+ghost use Rattle.std.specs.Prelude.{◌≡◌, map, Some, IfOk, string_bytes};
 ghost use Rattle.lb_trace.specs.Accepted.{IsTrace};
-ghost use Rattle.lb_trace.specs.Grammar.{Gives};
 ghost use Rattle.lb.specs.Words.{work_of};
-ghost use Rattle.lb.specs.Later.{first_later};
-ghost use Rattle.lb.specs.Answers.{side_of, call_of, input_of, IsOutput, Works, Answers, Completes};
+ghost use Rattle.lb.specs.Answers.{side_of, call_of, IsOutput, Works, Answers, Completes};
 ghost use Rattle.lb.specs.Headline.{Headline};
 
-use crate::later::first_later;
 use crate::status::{Status, report};
 use crate::words::{Work, work_of};
 use lb_base::NoMemory;
@@ -20,32 +17,9 @@ use lb_trace::laws::accepted;
 use lb_trace::{Code, MAX_BYTES, Trace, TraceError};
 use std::alloc::Global;
 
-// The trace that the work reads from a text.
-#[tactic(auto, unfolding(crate::specs::Answers::input_of))]
-fn input_of(alloc: Global, work: Work, text: &[u8]) -> Result<Trace, TraceError>
-    ensures value { Gives result (input_of work text.now) }
-    ensures accepted { IfOk result (λ trace. IsTrace trace) }
-    ensures served { work ≡ Work.Step → IfOk result (λ trace. first_later trace ≡ None) }
-{
-    // A text that is accepted is a trace that keeps to its limits.
-    accepted();
-    let trace = Trace::read(alloc, text)?;
-    match work {
-        Work::Topo => Ok(trace),
-        Work::Step => match first_later(&trace) {
-            Some(line) => Err(TraceError::Refused {
-                line,
-                code: Code::Later,
-            }),
-            None => Ok(trace),
-        },
-    }
-}
-
 // The text that the work writes for a trace.
 fn output_of(alloc: Global, work: Work, trace: &Trace) -> Result<Vec<u8>, NoMemory>
-    requires accepted { IsTrace trace.now }
-    requires served { work ≡ Work.Step → first_later trace.now ≡ None }
+    requires { IsTrace trace.now }
     ensures { IfOk result (λ text. IsOutput work trace.now text.items) }
 {
     match work {
@@ -78,7 +52,9 @@ fn work<S: Source, O: Sink>(alloc: Global, words: &[String], src: &mut S, out: &
             };
         }
     };
-    let trace = match input_of(alloc, work, &text) {
+    // A text that is accepted is a trace that keeps to its limits.
+    accepted();
+    let trace = match Trace::read(alloc, &text) {
         Ok(trace) => trace,
         Err(TraceError::NoMemory) => return Status::NoMemory,
         Err(TraceError::Refused { line, code }) => return Status::Refused { line, code },
