@@ -14,15 +14,20 @@ or_none : {X : Type 0} (a : Option X) → option_or a None ≡ a
 or_none None = refl
 or_none (Some x) = refl
 
-one_more : {X : Type 0} (p : X → Bool) (o : Option X) (x : X) (xs : List X) → option_or (find p (reverse (x ∷ xs))) o ≡ option_or (find p (reverse xs)) (option_or (cond (p x) (Some x) None) o)
-one_more p o x xs = ap (λ a. option_or a o) (ap (find p) (reverse-append (x ∷ []) xs) ∙ find-append p (reverse xs) (x ∷ [])) ∙ or_else (find p (reverse xs)) (cond (p x) (Some x) None) o
+one_more : {X : Type 0} (p : X → Bool) (o : Option X) (x : X) (xs : List X)
+    → option_or (find p (reverse (x ∷ xs))) o ≡ option_or (find p (reverse xs)) (option_or (cond (p x) (Some x) None) o)
+one_more p o x xs = ap (λ a. option_or a o)
+    (ap (find p) (reverse-append (x ∷ []) xs) ∙ find-append p (reverse xs) (x ∷ []))
+    ∙ or_else (find p (reverse xs)) (cond (p x) (Some x) None) o
 
 last_from_back : {X : Type 0} (p : X → Bool) (o : Option X) (xs : List X) → last_or o (filter p xs) ≡ option_or (find p (reverse xs)) o
 last_from_back p o [] = refl
 last_from_back p o (x ∷ xs) =
     elim (cases_Bool (p x)) [
-      | inl passes ↦ rw passes (last_from_back p (Some x) xs) ∙ sym (one_more p o x xs ∙ ap (λ t. option_or (find p (reverse xs)) (option_or (cond t (Some x) None) o)) passes)
-      | inr fails ↦ rw fails (last_from_back p o xs) ∙ sym (one_more p o x xs ∙ ap (λ t. option_or (find p (reverse xs)) (option_or (cond t (Some x) None) o)) fails)
+      | inl passes ↦ rw passes (last_from_back p (Some x) xs)
+          ∙ sym (one_more p o x xs ∙ ap (λ t. option_or (find p (reverse xs)) (option_or (cond t (Some x) None) o)) passes)
+      | inr fails ↦ rw fails (last_from_back p o xs)
+          ∙ sym (one_more p o x xs ∙ ap (λ t. option_or (find p (reverse xs)) (option_or (cond t (Some x) None) o)) fails)
     ]
 
 pub last_passing : {X : Type 0} (p : X → Bool) (xs : List X) → last_or None (filter p xs) ≡ find p (reverse xs)

@@ -20,7 +20,8 @@ Picks-skips p above n (Some b) h fails = record {
   first = h.first;
 }
 
-pub Picks-first : (p : ℕ → Bool) (above : ℕ → ℕ → Bool) (n : ℕ) → IsRanking above → NonePasses p n → p n ≡ true → IsFirstGreatest p above (n + 1) n
+pub Picks-first : (p : ℕ → Bool) (above : ℕ → ℕ → Bool) (n : ℕ) → IsRanking above → NonePasses p n → p n ≡ true
+    → IsFirstGreatest p above (n + 1) n
 Picks-first p above n order none passes = record {
   within = omega arith;
   passes = passes;
@@ -28,7 +29,8 @@ Picks-first p above n order none passes = record {
   first = λ k lt some. absurd (both_ways (p k) (none k lt) some);
 }
 
-pub Picks-keeps : (p : ℕ → Bool) (above : ℕ → ℕ → Bool) (n b : ℕ) → IsFirstGreatest p above n b → above n b ≡ false → IsFirstGreatest p above (n + 1) b
+pub Picks-keeps : (p : ℕ → Bool) (above : ℕ → ℕ → Bool) (n b : ℕ) → IsFirstGreatest p above n b → above n b ≡ false
+    → IsFirstGreatest p above (n + 1) b
 Picks-keeps p above n b h below = record {
   within = omega (arith, h.within);
   passes = h.passes;
@@ -41,16 +43,19 @@ tops : (above : ℕ → ℕ → Bool) (n b k : ℕ) → IsRanking above → abov
 tops above n b k order over level =
     elim (cases_Bool (above n k)) [ inl t ↦ t | inr f ↦ absurd (both_ways (above n b) (order.chain n k b f level) over) ]
 
-pub Picks-takes : (p : ℕ → Bool) (above : ℕ → ℕ → Bool) (n b : ℕ) → IsRanking above → IsFirstGreatest p above n b → p n ≡ true → above n b ≡ true → IsFirstGreatest p above (n + 1) n
+pub Picks-takes : (p : ℕ → Bool) (above : ℕ → ℕ → Bool) (n b : ℕ) → IsRanking above → IsFirstGreatest p above n b
+    → p n ≡ true → above n b ≡ true → IsFirstGreatest p above (n + 1) n
 Picks-takes p above n b order h passes over = record {
   within = omega arith;
   passes = passes;
-  greatest = below_more _ _ (λ k lt some. order.one_way n k (tops above n b k order over (h.greatest k lt some))) (λ _. level above n order);
+  greatest = below_more _ _ (λ k lt some. order.one_way n k (tops above n b k order over (h.greatest k lt some)))
+      (λ _. level above n order);
   first = λ k lt some. tops above n b k order over (h.greatest k lt some);
 }
 
 -- there is one answer
-pub IsFirstGreatest-unique : (p : ℕ → Bool) (above : ℕ → ℕ → Bool) (n b c : ℕ) → IsFirstGreatest p above n b → IsFirstGreatest p above n c → b ≡ c
+pub IsFirstGreatest-unique : (p : ℕ → Bool) (above : ℕ → ℕ → Bool) (n b c : ℕ) → IsFirstGreatest p above n b
+    → IsFirstGreatest p above n c → b ≡ c
 IsFirstGreatest-unique p above n b c h k =
     elim (cases_order b c) [
       | inl e ↦ e
@@ -77,10 +82,13 @@ not_false t e = ap not e
 pub greatest_passes : (p : ℕ → Bool) (above : ℕ → ℕ → Bool) (n b : ℕ) → IsFirstGreatest p above n b → is_first_greatest p above n b ≡ true
 unfolding is_first_greatest
 greatest_passes p above n b at =
-    and_from _ _ (and_from _ _ at.passes (all_of (λ k. not (p k) || not (above k b)) 0 n (λ k lo hi. spared (p k) (not (above k b)) (λ passes. not_false (above k b) (at.greatest k (omega (arith, hi)) passes)))))
+    and_from _ _ (and_from _ _ at.passes
+    (all_of (λ k. not (p k) || not (above k b)) 0 n
+    (λ k lo hi. spared (p k) (not (above k b)) (λ passes. not_false (above k b) (at.greatest k (omega (arith, hi)) passes)))))
     (all_of (λ k. not (p k) || above b k) 0 b (λ k lo hi. spared (p k) (above b k) (λ passes. at.first k (omega (arith, hi)) passes)))
 
-pub passes_greatest : (p : ℕ → Bool) (above : ℕ → ℕ → Bool) (n b : ℕ) → b < n → is_first_greatest p above n b ≡ true → IsFirstGreatest p above n b
+pub passes_greatest : (p : ℕ → Bool) (above : ℕ → ℕ → Bool) (n b : ℕ) → b < n → is_first_greatest p above n b ≡ true
+    → IsFirstGreatest p above n b
 unfolding is_first_greatest
 passes_greatest p above n b within test =
     let outer = and_parts _ _ test in
@@ -88,16 +96,21 @@ passes_greatest p above n b within test =
     record {
       within = within;
       passes = inner.0;
-      greatest = λ k lt passes. not-true (above k b) (asked (p k) (not (above k b)) (all_at (λ k. not (p k) || not (above k b)) 0 n inner.1 k (omega arith) (omega (arith, lt))) passes);
-      first = λ k lt passes. asked (p k) (above b k) (all_at (λ k. not (p k) || above b k) 0 b outer.1 k (omega arith) (omega (arith, lt))) passes;
+      greatest = λ k lt passes. not-true (above k b)
+          (asked (p k) (not (above k b)) (all_at (λ k. not (p k) || not (above k b)) 0 n inner.1 k (omega arith)
+          (omega (arith, lt))) passes);
+      first = λ k lt passes. asked (p k) (above b k)
+          (all_at (λ k. not (p k) || above b k) 0 b outer.1 k (omega arith) (omega (arith, lt))) passes;
     }
 
 -- somebody is the first of the greatest, unless nobody passes
 some_greatest : (p : ℕ → Bool) (above : ℕ → ℕ → Bool) → IsRanking above → (n : ℕ) → (o : Option ℕ) × Picks p above n o
 some_greatest p above order zero = (None, λ k lt. absurd (omega (arith, lt)))
-some_greatest p above order (suc n) = let last = some_greatest p above order n in subst (λ (m : ℕ). (o : Option ℕ) × Picks p above m o) (add-one n) (one_more p above order n last.0 last.1)
+some_greatest p above order (suc n) = let last = some_greatest p above order n in
+    subst (λ (m : ℕ). (o : Option ℕ) × Picks p above m o) (add-one n) (one_more p above order n last.0 last.1)
   where
-    one_more : (p : ℕ → Bool) (above : ℕ → ℕ → Bool) → IsRanking above → (n : ℕ) (o : Option ℕ) → Picks p above n o → (q : Option ℕ) × Picks p above (n + 1) q
+    one_more : (p : ℕ → Bool) (above : ℕ → ℕ → Bool) → IsRanking above → (n : ℕ) (o : Option ℕ) → Picks p above n o
+        → (q : Option ℕ) × Picks p above (n + 1) q
     one_more p above order n None none =
         elim (cases_Bool (p n)) [
           | inl passes ↦ (Some n, Picks-first p above n order none passes)
@@ -115,7 +128,9 @@ some_greatest p above order (suc n) = let last = some_greatest p above order n i
 found : (p : ℕ → Bool) (above : ℕ → ℕ → Bool) (n : ℕ) (o : Option ℕ) → Picks p above n o → first_greatest p above n ≡ o
 unfolding first_greatest
 found p above n None none =
-    find_none (is_first_greatest p above n) 0 n (λ k lo hi. false_from_ne_true _ (λ test. both_ways (p k) (none k (omega (arith, hi))) (passes_greatest p above n k (omega (arith, hi)) test).passes))
+    find_none (is_first_greatest p above n) 0 n
+    (λ k lo hi. false_from_ne_true _ (λ test. both_ways (p k) (none k (omega (arith, hi)))
+    (passes_greatest p above n k (omega (arith, hi)) test).passes))
 found p above n (Some b) at =
     find_least (is_first_greatest p above n) 0 n b (omega arith) (omega (arith, at.within)) (greatest_passes p above n b at)
     (λ k lo hi. false_from_ne_true _ (λ test.

@@ -24,7 +24,8 @@ pub filter_more : (p : ℕ → Bool) (n : ℕ) → p n ≡ true → filter p (ra
 filter_more p n passes = ap (filter p) (from_zero n) ∙ filter-append p (range_with_len 0 n) (n ∷ []) ∙ rw passes refl
 
 pub filter_same : (p : ℕ → Bool) (n : ℕ) → p n ≡ false → filter p (range_with_len 0 (n + 1)) ≡ filter p (range_with_len 0 n)
-filter_same p n fails = ap (filter p) (from_zero n) ∙ filter-append p (range_with_len 0 n) (n ∷ []) ∙ rw fails (append-nil (filter p (range_with_len 0 n)))
+filter_same p n fails = ap (filter p) (from_zero n) ∙ filter-append p (range_with_len 0 n) (n ∷ [])
+    ∙ rw fails (append-nil (filter p (range_with_len 0 n)))
 
 pub map_range_more : {X : Type 0} (f : ℕ → X) (n : ℕ) → map f (range_with_len 0 (n + 1)) ≡ map f (range_with_len 0 n) ++ f n ∷ []
 map_range_more f n = ap (map f) (from_zero n) ∙ map_push f (range_with_len 0 n) n
@@ -35,8 +36,18 @@ one_joins s k i =
     elim (cases_order i k) [
       | inl same ↦ rw (le-ltb i k (omega (arith, same)), eq-eqb i k same, lt-ltb i (k + 1) (omega (arith, same)), ap s same) refl
       | inr other ↦ elim other [
-        | inl below ↦ rw (lt-ltb i k below, ne_eqb i k (λ e. omega (arith, e, below)), lt-ltb i (k + 1) (omega (arith, below))) (or_false (s i))
-        | inr above ↦ rw (le-ltb i k (omega (arith, above)), ne_eqb i k (λ e. omega (arith, e, above)), le-ltb i (k + 1) (omega (arith, above))) refl
+        | inl below ↦ rw (
+          lt-ltb i k below,
+          ne_eqb i k (λ e. omega (arith, e, below)),
+          lt-ltb i (k + 1)
+              (omega (arith, below)),
+        ) (or_false (s i))
+        | inr above ↦ rw (
+          le-ltb i k (omega (arith, above)),
+          ne_eqb i k (λ e. omega (arith, e, above)),
+          le-ltb i
+              (k + 1) (omega (arith, above)),
+        ) refl
       ]
     ]
   where
@@ -51,7 +62,8 @@ find_none p a zero fails = refl
 find_none p a (suc n) fails =
     rw (fails a (omega arith) (omega arith)) (find_none p (a + 1) n (λ k lo hi. fails k (omega (arith, lo)) (omega (arith, hi))))
 
-pub find_least : (p : ℕ → Bool) (a n c : ℕ) → a ≤ c → c < a + n → p c ≡ true → ((k : ℕ) → a ≤ k → k < c → p k ≡ false) → find p (range_with_len a n) ≡ Some c
+pub find_least : (p : ℕ → Bool) (a n c : ℕ) → a ≤ c → c < a + n → p c ≡ true → ((k : ℕ) → a ≤ k → k < c → p k ≡ false)
+    → find p (range_with_len a n) ≡ Some c
 find_least p a zero c from within passes least = absurd (omega (arith, from, within))
 find_least p a (suc n) c from within passes least =
     elim (cases_eq a c) [
@@ -130,7 +142,8 @@ found_at p n i e = let at = found_from p 0 n i e in (omega (arith, at.0), at.1)
     found_from p a zero i e = absurd (cc)
     found_from p a (suc n) i e =
         elim (cases_Bool (p a)) [
-          | inl passes ↦ let same : Some a ≡ Some i = sym (rw passes refl) ∙ e in let here : a ≡ i = cc in (omega (arith, here), ap p (sym here) ∙ passes)
+          | inl passes ↦ let same : Some a ≡ Some i = sym (rw passes refl) ∙ e in let here : a ≡ i = cc in
+              (omega (arith, here), ap p (sym here) ∙ passes)
           | inr fails ↦ let rest = found_from p (a + 1) n i (sym (rw fails refl) ∙ e) in (omega (arith, rest.0), rest.1)
         ]
 

@@ -49,18 +49,22 @@ passed_over p n s fails h = record {
 }
 
 set_there : (n s k : ℕ) → s < 2 ^ n → k ≡ n → bit_at (1 * 2 ^ n + s) k ≡ 1
-set_there n s k small same = bit_at_cat_high 1 n s k small (omega (arith, same)) ∙ ap (bit_at 1) (let z : k - n ≡ 0 = omega (arith, same) in z)
+set_there n s k small same = bit_at_cat_high 1 n s k small (omega (arith, same))
+    ∙ ap (bit_at 1) (let z : k - n ≡ 0 = omega (arith, same) in z)
 
 none_above : (n s k : ℕ) → s < 2 ^ n → n < k → bit_at (1 * 2 ^ n + s) k ≡ 0
-none_above n s k small above = bit_at_cat_high 1 n s k small (omega (arith, above)) ∙ bit_at_above 1 1 (k - n) (omega arith) (omega (arith, above))
+none_above n s k small above = bit_at_cat_high 1 n s k small (omega (arith, above))
+    ∙ bit_at_above 1 1 (k - n) (omega arith) (omega (arith, above))
 
 taken_in : (p : ℕ → Bool) (n s : ℕ) → p n ≡ true → Stands p n s → Stands p (n + 1) (1 * 2 ^ n + s)
 taken_in p n s passes h = record {
   small = omega (arith, h.small, doubles n);
   bits = λ k. elim (cases_order k n) [
-    | inl same ↦ ap (λ (b : ℕ). eqb b 1) (set_there n s k h.small same) ∙ rw (lt-ltb k (n + 1) (omega (arith, same)), ap p same ∙ passes) refl
+    | inl same ↦ ap (λ (b : ℕ). eqb b 1) (set_there n s k h.small same)
+        ∙ rw (lt-ltb k (n + 1) (omega (arith, same)), ap p same ∙ passes) refl
     | inr other ↦ elim other [
-      | inl below ↦ ap (λ (b : ℕ). eqb b 1) (bit_at_cat_low 1 n s k below) ∙ h.bits k ∙ rw (lt-ltb k n below, lt-ltb k (n + 1) (omega (arith, below))) refl
+      | inl below ↦ ap (λ (b : ℕ). eqb b 1) (bit_at_cat_low 1 n s k below) ∙ h.bits k
+          ∙ rw (lt-ltb k n below, lt-ltb k (n + 1) (omega (arith, below))) refl
       | inr above ↦ ap (λ (b : ℕ). eqb b 1) (none_above n s k h.small above) ∙ rw (le-ltb k (n + 1) (omega (arith, above))) refl
     ]
   ];
@@ -72,8 +76,10 @@ all_stand p zero = record { small = omega arith; bits = λ k. ap (λ (x : ℕ). 
 all_stand p (suc n) =
     let before = all_stand p n in
     let here : Stands p (n + 1) (bits_below p n + (if p n then 2 ^ n else 0)) = elim (cases_Bool (p n)) [
-      | inl passes ↦ rw passes (let e : 1 * 2 ^ n + bits_below p n ≡ bits_below p n + 2 ^ n = omega arith in subst (Stands p (n + 1)) e (taken_in p n (bits_below p n) passes before))
-      | inr fails ↦ rw fails (let e : bits_below p n ≡ bits_below p n + 0 = omega arith in subst (Stands p (n + 1)) e (passed_over p n (bits_below p n) fails before))
+      | inl passes ↦ rw passes (let e : 1 * 2 ^ n + bits_below p n ≡ bits_below p n + 2 ^ n = omega arith in
+          subst (Stands p (n + 1)) e (taken_in p n (bits_below p n) passes before))
+      | inr fails ↦ rw fails (let e : bits_below p n ≡ bits_below p n + 0 = omega arith in
+          subst (Stands p (n + 1)) e (passed_over p n (bits_below p n) fails before))
     ] in
     subst (λ (m : ℕ). Stands p m (bits_below p m)) (add-one n) (subst (Stands p (n + 1)) (sym (bits_more p n)) here)
 
@@ -117,7 +123,8 @@ least_above_none m cpu none =
 pub least_above_first : (m : Mask) (cpu c : ℕ) → IsFirstFrom m (cpu + 1) c → least_above m cpu ≡ Some c
 unfolding least_above
 least_above_first m cpu c at =
-    find_least (λ k. nat_lt cpu k && has m k) 0 64 c (omega arith) at.in_range (and_from (nat_lt cpu c) (has m c) (lt-ltb cpu c (omega (arith, at.from))) at.there)
+    find_least (λ k. nat_lt cpu k && has m k) 0 64 c (omega arith) at.in_range
+    (and_from (nat_lt cpu c) (has m c) (lt-ltb cpu c (omega (arith, at.from))) at.there)
     (λ k lo hi. elim (cases_lt cpu k) [
       | inl above ↦ and_right (nat_lt cpu k) (has m k) (at.least k (omega (arith, above)) hi)
       | inr below ↦ and_left (nat_lt cpu k) (has m k) (le-ltb cpu k below)
@@ -125,7 +132,8 @@ least_above_first m cpu c at =
 
 -- ---- tests of the CPUs of a mask
 
-all_kept : (p q : ℕ → Bool) (a n : ℕ) → ((k : ℕ) → a ≤ k → k < a + n → p k ≡ true → q k ≡ true) → list_all q (filter p (range_with_len a n)) ≡ true
+all_kept : (p q : ℕ → Bool) (a n : ℕ) → ((k : ℕ) → a ≤ k → k < a + n → p k ≡ true → q k ≡ true)
+    → list_all q (filter p (range_with_len a n)) ≡ true
 all_kept p q a zero each = refl
 all_kept p q a (suc n) each =
     let rest = all_kept p q (a + 1) n (λ k lo hi. each k (omega (arith, lo)) (omega (arith, hi))) in
@@ -134,7 +142,8 @@ all_kept p q a (suc n) each =
       | inr fails ↦ rw fails rest
     ]
 
-kept_at : (p q : ℕ → Bool) (a n : ℕ) → list_all q (filter p (range_with_len a n)) ≡ true → (k : ℕ) → a ≤ k → k < a + n → p k ≡ true → q k ≡ true
+kept_at : (p q : ℕ → Bool) (a n : ℕ) → list_all q (filter p (range_with_len a n)) ≡ true → (k : ℕ) → a ≤ k → k < a + n
+    → p k ≡ true → q k ≡ true
 kept_at p q a zero all k lo hi passes = absurd (omega (arith, lo, hi))
 kept_at p q a (suc n) all k lo hi passes =
     elim (cases_Bool (p a)) [
@@ -160,7 +169,8 @@ unfolding members members_below
 all_members_at q m all k within there = kept_at (has m) q 0 64 all k (omega arith) (omega (arith, within)) there
 
 -- a mask is below n where it has no CPU from n on
-pub below_is : (m rest : Mask) (n : ℕ) (o : Option ℕ) → ((k : ℕ) → has rest k ≡ (has m k && not (ltb k n))) → MatchOption o (HasNoneFrom rest 0) (λ c. IsFirstFrom rest 0 c) → is_some o ≡ not (is_below m n)
+pub below_is : (m rest : Mask) (n : ℕ) (o : Option ℕ) → ((k : ℕ) → has rest k ≡ (has m k && not (ltb k n)))
+    → MatchOption o (HasNoneFrom rest 0) (λ c. IsFirstFrom rest 0 c) → is_some o ≡ not (is_below m n)
 unfolding is_below
 below_is m rest n None is none =
     sym (ap not (all_members (λ k. ltb k n) m (λ k lt there.
@@ -168,10 +178,12 @@ below_is m rest n None is none =
     not-false (ltb k n) out)))
 below_is m rest n (Some c) is at =
     let both = and_parts _ _ (sym (is c) ∙ at.there) in
-    sym (ap not (false_from_ne_true _ (λ all. both_ways (ltb c n) (not-true (ltb c n) both.1) (all_members_at (λ k. ltb k n) m all c at.in_range both.0))))
+    sym (ap not (false_from_ne_true _ (λ all. both_ways (ltb c n) (not-true (ltb c n) both.1)
+    (all_members_at (λ k. ltb k n) m all c at.in_range both.0))))
 
 -- masks are apart where no CPU is in both
-pub apart_is : (a b rest : Mask) (o : Option ℕ) → ((k : ℕ) → has rest k ≡ (has a k && has b k)) → MatchOption o (HasNoneFrom rest 0) (λ c. IsFirstFrom rest 0 c) → is_some o ≡ not (are_apart a b)
+pub apart_is : (a b rest : Mask) (o : Option ℕ) → ((k : ℕ) → has rest k ≡ (has a k && has b k))
+    → MatchOption o (HasNoneFrom rest 0) (λ c. IsFirstFrom rest 0 c) → is_some o ≡ not (are_apart a b)
 unfolding are_apart
 apart_is a b rest None is none =
     sym (ap not (all_members (λ k. not (has b k)) a (λ k lt there.
@@ -179,7 +191,8 @@ apart_is a b rest None is none =
     ap not out)))
 apart_is a b rest (Some c) is at =
     let both = and_parts _ _ (sym (is c) ∙ at.there) in
-    sym (ap not (false_from_ne_true _ (λ all. both_ways (has b c) (not-true (has b c) (all_members_at (λ k. not (has b k)) a all c at.in_range both.0)) both.1)))
+    sym (ap not (false_from_ne_true _ (λ all. both_ways (has b c)
+    (not-true (has b c) (all_members_at (λ k. not (has b k)) a all c at.in_range both.0)) both.1)))
 
 pub apart_from : (a b : Mask) → ((k : ℕ) → k < 64 → has a k ≡ true → has b k ≡ false) → are_apart a b ≡ true
 unfolding are_apart

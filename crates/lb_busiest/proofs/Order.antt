@@ -28,7 +28,8 @@ within_one_way FullyBusy x y h = grind (arith, nat_tests)
 within_one_way Imbalanced x y h = refl
 within_one_way Overloaded x y h = grind (arith, nat_tests)
 
-within_chain : (g : GroupType) (x y z : Stats) → is_busier_within g x y ≡ false → is_busier_within g y z ≡ false → is_busier_within g x z ≡ false
+within_chain : (g : GroupType) (x y z : Stats) → is_busier_within g x y ≡ false → is_busier_within g y z ≡ false
+    → is_busier_within g x z ≡ false
 within_chain HasSpare x y z h k = grind (arith, nat_tests)
 within_chain FullyBusy x y z h k = grind (arith, nat_tests)
 within_chain Imbalanced x y z h k = refl
@@ -58,7 +59,8 @@ busier_one_way x y h =
           let level = eqb-true (rank x.group) (rank y.group) parts.0 in
           let same = same_rank x.group y.group level in
           let P : GroupType → Type 0 = λ g. is_busier_within g x y ≡ true in
-          or_from _ _ (le-ltb (rank x.group) (rank y.group) (omega arith)) (and_right _ _ (within_one_way y.group x y (subst P same parts.1)))
+          or_from _ _ (le-ltb (rank x.group) (rank y.group) (omega arith))
+          (and_right _ _ (within_one_way y.group x y (subst P same parts.1)))
     ]
 
 busier_chain : (x y z : Stats) → is_busier x y ≡ false → is_busier y z ≡ false → is_busier x z ≡ false
@@ -96,21 +98,26 @@ more_ranking figs kind = record {
 }
 
 -- a CPU that a pull may take from has a figure
-pub source_in : (figs : List Fig) (group : Mask) (kind : MoveKind) (imbalance cpu : ℕ) → may_be_source figs group kind imbalance cpu ≡ true → has group cpu ≡ true
+pub source_in : (figs : List Fig) (group : Mask) (kind : MoveKind) (imbalance cpu : ℕ)
+    → may_be_source figs group kind imbalance cpu ≡ true → has group cpu ≡ true
 unfolding may_be_source
 source_in figs group kind imbalance cpu h = (and_parts _ _ (and_parts _ _ h).0).0
 
 -- ---- what was found by trial is what is defined
-pub busiest_of-found : (stats : List Stats) (n : ℕ) (o : Option ℕ) → n ≡ length stats → Picks (may_be_busiest stats) (is_busier_at stats) n o → o ≡ busiest_of stats
+pub busiest_of-found : (stats : List Stats) (n : ℕ) (o : Option ℕ) → n ≡ length stats
+    → Picks (may_be_busiest stats) (is_busier_at stats) n o → o ≡ busiest_of stats
 unfolding busiest_of
 busiest_of-found stats n o e found = rw (sym e) (picks_first_greatest (may_be_busiest stats) (is_busier_at stats) n o found)
 
-pub source_of-found : (figs : List Fig) (group : Mask) (kind : MoveKind) (imbalance : ℕ) (o : Option ℕ) → Picks (may_be_source figs group kind imbalance) (has_more figs kind) MAX_CPUS o → o ≡ source_of figs group kind imbalance
+pub source_of-found : (figs : List Fig) (group : Mask) (kind : MoveKind) (imbalance : ℕ) (o : Option ℕ)
+    → Picks (may_be_source figs group kind imbalance) (has_more figs kind) MAX_CPUS o → o ≡ source_of figs group kind imbalance
 unfolding source_of
-source_of-found figs group kind imbalance o found = picks_first_greatest (may_be_source figs group kind imbalance) (has_more figs kind) MAX_CPUS o found
+source_of-found figs group kind imbalance o found =
+    picks_first_greatest (may_be_source figs group kind imbalance) (has_more figs kind) MAX_CPUS o found
 
 -- a CPU that is not of the group gives nothing
-pub no_source : (figs : List Fig) (group : Mask) (kind : MoveKind) (imbalance k : ℕ) → has group k ≡ false → may_be_source figs group kind imbalance k ≡ false
+pub no_source : (figs : List Fig) (group : Mask) (kind : MoveKind) (imbalance k : ℕ) → has group k ≡ false
+    → may_be_source figs group kind imbalance k ≡ false
 unfolding may_be_source
 no_source figs group kind imbalance k away = rw away refl
 
@@ -119,6 +126,8 @@ pub busiest_of_picks : (stats : List Stats) → Picks (may_be_busiest stats) (is
 unfolding busiest_of
 busiest_of_picks stats = first_greatest_picks (may_be_busiest stats) (is_busier_at stats) (length stats) (busier_ranking stats)
 
-pub source_of_picks : (figs : List Fig) (group : Mask) (kind : MoveKind) (imbalance : ℕ) → Picks (may_be_source figs group kind imbalance) (has_more figs kind) MAX_CPUS (source_of figs group kind imbalance)
+pub source_of_picks : (figs : List Fig) (group : Mask) (kind : MoveKind) (imbalance : ℕ)
+    → Picks (may_be_source figs group kind imbalance) (has_more figs kind) MAX_CPUS (source_of figs group kind imbalance)
 unfolding source_of
-source_of_picks figs group kind imbalance = first_greatest_picks (may_be_source figs group kind imbalance) (has_more figs kind) MAX_CPUS (more_ranking figs kind)
+source_of_picks figs group kind imbalance =
+    first_greatest_picks (may_be_source figs group kind imbalance) (has_more figs kind) MAX_CPUS (more_ranking figs kind)

@@ -27,15 +27,18 @@ pub left_falls : (m : Mask) (c : ℕ) (next : Option ℕ) → c < MAX_CPUS → F
 left_falls m c None room found = omega arith
 left_falls m c (Some d) room found = omega (arith, found.from, found.in_range)
 
-skips : (p : ℕ → Bool) (above : ℕ → ℕ → Bool) (n k : ℕ) (o : Option ℕ) → Picks p above n o → ((i : ℕ) → n ≤ i → i < n + k → p i ≡ false) → Picks p above (n + k) o
+skips : (p : ℕ → Bool) (above : ℕ → ℕ → Bool) (n k : ℕ) (o : Option ℕ) → Picks p above n o
+    → ((i : ℕ) → n ≤ i → i < n + k → p i ≡ false) → Picks p above (n + k) o
 skips p above n zero o so_far fails = let P : ℕ → Type 0 = λ x. Picks p above x o in let e : n ≡ n + zero = omega arith in subst P e so_far
 skips p above n (suc k) o so_far fails =
     let P : ℕ → Type 0 = λ x. Picks p above x o in
     let e : (n + k) + 1 ≡ n + suc k = omega arith in
-    subst P e (Picks-skips p above (n + k) o (skips p above n k o so_far (λ i lo hi. fails i lo (omega (arith, hi)))) (fails (n + k) (omega arith) (omega arith)))
+    subst P e (Picks-skips p above (n + k) o (skips p above n k o so_far (λ i lo hi. fails i lo (omega (arith, hi))))
+    (fails (n + k) (omega arith) (omega arith)))
 
 -- where only CPUs of the mask pass, the best before n is the best before the next CPU
-pub walks : (p : ℕ → Bool) (above : ℕ → ℕ → Bool) (m : Mask) (best : Option ℕ) (n : ℕ) (next : Option ℕ) → ((k : ℕ) → has m k ≡ false → p k ≡ false) → n ≤ MAX_CPUS → Picks p above n best → Finds m n next → Walks p above m best next
+pub walks : (p : ℕ → Bool) (above : ℕ → ℕ → Bool) (m : Mask) (best : Option ℕ) (n : ℕ) (next : Option ℕ)
+    → ((k : ℕ) → has m k ≡ false → p k ≡ false) → n ≤ MAX_CPUS → Picks p above n best → Finds m n next → Walks p above m best next
 walks p above m best n None only room so_far none =
     let P : ℕ → Type 0 = λ x. Picks p above x best in
     let e : n + (MAX_CPUS - n) ≡ MAX_CPUS = omega arith in

@@ -16,6 +16,8 @@ pub fn busiest_group()
 
 /// The source queue is found wherever a CPU may be it, and there is only one.
 pub fn source_queue()
-    ensures found { (figs : List Fig) → (group : Mask) → (kind : MoveKind) → (imbalance : ℕ) → AnswersSource figs group kind imbalance (source_of figs group kind imbalance) }
-    ensures unique { (figs : List Fig) → (group : Mask) → (kind : MoveKind) → (imbalance : ℕ) → (o : Option ℕ) → AnswersSource figs group kind imbalance o → o ≡ source_of figs group kind imbalance }
+    ensures found { (figs : List Fig) → (group : Mask) → (kind : MoveKind) → (imbalance : ℕ)
+        → AnswersSource figs group kind imbalance (source_of figs group kind imbalance) }
+    ensures unique { (figs : List Fig) → (group : Mask) → (kind : MoveKind) → (imbalance : ℕ) → (o : Option ℕ)
+        → AnswersSource figs group kind imbalance o → o ≡ source_of figs group kind imbalance }
 {}

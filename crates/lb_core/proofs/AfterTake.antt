@@ -55,7 +55,8 @@ record IsBack (c c' : Course) (s : ℕ) (t : Taken) : Type 0 where
 comes_back : (o : Owner) (n : ℕ) (c c' : Course) (s : ℕ) (t : Taken) → IsOff c c' s t → IsBack c (drew o n (lands (cause_of c') c')) s t
 comes_back o n c c' s t off = subst (λ (x : OutCause). IsBack c (drew o n (lands x c')) s t) (sym off.cause) (by_owner o)
   where
-    left : cond (is_all_pinned c'.taken) (either c'.excluded (only (source_of c'.decision))) c'.excluded ≡ cond t.all_pinned (either c.excluded (only s)) c.excluded
+    left : cond (is_all_pinned c'.taken)
+        (either c'.excluded (only (source_of c'.decision))) c'.excluded ≡ cond t.all_pinned (either c.excluded (only s)) c.excluded
     left = rw (off.taken, off.source, off.excluded) refl
 
     by_owner : (o : Owner) → IsBack c (drew o n (lands PullOut c')) s t
@@ -63,7 +64,8 @@ comes_back o n c c' s t off = subst (λ (x : OutCause). IsBack c (drew o n (land
     by_owner (Lane l) = record { form = refl; taken = off.taken; excluded = left; place = off.place }
     by_owner Publisher = record { form = refl; taken = off.taken; excluded = left; place = off.place }
 
-landing : (m : Machine) (o : Owner) (lane prev : ℕ) (w : What) (c c' : Course) (s : ℕ) (t : Taken) → course_at m.courses lane ≡ c' → IsOff c c' s t → MayBeAdded m (entry o lane prev w) →
+landing : (m : Machine) (o : Owner) (lane prev : ℕ) (w : What) (c c' : Course) (s : ℕ) (t : Taken)
+    → course_at m.courses lane ≡ c' → IsOff c c' s t → MayBeAdded m (entry o lane prev w) →
     (c'' : Course) × (course_at (after m (entry o lane prev w)).courses lane ≡ c'') × IsBack c c'' s t
 unfolding after course_after sight
 landing m o lane prev w c c' s t at off a =
@@ -74,8 +76,12 @@ landing m o lane prev w c c' s t at off a =
     ∙ ap (λ (f : _). what_next f m c' (queue_next f m c') (choice_of w)) off.form in
     let made : course_after (sight m e) e ≡ drew o ((sight m e).count + 1) (lands (cause_of c') c') =
     ap (λ (x : What). drew o ((sight m e).count + 1) (course_by x (sight m e) (cpu_of o) (queue_after (sight m e) e))) k
-    ∙ ap (λ (x : Course). drew o ((sight m e).count + 1) (lands (cause_of x) x)) at in
-    (_, get_or-set_same m.courses lane (course_after (sight m e) e) no_course (lane_there m e a) ∙ made, comes_back o ((sight m e).count + 1) c c' s t off)
+    ∙ ap (λ (x : Course). drew o ((sight m e).count + 1) (lands (cause_of x) x)) at in (
+      _,
+      get_or-set_same m.courses lane (course_after (sight m e) e) no_course (lane_there m e a)
+          ∙ made,
+      comes_back o ((sight m e).count + 1) c c' s t off,
+    )
 
 -- ---- the entry that comes then
 -- another look is due
@@ -87,7 +93,8 @@ due_at h taken x place =
     let d : Domain = domain_at (domains_of h.cpus h.distances place.0 place.1) place.2 in
     is_all_pinned taken && not (is_empty (others_of d x))
 
-due_pinned : (h : Header) (c : Course) (s : ℕ) (t : Taken) (b : Bool) → t.all_pinned ≡ b → due_at h (Some t) (cond b (either c.excluded (only s)) c.excluded) (place_of c) ≡ is_due_again h c s t
+due_pinned : (h : Header) (c : Course) (s : ℕ) (t : Taken) (b : Bool) → t.all_pinned ≡ b
+    → due_at h (Some t) (cond b (either c.excluded (only s)) c.excluded) (place_of c) ≡ is_due_again h c s t
 due_pinned h c s t true e = refl
 due_pinned h c s t false e = rw e refl
 
@@ -98,11 +105,13 @@ again_is h c c' s t back =
     ∙ ap (λ (x : List Mask × ℕ × ℕ). due_at h (Some t) (cond t.all_pinned (either c.excluded (only s)) c.excluded) x) back.place
     ∙ due_pinned h c s t t.all_pinned refl
 
-look_or_close : (b : Bool) (p : ℕ) (look close : What) → looked_at look ≡ Some p → looked_at close ≡ None → looked_at (cond b look close) ≡ cond b (Some p) None
+look_or_close : (b : Bool) (p : ℕ) (look close : What) → looked_at look ≡ Some p → looked_at close ≡ None
+    → looked_at (cond b look close) ≡ cond b (Some p) None
 look_or_close true p look close h k = h
 look_or_close false p look close h k = k
 
-looks_then : (m : Machine) (o : Entry) (c' : Course) → course_at m.courses o.lane ≡ c' → c'.form ≡ LandedForm → MayBeAdded m o → looked_at o.what ≡ cond (looks_again m.header c') (Some c'.position) None
+looks_then : (m : Machine) (o : Entry) (c' : Course) → course_at m.courses o.lane ≡ c' → c'.form ≡ LandedForm
+    → MayBeAdded m o → looked_at o.what ≡ cond (looks_again m.header c') (Some c'.position) None
 looks_then m o c' at form a =
     let k : o.what ≡ what_next LandedForm m c' (queue_next LandedForm m c') (choice_of o.what) =
     (chosen m o a).0
@@ -114,21 +123,27 @@ none_beyond : (lane : ℕ) (es : List Entry) → next_of lane es ≡ None → ne
 none_beyond lane [] h = refl
 none_beyond lane (e ∷ es) h = by_lane (e.lane == lane) h (none_beyond lane es)
   where
-    by_lane : (b : Bool) → cond b (Some e) (next_of lane es) ≡ None → (next_of lane es ≡ None → next_of lane (beyond lane es) ≡ None) → next_of lane (cond b es (beyond lane es)) ≡ None
+    by_lane : (b : Bool) → cond b (Some e) (next_of lane es) ≡ None
+        → (next_of lane es ≡ None → next_of lane (beyond lane es) ≡ None) → next_of lane (cond b es (beyond lane es)) ≡ None
     by_lane true h more = absurd (let y : ⊥ = cc in y)
     by_lane false h more = more h
 
-after_landing : (lane : ℕ) (es : List Entry) (m : Machine) (c c' : Course) (s : ℕ) (t : Taken) → course_at m.courses lane ≡ c' → IsBack c c' s t → MayFollow es m → (o : Option Entry) → next_of lane es ≡ o → LooksAgain (is_due_again m.header c s t) c.position o
+after_landing : (lane : ℕ) (es : List Entry) (m : Machine) (c c' : Course) (s : ℕ) (t : Taken)
+    → course_at m.courses lane ≡ c' → IsBack c c' s t → MayFollow es m → (o : Option Entry) → next_of lane es ≡ o
+    → LooksAgain (is_due_again m.header c s t) c.position o
 after_landing lane es m c c' s t at back l None e = tt
 after_landing lane es m c c' s t at back l (Some o) e =
     let n = next_is lane es m c' o at l e in
     let mm = run (until lane es) m in
     looks_then mm o c' (ap (course_at mm.courses) n.own ∙ n.same) back.form n.added
-    ∙ ap (λ (b : Bool). cond b (Some c'.position) None) (ap (λ (h : Header). looks_again h c') (run-header (until lane es) m) ∙ again_is m.header c c' s t back)
+    ∙ ap (λ (b : Bool). cond b (Some c'.position) None)
+    (ap (λ (h : Header). looks_again h c') (run-header (until lane es) m) ∙ again_is m.header c c' s t back)
     ∙ ap (λ (x : List Mask × ℕ × ℕ). cond (is_due_again m.header c s t) (Some x.2) None) back.place
 
 -- after a take has left, its landing comes, and then this entry
-pub after_take : (lane : ℕ) (es : List Entry) (m : Machine) (c c' : Course) (s : ℕ) (t : Taken) → course_at m.courses lane ≡ c' → IsOff c c' s t → MayFollow es m → LooksAgain (is_due_again m.header c s t) c.position (next_of lane (beyond lane es))
+pub after_take : (lane : ℕ) (es : List Entry) (m : Machine) (c c' : Course) (s : ℕ) (t : Taken)
+    → course_at m.courses lane ≡ c' → IsOff c c' s t → MayFollow es m
+    → LooksAgain (is_due_again m.header c s t) c.position (next_of lane (beyond lane es))
 unfolding after
 after_take lane es m c c' s t at off l = by_next (next_of lane es) refl
   where

@@ -77,7 +77,8 @@ row_word (ItsFigures ns) n w h = refl
 row_word Nothing n w h = refl
 
 -- but for rows, the choice decides no kind
-one_word : (f : Form) (m : Machine) (c : Course) (q : QueueState) (a b : Choice) → is_row a ≡ false → is_row b ≡ false → word (what_next f m c q a) ≡ word (what_next f m c q b)
+one_word : (f : Form) (m : Machine) (c : Course) (q : QueueState) (a b : Choice) → is_row a ≡ false → is_row b ≡ false
+    → word (what_next f m c q a) ≡ word (what_next f m c q b)
 one_word Rest m c q a b h k = ap word (row_word a (c.rows + 1) _ h ∙ sym (row_word b (c.rows + 1) _ k))
 one_word Asked m c q a b h k = refl
 one_word Flight m c q a b h k = refl
@@ -127,7 +128,8 @@ is_row_word : (w : What) → is_row (choice_of w) ≡ true → word w ≡ 0
 is_row_word (Row n at command) h = refl
 is_row_word w h = absurd (let y : ⊥ = cc in y)
 
-words_same : (m : Machine) (lane : ℕ) (v w : What) (b : Bool) → is_row (choice_of v) ≡ b → is_row (choice_of w) ≡ b → v ≡ what_of m lane (choice_of v) → w ≡ what_of m lane (choice_of w) → word v ≡ word w
+words_same : (m : Machine) (lane : ℕ) (v w : What) (b : Bool) → is_row (choice_of v) ≡ b → is_row (choice_of w) ≡ b
+    → v ≡ what_of m lane (choice_of v) → w ≡ what_of m lane (choice_of w) → word v ≡ word w
 words_same m lane v w true h k e f = is_row_word v h ∙ sym (is_row_word w k)
 words_same m lane v w false h k e f = ap word e ∙ one_kind m lane (choice_of v) (choice_of w) h k ∙ sym (ap word f)
 
@@ -138,6 +140,7 @@ choices_are_all m a b l h k agree =
     let kind = words_same m a.lane a.what b.what (is_row (choice_of a.what)) refl (sym (both_rows a.what b.what agree)) v w in
     let same = one_choice a.what b.what kind agree in
     let t : a.what ≡ b.what = v ∙ ap (what_of m a.lane) same ∙ sym w in
-    let o : a.owner ≡ b.owner = owner_chosen m a h ∙ ap (owner_of m a.lane) t ∙ ap (λ (x : ℕ). owner_of m x b.what) l ∙ sym (owner_chosen m b k) in
+    let o : a.owner ≡ b.owner = owner_chosen m a h ∙ ap (owner_of m a.lane) t ∙ ap (λ (x : ℕ). owner_of m x b.what) l
+    ∙ sym (owner_chosen m b k) in
     let p : a.prev ≡ b.prev = prev_is m a h ∙ ap (λ (x : ℕ). get_or m.last x 0) l ∙ sym (prev_is m b k) in
     same_entry a b o l p t

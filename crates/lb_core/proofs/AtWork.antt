@@ -62,16 +62,21 @@ pub record AtRest (m : Machine) (w : What) (lane : ℕ) (rows : List TraceRow) :
   pub all : all_rest m ≡ true
   pub comes : RestRows w lane rows
 
-at_rest : (f : Form) (m : Machine) (h : Header) (c : Course) (q : QueueState) (lane : ℕ) (o : Owner) (w : What) (rows : List TraceRow) → is_rest f ≡ true → draws f h c q lane w ≡ true → stage_at_rest f m o w ≡ false →
+at_rest : (f : Form) (m : Machine) (h : Header) (c : Course) (q : QueueState) (lane : ℕ) (o : Owner) (w : What)
+    (rows : List TraceRow) → is_rest f ≡ true → draws f h c q lane w ≡ true → stage_at_rest f m o w ≡ false →
     is_serial m w ≡ true → ((closing_after w f m.closing || ended_after w m.ended) ≡ true → rows ≡ []) → AtRest m w lane rows
 unfolding draws
 at_rest Rest m h c q lane o (Row n at command) rows r d s z none = record { all = z; comes = tt }
-at_rest Rest m h c q lane o (Out cause to ids) rows r d s z none = record { all = not-false _ (or_parts _ _ s).0; comes = (eqb-true lane 0 d, none refl) }
-at_rest Rest m h c q lane o (End unserved) rows r d s z none = record { all = not-false _ s; comes = (eqb-true lane 0 d, none (or_right m.closing true refl)) }
+at_rest Rest m h c q lane o (Out cause to ids) rows r d s z none =
+    record { all = not-false _ (or_parts _ _ s).0; comes = (eqb-true lane 0 d, none refl) }
+at_rest Rest m h c q lane o (End unserved) rows r d s z none =
+    record { all = not-false _ s; comes = (eqb-true lane 0 d, none (or_right m.closing true refl)) }
 at_rest f m h c q lane o w rows r d s z none = absurd (let y : ⊥ = cc in y)
 
 -- a row comes at rest alone, and not once the history is over
-pub row_rests : (f : Form) (m : Machine) (h : Header) (c : Course) (q : QueueState) (lane n at : ℕ) (o : Owner) (command : _) → draws f h c q lane (Row n at command) ≡ true → stage_at_rest f m o (Row n at command) ≡ false → (is_rest f ≡ true) × (m.closing ≡ false)
+pub row_rests : (f : Form) (m : Machine) (h : Header) (c : Course) (q : QueueState) (lane n at : ℕ) (o : Owner)
+    (command : _) → draws f h c q lane (Row n at command) ≡ true → stage_at_rest f m o (Row n at command) ≡ false
+    → (is_rest f ≡ true) × (m.closing ≡ false)
 unfolding draws
 row_rests Rest m h c q lane n at o command d s = (refl, s)
 row_rests f m h c q lane n at o command d s = absurd (let y : ⊥ = cc in y)
@@ -81,11 +86,13 @@ pub record OneAtWork (m : Machine) : Type 0 where
   pub one : (l k : ℕ) → rests_at m l ≡ false → rests_at m k ≡ false → l ≡ k
 
 -- an entry is drawn by the lane that is at work, if one is
-pub works : (m : Machine) (e : Entry) → MayBeAdded m e → is_serial m e.what ≡ true → OneAtWork m → (l : ℕ) → rests_at m l ≡ false → e.lane ≡ l
+pub works : (m : Machine) (e : Entry) → MayBeAdded m e → is_serial m e.what ≡ true → OneAtWork m → (l : ℕ)
+    → rests_at m l ≡ false → e.lane ≡ l
 works m e h z one l k = by_rest (rests_at m e.lane) refl
   where
     by_rest : (b : Bool) → rests_at m e.lane ≡ b → e.lane ≡ l
-    by_rest true r = clash _ (rest_each m (at_rest _ m _ _ _ e.lane e.owner e.what [] r (form_lets m e h).1 (at_rest_lets m e h) z (λ _. refl)).all l) k
+    by_rest true r = clash _ (rest_each m
+        (at_rest _ m _ _ _ e.lane e.owner e.what [] r (form_lets m e h).1 (at_rest_lets m e h) z (λ _. refl)).all l) k
     by_rest false r = one.one e.lane l r k
 
 pub one_kept : (m : Machine) (e : Entry) → MayBeAdded m e → is_serial m e.what ≡ true → OneAtWork m → OneAtWork (after m e)
@@ -101,7 +108,8 @@ one_kept m e h z one = record { one = λ l k a b. drew l a ∙ sym (drew k b) }
     ]
 
 -- ---- the opening state
-pub opens_so : (h : Header) (lane : ℕ) → (course_at (start h).courses lane ≡ opening_course (length h.cpus)) ⊎ (course_at (start h).courses lane ≡ no_course)
+pub opens_so : (h : Header) (lane : ℕ) → (course_at (start h).courses lane ≡ opening_course (length h.cpus))
+    ⊎ (course_at (start h).courses lane ≡ no_course)
 unfolding start
 opens_so h lane =
     let c : Course = opening_course (length h.cpus) in
@@ -111,7 +119,8 @@ opens_so h lane =
     ]
 
 pub opening_rests : (h : Header) (lane : ℕ) → rests_at (start h) lane ≡ true
-opening_rests h lane = elim (opens_so h lane) [ inl a ↦ ap (λ (x : Course). is_rest x.form) a | inr b ↦ ap (λ (x : Course). is_rest x.form) b ]
+opening_rests h lane = elim (opens_so h lane)
+    [ inl a ↦ ap (λ (x : Course). is_rest x.form) a | inr b ↦ ap (λ (x : Course). is_rest x.form) b ]
 
 pub one_starts : (h : Header) → OneAtWork (start h)
 one_starts h = record { one = λ l k a b. clash _ (opening_rests h l) a }
@@ -130,7 +139,8 @@ closes_first : (a b : Bool) → (a || b) ≡ true → b ≡ false → a ≡ true
 closes_first true b h k = refl
 closes_first false b h k = clash b h k
 
-no_row : (w : What) (m : Machine) (c : Course) (h : Header) (q : QueueState) (lane : ℕ) (o : Owner) → draws c.form h c q lane w ≡ true → stage_at_rest c.form m o w ≡ false → m.closing ≡ true → row_of w lane ≡ []
+no_row : (w : What) (m : Machine) (c : Course) (h : Header) (q : QueueState) (lane : ℕ) (o : Owner)
+    → draws c.form h c q lane w ≡ true → stage_at_rest c.form m o w ≡ false → m.closing ≡ true → row_of w lane ≡ []
 no_row (Row n at command) m c h q lane o d s k = clash _ k (row_rests c.form m h c q lane n at o command d s).1
 no_row w m c h q lane o d s k = refl
 
@@ -140,12 +150,15 @@ none_drawn [] m over h = refl
 none_drawn (e ∷ es) m over h =
     let c = course_at m.courses e.lane in
     let closing : m.closing ≡ true = let g = goes_on m e h.0 in closes_first m.closing m.ended over g in
-    let later : is_over (after m e) ≡ true = or_left _ (ended_after e.what m.ended) (ap (closing_after e.what c.form) closing ∙ closing_stays e.what c.form) in
+    let later : is_over (after m e) ≡ true =
+    or_left _ (ended_after e.what m.ended) (ap (closing_after e.what c.form) closing ∙ closing_stays e.what c.form) in
     rw (no_row e.what m c _ _ e.lane e.owner (form_lets m e h.0).1 (at_rest_lets m e h.0) closing) (none_drawn es (after m e) later h.1)
 
-pub comes_at_rest : (m : Machine) (e : Entry) (es : List Entry) → MayBeAdded m e → MayFollow es (after m e) → is_serial m e.what ≡ true → rests_at m e.lane ≡ true → AtRest m e.what e.lane (rows_drawn es)
+pub comes_at_rest : (m : Machine) (e : Entry) (es : List Entry) → MayBeAdded m e → MayFollow es (after m e)
+    → is_serial m e.what ≡ true → rests_at m e.lane ≡ true → AtRest m e.what e.lane (rows_drawn es)
 unfolding after sight
-comes_at_rest m e es h l z r = at_rest (course_at m.courses e.lane).form m _ _ _ e.lane e.owner e.what (rows_drawn es) r (form_lets m e h).1 (at_rest_lets m e h) z (λ over. none_drawn es (after m e) over l)
+comes_at_rest m e es h l z r = at_rest (course_at m.courses e.lane).form m _ _ _ e.lane e.owner e.what
+    (rows_drawn es) r (form_lets m e h).1 (at_rest_lets m e h) z (λ over. none_drawn es (after m e) over l)
 
 -- nothing follows the end
 pub nothing_follows : (es : List Entry) (m : Machine) → m.ended ≡ true → MayFollow es m → es ≡ []

@@ -109,7 +109,8 @@ abbrev pub look_of : Form → Machine → Course → List ℕ → What
 look_of f m c ns =
     let names : List FigName = named_by (members (figures_due f (bare m c (queue_next f m c)))) ns in
     Look c.position c.excluded names
-    (decision (turn_domain m.header c).shape (turn_domain m.header c).groups (by_cpu (figures_named m.figures names)) c.cpu (kind_of c) c.excluded)
+    (decision (turn_domain m.header c).shape (turn_domain m.header c).groups
+    (by_cpu (figures_named m.figures names)) c.cpu (kind_of c) c.excluded)
 
 abbrev pub scan_of : Form → Machine → Course → List ℕ → What
 scan_of f m c ns =
@@ -126,12 +127,14 @@ row_or (ItsRow at command) n w = Row n at command
 row_or other n w = w
 
 abbrev pub what_next : Form → Machine → Course → QueueState → Choice → What
-what_next Rest m c q chosen = row_or chosen (c.rows + 1) (cond (is_some (first_pending m)) (out_of (out_by Rest m.header c q)) (End (unserved m)))
+what_next Rest m c q chosen = row_or chosen (c.rows + 1)
+    (cond (is_some (first_pending m)) (out_of (out_by Rest m.header c q)) (End (unserved m)))
 what_next Asked m c q chosen =
     cond (is_rebuild c.command) (Pub (length m.versions - 1 + 2))
     (cond (leaves_instead c.command q) (out_of (out_by Asked m.header c q)) (Did (answer_to c.command c.at q).0))
 what_next Flight m c q chosen = Landed (ids c.hand)
-what_next Serving m c q chosen = cond (has_owed q || push_is_due c q) (out_of (out_by Serving m.header c q)) (Adopt (version_of chosen) TickTurn (unwrap_or (ticked_cpu c.command) 0))
+what_next Serving m c q chosen = cond (has_owed q || push_is_due c q) (out_of (out_by Serving m.header c q))
+    (Adopt (version_of chosen) TickTurn (unwrap_or (ticked_cpu c.command) 0))
 what_next Due m c q chosen = Adopt (version_of chosen) (kind_of c) c.cpu
 what_next Used m c q chosen = cond (is_some q.open_turn) Shut (Turn (positions_due (bare m c q)))
 what_next Position m c q chosen = look_of Position m c (numbers_of chosen)
@@ -194,7 +197,9 @@ place_queue (AsleepAt cpu) o h = queue_is o cpu h
 place_queue (GoneAt cpu) o h = queue_is o cpu h
 place_queue (HandOf lane) o h = absurd (let y : ⊥ = cc in y)
 
-asked_queue : (command : Option Command) (m : Machine) (o : Owner) → (is_some command && not (is_rebuild command)) ≡ true → is_queue o (ticked_cpu command) ≡ true → task_elsewhere (task_of command) m o ≡ false →
+asked_queue : (command : Option Command) (m : Machine) (o : Owner)
+    → (is_some command && not (is_rebuild command)) ≡ true → is_queue o (ticked_cpu command) ≡ true
+    → task_elsewhere (task_of command) m o ≡ false →
     o ≡ Queue (unwrap_or (ticked_cpu command) (task_cpu (task_of command) m))
 unfolding task_cpu
 asked_queue None m o d q h = absurd (let y : ⊥ = cc in y)
@@ -211,7 +216,8 @@ wake_asks (Some (Wake t)) h = refl
 wake_asks command h = absurd (let y : ⊥ = cc in y)
 
 -- ---- outs
-out_is : (o : Option Leaving) (cause : OutCause) (to : ℕ) (tasks : List ℕ) → is_other_out o cause to tasks ≡ false → Out cause to tasks ≡ out_of o
+out_is : (o : Option Leaving) (cause : OutCause) (to : ℕ) (tasks : List ℕ) → is_other_out o cause to tasks ≡ false
+    → Out cause to tasks ≡ out_of o
 out_is None cause to tasks h = absurd (let y : ⊥ = cc in y)
 out_is (Some l) cause to tasks h =
     let p = or_parts _ _ h in
@@ -229,7 +235,8 @@ away_leaves : (d : Option ℕ) (at t : ℕ) (q : QueueState) → is_some (wake_t
 away_leaves None at t q h = absurd (let y : ⊥ = cc in y)
 away_leaves (Some to) at t q h = refl
 
-wake_leaves : (command : Option Command) (at : ℕ) (q : QueueState) → is_some (wake_out command at q) ≡ true → leaves_instead command q ≡ true
+wake_leaves : (command : Option Command) (at : ℕ) (q : QueueState) → is_some (wake_out command at q) ≡ true
+    → leaves_instead command q ≡ true
 wake_leaves (Some (Wake t)) at q h = away_leaves (away q t) at t q h
 wake_leaves command at q h = absurd (let y : ⊥ = cc in y)
 
@@ -241,7 +248,8 @@ names_are : (names : List FigName) → names ≡ named_by (map (λ n. n.cpu) nam
 names_are [] = refl
 names_are (n ∷ ns) = ap (λ (x : List FigName). n ∷ x) (names_are ns)
 
-names_next : (names : List FigName) (cpus : List ℕ) → not (same_numbers (map (λ n. n.cpu) names) cpus) ≡ false → names ≡ named_by cpus (map (λ n. n.n) names)
+names_next : (names : List FigName) (cpus : List ℕ) → not (same_numbers (map (λ n. n.cpu) names) cpus) ≡ false
+    → names ≡ named_by cpus (map (λ n. n.n) names)
 names_next names cpus h =
     let e : map (λ n. n.cpu) names ≡ cpus = numbers_same _ cpus (not-false _ h) in
     names_are names ∙ ap (λ (x : List ℕ). named_by x (map (λ n. n.n) names)) e
@@ -286,7 +294,8 @@ rest_next m lane c o (Out cause to tasks) k =
     record { owner = e; what = rw (there, ← queue_of m o _ e) (out_is _ cause to tasks k.pick) }
 rest_next m lane c o (End cpus) k = record {
   owner = lane_is o lane k.owner;
-  what = let none : is_some (first_pending m) ≡ false = k.owed in let e = mask_is cpus (unserved m) (not-false _ k.ends) in rw (none, e) refl;
+  what = let none : is_some (first_pending m) ≡ false = k.owed in let e =
+      mask_is cpus (unserved m) (not-false _ k.ends) in rw (none, e) refl;
 }
 rest_next m lane c o w k = absurd (let d = k.drawn in let y : ⊥ = cc in y)
 
@@ -353,27 +362,36 @@ used_next m lane c o Shut k =
 used_next m lane c o w k = absurd (let d = k.drawn in let y : ⊥ = cc in y)
 
 -- looks, closes and scans
-look_parts : (f : Form) (m : Machine) (c : Course) (o : Owner) (p : ℕ) (x : Mask) (names : List FigName) (d : Decision) (cpus : List ℕ) → members (figures_due f (bare m c (queue_next f m c))) ≡ cpus →
-    not (same_numbers (map (λ n. n.cpu) names) cpus) ≡ false → breaks_decision (sight_of m c o (Look p x names d)) (Look p x names d) ≡ false → Look p x names d ≡ look_of f m c (map (λ n. n.n) names)
+look_parts : (f : Form) (m : Machine) (c : Course) (o : Owner) (p : ℕ) (x : Mask) (names : List FigName)
+    (d : Decision) (cpus : List ℕ) → members (figures_due f (bare m c (queue_next f m c))) ≡ cpus →
+    not (same_numbers (map (λ n. n.cpu) names) cpus) ≡ false
+    → breaks_decision (sight_of m c o (Look p x names d)) (Look p x names d) ≡ false
+    → Look p x names d ≡ look_of f m c (map (λ n. n.n) names)
 look_parts f m c o p x names d cpus due n h =
-    let e : names ≡ named_by (members (figures_due f (bare m c (queue_next f m c)))) (map (λ n. n.n) names) = names_next names cpus n ∙ ap (λ (ks : List ℕ). named_by ks (map (λ n. n.n) names)) (sym due) in
+    let e : names ≡ named_by (members (figures_due f (bare m c (queue_next f m c)))) (map (λ n. n.n) names) =
+    names_next names cpus n ∙ ap (λ (ks : List ℕ). named_by ks (map (λ n. n.n) names)) (sym due) in
     let q = or_parts _ _ h in
     let r = or_parts _ _ q.0 in
     let a = eqb-true p c.position (not-false _ r.0) in
     let b = mask_is x c.excluded (not-false _ r.1) in
     let v = decision_is d _ (not-false _ q.1) in
     rw (a, b, v) (ap (λ (l : List FigName). Look c.position c.excluded l
-    (decision (turn_domain m.header c).shape (turn_domain m.header c).groups (by_cpu (figures_named m.figures l)) c.cpu (kind_of c) c.excluded)) e)
+    (decision (turn_domain m.header c).shape (turn_domain m.header c).groups
+    (by_cpu (figures_named m.figures l)) c.cpu (kind_of c) c.excluded)) e)
 
-scan_parts : (f : Form) (m : Machine) (c : Course) (o : Owner) (names : List FigName) (t : Option ℕ) (cpus : List ℕ) → members (figures_due f (bare m c (queue_next f m c))) ≡ cpus →
-    not (same_numbers (map (λ n. n.cpu) names) cpus) ≡ false → breaks_decision (sight_of m c o (Scan names t)) (Scan names t) ≡ false → Scan names t ≡ scan_of f m c (map (λ n. n.n) names)
+scan_parts : (f : Form) (m : Machine) (c : Course) (o : Owner) (names : List FigName) (t : Option ℕ) (cpus : List ℕ)
+    → members (figures_due f (bare m c (queue_next f m c))) ≡ cpus →
+    not (same_numbers (map (λ n. n.cpu) names) cpus) ≡ false
+    → breaks_decision (sight_of m c o (Scan names t)) (Scan names t) ≡ false → Scan names t ≡ scan_of f m c (map (λ n. n.n) names)
 scan_parts f m c o names t cpus due n h =
-    let e : names ≡ named_by (members (figures_due f (bare m c (queue_next f m c)))) (map (λ n. n.n) names) = names_next names cpus n ∙ ap (λ (ks : List ℕ). named_by ks (map (λ n. n.n) names)) (sym due) in
+    let e : names ≡ named_by (members (figures_due f (bare m c (queue_next f m c)))) (map (λ n. n.n) names) =
+    names_next names cpus n ∙ ap (λ (ks : List ℕ). named_by ks (map (λ n. n.n) names)) (sym due) in
     let v = number_is t _ (not-false _ h) in
     rw v (ap (λ (l : List FigName). Scan l (least (tickless_in (figures_named m.figures l)))) e)
 
 close_parts : (m : Machine) (c : Course) (o : Owner) (cpu p : ℕ) (word : OutcomeWord) (i f : ℕ) → o ≡ Queue cpu →
-    breaks_decision (sight_of m c o (Close p word i f)) (Close p word i f) ≡ false → breaks_counters (sight_of m c o (Close p word i f)) (Close p word i f) ≡ false →
+    breaks_decision (sight_of m c o (Close p word i f)) (Close p word i f) ≡ false
+    → breaks_counters (sight_of m c o (Close p word i f)) (Close p word i f) ≡ false →
     Close p word i f ≡ close_of m c (queue_at m.queues cpu)
 unfolding closed_counters
 close_parts m c o cpu p word i f e h k =
@@ -407,7 +425,12 @@ looked_next m lane c o (Out cause to tasks) k =
 looked_next m lane c o (Close p word i f) k =
     let e = due_from (is_pull c.decision) o _ c.cpu k.owner in
     let n = settled_no_pull c.decision k.drawn in
-    record { owner = e; what = close_parts m c o _ p word i f e k.decided k.counters ∙ ap (λ (b : Bool). cond b (out_of (out_by Looked m.header c (queue_next Looked m c))) (close_of m c (queue_next Looked m c))) (sym n) }
+    record {
+      owner = e;
+      what = close_parts m c o _ p word i f e k.decided k.counters
+          ∙ ap (λ (b : Bool). cond b (out_of (out_by Looked m.header c (queue_next Looked m c)))
+          (close_of m c (queue_next Looked m c))) (sym n);
+    }
 looked_next m lane c o w k = absurd (let d = k.drawn in let y : ⊥ = cc in y)
 
 landed_next : Next LandedForm
@@ -420,14 +443,22 @@ landed_next m lane c o (Look p x names d) k = record {
 }
 landed_next m lane c o (Close p word i f) k =
     let e = due_queue (Some c.cpu) o 0 refl k.owner in
-    record { owner = e; what = close_parts m c o _ p word i f e k.decided k.counters ∙ ap (λ (b : Bool). cond b (look_of LandedForm m c []) (close_of m c (queue_next LandedForm m c))) (sym (not-true _ k.drawn)) }
+    record {
+      owner = e;
+      what = close_parts m c o _ p word i f e k.decided k.counters
+          ∙ ap (λ (b : Bool). cond b (look_of LandedForm m c []) (close_of m c (queue_next LandedForm m c))) (sym (not-true _ k.drawn));
+    }
 landed_next m lane c o w k = absurd (let d = k.drawn in let y : ⊥ = cc in y)
 
 closed_next : Next Closed
 unfolding draws
 closed_next m lane c o (Ask r) k =
     let e = due_queue (queue_due Closed c) o 0 refl k.owner in
-    record { owner = e; what = rw (← queue_of m o _ e) (ap Ask (ask_is r (ask_active (owned_queue o m) c.at c.cpu).0 (not-false _ k.reply))) }
+    record {
+      owner = e;
+      what = rw (← queue_of m o _ e)
+          (ap Ask (ask_is r (ask_active (owned_queue o m) c.at c.cpu).0 (not-false _ k.reply)));
+    }
 closed_next m lane c o w k = absurd (let d = k.drawn in let y : ⊥ = cc in y)
 
 done_next : Next Done
@@ -437,7 +468,10 @@ done_next m lane c o w k = absurd (let d = k.drawn in let y : ⊥ = cc in y)
 
 scan_next : Next ScanDue
 unfolding draws
-scan_next m lane c o (Scan names t) k = record { owner = lane_is o lane k.owner; what = scan_parts ScanDue m c o names t _ refl k.names k.decided }
+scan_next m lane c o (Scan names t) k = record {
+  owner = lane_is o lane k.owner;
+  what = scan_parts ScanDue m c o names t _ refl k.names k.decided;
+}
 scan_next m lane c o w k = absurd (let d = k.drawn in let y : ⊥ = cc in y)
 
 kicking_next : Next Kicking
@@ -468,18 +502,21 @@ each_next Kicking = kicking_next
 each_next Ended = ended_next
 
 -- ---- an entry that may be added is the next one with its choice
-names_not_wrong : (m : Machine) (e : Entry) (w : What) → breaks_figure (sight m e) w ≡ false → names_wrong (course_at m.courses e.lane).form (sight_of m (course_at m.courses e.lane) e.owner e.what) w ≡ false
+names_not_wrong : (m : Machine) (e : Entry) (w : What) → breaks_figure (sight m e) w ≡ false
+    → names_wrong (course_at m.courses e.lane).form (sight_of m (course_at m.courses e.lane) e.owner e.what) w ≡ false
 unfolding sight
 names_not_wrong m e (Look p x names d) h = (or_parts _ _ h).0
 names_not_wrong m e (Scan names t) h = (or_parts _ _ h).0
 names_not_wrong m e w h = refl
 
-pick_not_wrong : (m : Machine) (e : Entry) (w : What) → breaks_pick (sight m e) w ≡ false → pick_wrong (course_at m.courses e.lane).form (sight_of m (course_at m.courses e.lane) e.owner e.what) w ≡ false
+pick_not_wrong : (m : Machine) (e : Entry) (w : What) → breaks_pick (sight m e) w ≡ false
+    → pick_wrong (course_at m.courses e.lane).form (sight_of m (course_at m.courses e.lane) e.owner e.what) w ≡ false
 unfolding sight leaving
 pick_not_wrong m e (Out cause to tasks) h = h
 pick_not_wrong m e w h = refl
 
-facts : (m : Machine) (e : Entry) → MayBeAdded m e → Facts (course_at m.courses e.lane).form m e.lane (course_at m.courses e.lane) e.owner e.what
+facts : (m : Machine) (e : Entry) → MayBeAdded m e
+    → Facts (course_at m.courses e.lane).form m e.lane (course_at m.courses e.lane) e.owner e.what
 unfolding sight stage_allows
 facts m e h =
     let c = course_at m.courses e.lane in
@@ -504,6 +541,8 @@ facts m e h =
 
 -- what and whose the next entry is, by the form of the course
 pub chosen : (m : Machine) (e : Entry) → MayBeAdded m e →
-    (e.what ≡ what_next (course_at m.courses e.lane).form m (course_at m.courses e.lane) (queue_next (course_at m.courses e.lane).form m (course_at m.courses e.lane)) (choice_of e.what))
+    (e.what ≡ what_next (course_at m.courses e.lane).form m (course_at m.courses e.lane)
+    (queue_next (course_at m.courses e.lane).form m (course_at m.courses e.lane)) (choice_of e.what))
     × (e.owner ≡ owner_next e.what e.lane (cpu_next (course_at m.courses e.lane).form m (course_at m.courses e.lane)))
-chosen m e h = let n = each_next (course_at m.courses e.lane).form m e.lane (course_at m.courses e.lane) e.owner e.what (facts m e h) in (n.what, n.owner)
+chosen m e h = let n = each_next (course_at m.courses e.lane).form m e.lane
+    (course_at m.courses e.lane) e.owner e.what (facts m e h) in (n.what, n.owner)

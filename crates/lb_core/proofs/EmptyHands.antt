@@ -33,7 +33,8 @@ is_out (Out c to ids) = true
 is_out w = false
 
 -- only a landing is drawn in flight
-pub not_in_flight : (f : Form) (h : Header) (c : Course) (q : QueueState) (lane : ℕ) (w : What) → is_landing w ≡ false → draws f h c q lane w ≡ true → is_flight f ≡ false
+pub not_in_flight : (f : Form) (h : Header) (c : Course) (q : QueueState) (lane : ℕ) (w : What) → is_landing w ≡ false
+    → draws f h c q lane w ≡ true → is_flight f ≡ false
 unfolding draws
 not_in_flight Flight h c q lane (Landed ids) n a = absurd (let k : ⊥ = cc in k)
 not_in_flight Flight h c q lane w n a = absurd (let k : ⊥ = cc in k)
@@ -76,7 +77,8 @@ after_sleep_empty : (b : Bool) (cpu : ℕ) (c : Course) → Empty c → Empty (a
 after_sleep_empty true cpu c h = h
 after_sleep_empty false cpu c h = refl
 
-answered_empty : (command : Option Command) (cpu : ℕ) (before now : QueueState) (c : Course) → Empty c → Empty (answered command cpu before now c)
+answered_empty : (command : Option Command) (cpu : ℕ) (before now : QueueState) (c : Course) → Empty c
+    → Empty (answered command cpu before now c)
 answered_empty (Some (Sleep t)) cpu before now c h = after_sleep_empty _ cpu c h
 answered_empty (Some (Exit t)) cpu before now c h = after_sleep_empty _ cpu c h
 answered_empty (Some (Tick u)) cpu before now c h = h
@@ -92,7 +94,8 @@ lands_empty : (o : OutCause) (c : Course) → Empty (lands o c)
 lands_empty PullOut c = refl
 lands_empty o c = cond_empty _ _ _ refl refl
 
-course_empty : (w : What) (s : Sight) (cpu : ℕ) (now : QueueState) → is_out w ≡ false → (is_landing w ≡ false → Empty s.course) → Empty (course_by w s cpu now)
+course_empty : (w : What) (s : Sight) (cpu : ℕ) (now : QueueState) → is_out w ≡ false
+    → (is_landing w ≡ false → Empty s.course) → Empty (course_by w s cpu now)
 course_empty (Row n at c) s cpu now o h = h refl
 course_empty (Adopt v k u) s cpu now o h = h refl
 course_empty (Look p x f d) s cpu now o h = h refl
@@ -115,5 +118,6 @@ drew_empty Publisher n c h = h
 drew_empty (Lane l) n c h = h
 
 -- the hand is empty after an entry that is no `out`
-pub hand_after : (w : What) (s : Sight) (o : Owner) (n cpu : ℕ) (now : QueueState) → is_out w ≡ false → (is_landing w ≡ false → s.course.hand ≡ []) → (drew o n (course_by w s cpu now)).hand ≡ []
+pub hand_after : (w : What) (s : Sight) (o : Owner) (n cpu : ℕ) (now : QueueState) → is_out w ≡ false
+    → (is_landing w ≡ false → s.course.hand ≡ []) → (drew o n (course_by w s cpu now)).hand ≡ []
 hand_after w s o n cpu now a h = drew_empty o n _ (course_empty w s cpu now a h)

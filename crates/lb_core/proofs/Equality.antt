@@ -88,7 +88,8 @@ number_is a b h = absurd (let k : ⊥ = cc in k)
 
 pub numbers_same : (xs ys : List ℕ) → same_numbers xs ys ≡ true → xs ≡ ys
 numbers_same [] [] h = refl
-numbers_same (x ∷ xs) (y ∷ ys) h = let p = and_parts (x == y) (same_numbers xs ys) h in let a = eqb-true x y p.0 in let b = numbers_same xs ys p.1 in cc
+numbers_same (x ∷ xs) (y ∷ ys) h = let p = and_parts (x == y) (same_numbers xs ys) h in let a = eqb-true x y p.0 in
+    let b = numbers_same xs ys p.1 in cc
 numbers_same xs ys h = absurd (let k : ⊥ = cc in k)
 
 pub reply_is : (r s : Reply) → same_reply r s ≡ true → r ≡ s

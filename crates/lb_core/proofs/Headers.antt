@@ -22,8 +22,10 @@ task_parts n row h =
 
 -- each task is at home at a CPU of the machine
 pub homes_declared : (h : Header) → IsHeader h → All (λ row. row.home < length h.cpus) h.tasks
-homes_declared h accepted k d lt = (task_parts (length h.cpus) (get_or h.tasks k d) (all_index (is_task (length h.cpus)) h.tasks accepted.tasks k d lt)).0
+homes_declared h accepted k d lt = (task_parts (length h.cpus) (get_or h.tasks k d)
+    (all_index (is_task (length h.cpus)) h.tasks accepted.tasks k d lt)).0
 
 -- each task has a mask
 pub masks_given : (h : Header) → IsHeader h → All (λ row. is_empty row.mask ≡ false) h.tasks
-masks_given h accepted k d lt = (task_parts (length h.cpus) (get_or h.tasks k d) (all_index (is_task (length h.cpus)) h.tasks accepted.tasks k d lt)).1
+masks_given h accepted k d lt = (task_parts (length h.cpus) (get_or h.tasks k d)
+    (all_index (is_task (length h.cpus)) h.tasks accepted.tasks k d lt)).1

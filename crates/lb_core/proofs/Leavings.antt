@@ -33,7 +33,13 @@ leaves call = false
 
 -- what leaves by it
 abbrev pub leaving_of : QueueState → OutCause → Option Taken → Call → Leaving
-leaving_of q cause taken call = record { cause = cause; to = goes_to call; hand = taken_along q call; rest = after_call q call; taken = taken }
+leaving_of q cause taken call = record {
+  cause = cause;
+  to = goes_to call;
+  hand = taken_along q call;
+  rest = after_call q call;
+  taken = taken;
+}
 
 -- no mask of an awake task is empty
 abbrev pub HaveMasks : QueueState → Type 0
@@ -45,7 +51,8 @@ pub record IsLeft (q : QueueState) (l : Leaving) : Type 0 where
   pub is : leaving_of q l.cause l.taken call ≡ l
   pub may : NextMayBeTaken → AreDistinct q → HaveMasks q → May q call
 
-by : (q : QueueState) (cause : OutCause) (taken : Option Taken) (call : Call) (l : Leaving) → leaves call ≡ true → Some (leaving_of q cause taken call) ≡ Some l → (NextMayBeTaken → AreDistinct q → HaveMasks q → May q call) → IsLeft q l
+by : (q : QueueState) (cause : OutCause) (taken : Option Taken) (call : Call) (l : Leaving) → leaves call ≡ true
+    → Some (leaving_of q cause taken call) ≡ Some l → (NextMayBeTaken → AreDistinct q → HaveMasks q → May q call) → IsLeft q l
 by q cause taken call l b e may =
     let same : leaving_of q cause taken call ≡ l = cc in
     subst (IsLeft q) same (record { call = call; leaves = b; is = refl; may = may })
@@ -61,9 +68,11 @@ wakes_off : (command : Option Command) (at : ℕ) (q : QueueState) (l : Leaving)
 wakes_off (Some (Wake t)) at q l e = wakes (away q t) at t q l refl e
 wakes_off command at q l e = nothing q l e
 
-stops : (o : Option Stop) (owed : Bool) (at : ℕ) (q : QueueState) (l : Leaving) → next_stop q owed ≡ o → stop_out o at q ≡ Some l → IsLeft q l
+stops : (o : Option Stop) (owed : Bool) (at : ℕ) (q : QueueState) (l : Leaving) → next_stop q owed ≡ o
+    → stop_out o at q ≡ Some l → IsLeft q l
 stops None owed at q l s e = nothing q l e
-stops (Some stop) owed at q l s e = by q _ None (TakeStop at stop.id stop.to) l refl e (λ next one masks. subst (λ (o : Option Stop). IfSome o (λ x. stop_to q x.id ≡ Some x.to)) s (next q one masks owed))
+stops (Some stop) owed at q l s e = by q _ None (TakeStop at stop.id stop.to) l refl e
+    (λ next one masks. subst (λ (o : Option Stop). IfSome o (λ x. stop_to q x.id ≡ Some x.to)) s (next q one masks owed))
 
 pushes : (o : Option ℕ) (at : ℕ) (q : QueueState) (l : Leaving) → q.active ≡ o → push_out o at q ≡ Some l → IsLeft q l
 pushes None at q l a e = nothing q l e

@@ -27,18 +27,23 @@ pub record Parts (before : List Entry) (e : Entry) (later : List Entry) (m : Mac
   pub this : MayBeAdded (run before m) e
   pub last : MayFollow later (after (run before m) e)
 
-pub parts : (before : List Entry) (e : Entry) (later : List Entry) (m : Machine) → MayFollow (before ++ e ∷ later) m → Parts before e later m
+pub parts : (before : List Entry) (e : Entry) (later : List Entry) (m : Machine) → MayFollow (before ++ e ∷ later) m
+    → Parts before e later m
 parts [] e later m l = record { first = tt; this = l.0; last = l.1 }
-parts (x ∷ before) e later m l = let p = parts before e later (after m x) l.1 in record { first = (l.0, p.first); this = p.this; last = p.last }
+parts (x ∷ before) e later m l = let p = parts before e later (after m x) l.1 in
+    record { first = (l.0, p.first); this = p.this; last = p.last }
 
 pub run-append : (xs ys : List Entry) (m : Machine) → run (xs ++ ys) m ≡ run ys (run xs m)
 run-append [] ys m = refl
 run-append (x ∷ xs) ys m = run-append xs ys (after m x)
 
 -- what each entry keeps holds of each front
-pub front_holds : (P : List Entry → Machine → Type 0) → ((pre : List Entry) (m : Machine) (e : Entry) → MayBeAdded m e → P pre m → P (pre ++ e ∷ []) (after m e)) → (es pre : List Entry) (m : Machine) → MayFollow es m → P pre m → P (pre ++ es) (run es m)
+pub front_holds : (P : List Entry → Machine → Type 0)
+    → ((pre : List Entry) (m : Machine) (e : Entry) → MayBeAdded m e → P pre m → P (pre ++ e ∷ []) (after m e))
+    → (es pre : List Entry) (m : Machine) → MayFollow es m → P pre m → P (pre ++ es) (run es m)
 front_holds P step [] pre m l k = subst (λ (x : List Entry). P x m) (sym (append-nil pre)) k
-front_holds P step (e ∷ es) pre m l k = subst (λ (x : List Entry). P x (run es (after m e))) (append_assoc pre (e ∷ []) es) (front_holds P step es (pre ++ e ∷ []) (after m e) l.1 (step pre m e l.0 k))
+front_holds P step (e ∷ es) pre m l k = subst (λ (x : List Entry). P x (run es (after m e)))
+    (append_assoc pre (e ∷ []) es) (front_holds P step es (pre ++ e ∷ []) (after m e) l.1 (step pre m e l.0 k))
 
 -- ---- the next entry
 pub record IsNextOf (lane : ℕ) (m : Machine) (later : List Entry) (c : Course) (o : Entry) : Type 0 where
@@ -47,12 +52,16 @@ pub record IsNextOf (lane : ℕ) (m : Machine) (later : List Entry) (c : Course)
   pub own : o.lane ≡ lane
   pub rest : MayFollow (beyond lane later) (after (run (until lane later) m) o)
 
-course_stays : (m : Machine) (x : Entry) (lane : ℕ) → (x.lane == lane) ≡ false → course_at (after m x).courses lane ≡ course_at m.courses lane
+course_stays : (m : Machine) (x : Entry) (lane : ℕ) → (x.lane == lane) ≡ false
+    → course_at (after m x).courses lane ≡ course_at m.courses lane
 unfolding after
-course_stays m x lane h = get_or-set_other m.courses x.lane lane (course_after (sight m x) x) no_course (λ z. let w = eqb-false x.lane lane h in w (sym z))
+course_stays m x lane h = get_or-set_other m.courses x.lane lane (course_after (sight m x) x) no_course
+    (λ z. let w = eqb-false x.lane lane h in w (sym z))
 
-next_step : (lane : ℕ) (m : Machine) (x : Entry) (later : List Entry) (c : Course) (o : Entry) (b : Bool) → (x.lane == lane) ≡ b → course_at m.courses lane ≡ c → MayBeAdded m x → MayFollow later (after m x) →
-    (course_at (after m x).courses lane ≡ c → next_of lane later ≡ Some o → IsNextOf lane (after m x) later c o) → cond b (Some x) (next_of lane later) ≡ Some o → IsNextOf lane m (x ∷ later) c o
+next_step : (lane : ℕ) (m : Machine) (x : Entry) (later : List Entry) (c : Course) (o : Entry) (b : Bool)
+    → (x.lane == lane) ≡ b → course_at m.courses lane ≡ c → MayBeAdded m x → MayFollow later (after m x) →
+    (course_at (after m x).courses lane ≡ c → next_of lane later ≡ Some o → IsNextOf lane (after m x) later c o)
+    → cond b (Some x) (next_of lane later) ≡ Some o → IsNextOf lane m (x ∷ later) c o
 next_step lane m x later c o true h at a l more e =
     let k : x ≡ o = cc in
     let u : until lane (x ∷ later) ≡ [] = rw h refl in
@@ -62,7 +71,8 @@ next_step lane m x later c o true h at a l more e =
       added = subst (λ (es : List Entry). MayBeAdded (run es m) o) (sym u) (subst (λ (y : Entry). MayBeAdded m y) k a);
       own = ap (λ (y : Entry). y.lane) (sym k) ∙ eqb-true x.lane lane h;
       rest = subst (λ (es : List Entry). MayFollow es (after (run (until lane (x ∷ later)) m) o)) (sym v)
-          (subst (λ (es : List Entry). MayFollow later (after (run es m) o)) (sym u) (subst (λ (y : Entry). MayFollow later (after m y)) k l));
+          (subst (λ (es : List Entry). MayFollow later (after (run es m) o)) (sym u)
+          (subst (λ (y : Entry). MayFollow later (after m y)) k l));
     }
 next_step lane m x later c o false h at a l more e =
     let r = more (course_stays m x lane h ∙ at) e in
@@ -76,25 +86,31 @@ next_step lane m x later c o false h at a l more e =
           (subst (λ (es : List Entry). MayFollow (beyond lane later) (after (run es m) o)) (sym u) r.rest);
     }
 
-pub next_is : (lane : ℕ) (later : List Entry) (m : Machine) (c : Course) (o : Entry) → course_at m.courses lane ≡ c → MayFollow later m → next_of lane later ≡ Some o → IsNextOf lane m later c o
+pub next_is : (lane : ℕ) (later : List Entry) (m : Machine) (c : Course) (o : Entry) → course_at m.courses lane ≡ c
+    → MayFollow later m → next_of lane later ≡ Some o → IsNextOf lane m later c o
 next_is lane [] m c o at l e = absurd (let y : ⊥ = cc in y)
-next_is lane (x ∷ later) m c o at l e = next_step lane m x later c o (x.lane == lane) refl at l.0 l.1 (λ at' e'. next_is lane later (after m x) c o at' l.1 e') e
+next_is lane (x ∷ later) m c o at l e = next_step lane m x later c o (x.lane == lane) refl at l.0 l.1
+    (λ at' e'. next_is lane later (after m x) c o at' l.1 e') e
 
 -- ---- a lane that does not rest has one, where the history ends
-no_end : (f : Form) (m : Machine) (h : Header) (c : Course) (q : QueueState) (lane : ℕ) (o : Owner) (w : What) → draws f h c q lane w ≡ true → stage_at_rest f m o w ≡ false → (all_rest m ≡ true → ⊥) → ended_after w m.ended ≡ m.ended
+no_end : (f : Form) (m : Machine) (h : Header) (c : Course) (q : QueueState) (lane : ℕ) (o : Owner) (w : What)
+    → draws f h c q lane w ≡ true → stage_at_rest f m o w ≡ false → (all_rest m ≡ true → ⊥) → ended_after w m.ended ≡ m.ended
 unfolding draws
 no_end Rest m h c q lane o (End unserved) d s n = absurd (n (not-false _ s))
 no_end f m h c q lane o (End unserved) d s n = absurd (let y : ⊥ = cc in y)
 no_end f m h c q lane o w d s n = refl
 
-pub some_next : (lane : ℕ) (later : List Entry) (m : Machine) → rests_at m lane ≡ false → m.ended ≡ false → MayFollow later m → (run later m).ended ≡ true → (o : Entry) × (next_of lane later ≡ Some o)
+pub some_next : (lane : ℕ) (later : List Entry) (m : Machine) → rests_at m lane ≡ false → m.ended ≡ false
+    → MayFollow later m → (run later m).ended ≡ true → (o : Entry) × (next_of lane later ≡ Some o)
 unfolding after
 some_next lane [] m r n l e = clash _ e n
-some_next lane (x ∷ later) m r n l e = by_lane (x.lane == lane) refl (λ b. some_next lane later (after m x) (ap (λ (c : Course). is_rest c.form) (course_stays m x lane b) ∙ r) (ended ∙ n) l.1 e)
+some_next lane (x ∷ later) m r n l e = by_lane (x.lane == lane) refl
+    (λ b. some_next lane later (after m x) (ap (λ (c : Course). is_rest c.form) (course_stays m x lane b) ∙ r) (ended ∙ n) l.1 e)
   where
     ended : ended_after x.what m.ended ≡ m.ended
     ended = no_end _ m _ _ _ x.lane x.owner x.what (form_lets m x l.0).1 (at_rest_lets m x l.0) (λ all. clash _ (rest_each m all lane) r)
 
-    by_lane : (b : Bool) → (x.lane == lane) ≡ b → ((x.lane == lane) ≡ false → (o : Entry) × (next_of lane later ≡ Some o)) → (o : Entry) × (next_of lane (x ∷ later) ≡ Some o)
+    by_lane : (b : Bool) → (x.lane == lane) ≡ b
+        → ((x.lane == lane) ≡ false → (o : Entry) × (next_of lane later ≡ Some o)) → (o : Entry) × (next_of lane (x ∷ later) ≡ Some o)
     by_lane true b more = (x, rw b refl)
     by_lane false b more = let k = more b in (k.0, rw b k.1)

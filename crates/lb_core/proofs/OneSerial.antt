@@ -38,7 +38,8 @@ due_same : (f : Form) (s : Sight) → figures_due f s ≡ figures_due f (sight_o
 due_same ScanDue s = refl
 due_same f s = refl
 
-newest_are : (m : Machine) (names : List FigName) → are_newest m names ≡ true → map (λ f. f.n) names ≡ map (entries_at m) (map (λ f. f.cpu) names)
+newest_are : (m : Machine) (names : List FigName) → are_newest m names ≡ true
+    → map (λ f. f.n) names ≡ map (entries_at m) (map (λ f. f.cpu) names)
 newest_are m [] h = refl
 newest_are m (f ∷ fs) h =
     let p = and_parts _ _ h in
@@ -49,7 +50,8 @@ newest_are m (f ∷ fs) h =
 numbers_due : Machine → ℕ → List ℕ
 numbers_due m lane = let c = course_at m.courses lane in map (entries_at m) (members (figures_due c.form (sight_of m.header c)))
 
-named_due : (m : Machine) (s : Sight) (names : List FigName) → are_wrong s names ≡ false → are_newest m names ≡ true → map (λ f. f.n) names ≡ map (entries_at m) (members (figures_due s.course.form (sight_of s.header s.course)))
+named_due : (m : Machine) (s : Sight) (names : List FigName) → are_wrong s names ≡ false → are_newest m names ≡ true
+    → map (λ f. f.n) names ≡ map (entries_at m) (members (figures_due s.course.form (sight_of s.header s.course)))
 named_due m s names h z =
     let e : map (λ f. f.cpu) names ≡ members (figures_due s.course.form s) = numbers_same _ _ (not-false _ (or_parts _ _ h).0) in
     newest_are m names z ∙ ap (map (entries_at m)) (e ∙ ap members (due_same s.course.form s))
@@ -71,12 +73,16 @@ agree m lane (Look p x names d) (Look p' x' names' d') a b = a ∙ sym b
 agree m lane (Scan names t) (Scan names' t') a b = a ∙ sym b
 agree m lane v w a b = tt
 
-chosen : (m : Machine) (o : Owner) (lane prev : ℕ) (w : What) → MayBeAdded m (entry o lane prev w) → is_serial m w ≡ true → rests_at m lane ≡ false → Chosen m lane w
+chosen : (m : Machine) (o : Owner) (lane prev : ℕ) (w : What) → MayBeAdded m (entry o lane prev w)
+    → is_serial m w ≡ true → rests_at m lane ≡ false → Chosen m lane w
 unfolding sight numbers_due
-chosen m o lane prev (Row n at command) h z r = let e = entry o lane prev (Row n at command) in clash _ (row_rests _ m _ _ _ lane n at o command (form_lets m e h).1 (at_rest_lets m e h)).0 r
+chosen m o lane prev (Row n at command) h z r = let e = entry o lane prev (Row n at command) in
+    clash _ (row_rests _ m _ _ _ lane n at o command (form_lets m e h).1 (at_rest_lets m e h)).0 r
 chosen m o lane prev (Adopt v kind cpu) h z r = eqb-true _ _ z
-chosen m o lane prev (Look p x names d) h z r = let e = entry o lane prev (Look p x names d) in named_due m (sight m e) names (unbroken_here m e h Figure) z
-chosen m o lane prev (Scan names t) h z r = let e = entry o lane prev (Scan names t) in named_due m (sight m e) names (unbroken_here m e h Figure) z
+chosen m o lane prev (Look p x names d) h z r = let e = entry o lane prev (Look p x names d) in
+    named_due m (sight m e) names (unbroken_here m e h Figure) z
+chosen m o lane prev (Scan names t) h z r = let e = entry o lane prev (Scan names t) in
+    named_due m (sight m e) names (unbroken_here m e h Figure) z
 chosen m o lane prev w h z r = tt
 
 -- ---- at rest: the same row, or no row is left
@@ -86,7 +92,8 @@ head_same x y xs ys h = cc
 none_left : {A : Type 0} (x : TraceRow) (xs ys : List TraceRow) → ys ≡ [] → x ∷ xs ≡ ys → A
 none_left x xs ys n h = absurd (let y : ⊥ = cc in y)
 
-rest_agree : (v w : What) (l k : ℕ) (xs ys : List TraceRow) → RestRows v l xs → RestRows w k ys → row_of v l ++ xs ≡ row_of w k ++ ys → (l ≡ k) × Agree v w
+rest_agree : (v w : What) (l k : ℕ) (xs ys : List TraceRow) → RestRows v l xs → RestRows w k ys
+    → row_of v l ++ xs ≡ row_of w k ++ ys → (l ≡ k) × Agree v w
 rest_agree (Row n at command) (Row n' at' command') l k xs ys a b e =
     let first : TraceRow = record { lane = l; at = at; command = command } in
     let second : TraceRow = record { lane = k; at = at'; command = command' } in
@@ -110,7 +117,8 @@ rows_left : (w : What) (lane : ℕ) (xs ys : List TraceRow) → row_of w lane ++
 rows_left (Row n at command) lane xs ys h = cc
 rows_left w lane xs ys h = h
 
-one_comes : (m : Machine) (a b : Entry) (es fs : List Entry) → OneAtWork m → MayBeAdded m a → MayBeAdded m b → MayFollow es (after m a) → MayFollow fs (after m b) → is_serial m a.what ≡ true → is_serial m b.what ≡ true →
+one_comes : (m : Machine) (a b : Entry) (es fs : List Entry) → OneAtWork m → MayBeAdded m a → MayBeAdded m b
+    → MayFollow es (after m a) → MayFollow fs (after m b) → is_serial m a.what ≡ true → is_serial m b.what ≡ true →
     rows_drawn (a ∷ es) ≡ rows_drawn (b ∷ fs) → a ≡ b
 one_comes m a b es fs one ha hb la lb za zb rows = by_rest (rests_at m a.lane) refl
   where
@@ -123,19 +131,24 @@ one_comes m a b es fs one ha hb la lb za zb rows = by_rest (rests_at m a.lane) r
     by_rest false r =
         let same : a.lane ≡ b.lane = sym (works m b hb zb one a.lane r) in
         let cb = chosen m b.owner b.lane b.prev b.what hb zb (ap (rests_at m) (sym same) ∙ r) in
-        choices_are_all m a b same ha hb (agree m a.lane a.what b.what (chosen m a.owner a.lane a.prev a.what ha za r) (subst (λ (l : ℕ). Chosen m l b.what) (sym same) cb))
+        choices_are_all m a b same ha hb
+        (agree m a.lane a.what b.what (chosen m a.owner a.lane a.prev a.what ha za r)
+        (subst (λ (l : ℕ). Chosen m l b.what) (sym same) cb))
 
 -- ---- from a common state
 abbrev Rest_ : Machine → List Entry → Entry → List Entry → Entry → Type 0
-Rest_ m es a fs b = MayFollow fs (after m b) → (run fs (after m b)).ended ≡ true → AreSerial fs (after m b) → row_of a.what a.lane ++ rows_drawn es ≡ row_of b.what b.lane ++ rows_drawn fs → a ∷ es ≡ b ∷ fs
+Rest_ m es a fs b = MayFollow fs (after m b) → (run fs (after m b)).ended ≡ true → AreSerial fs (after m b)
+    → row_of a.what a.lane ++ rows_drawn es ≡ row_of b.what b.lane ++ rows_drawn fs → a ∷ es ≡ b ∷ fs
 
-same_from : (es fs : List Entry) (m : Machine) → OneAtWork m → MayFollow es m → MayFollow fs m → (run es m).ended ≡ true → (run fs m).ended ≡ true → AreSerial es m → AreSerial fs m → rows_drawn es ≡ rows_drawn fs → es ≡ fs
+same_from : (es fs : List Entry) (m : Machine) → OneAtWork m → MayFollow es m → MayFollow fs m
+    → (run es m).ended ≡ true → (run fs m).ended ≡ true → AreSerial es m → AreSerial fs m → rows_drawn es ≡ rows_drawn fs → es ≡ fs
 same_from [] fs m one ha hb ea eb za zb rows = sym (nothing_follows fs m ea hb)
 same_from (a ∷ es) [] m one ha hb ea eb za zb rows = nothing_follows (a ∷ es) m eb ha
 same_from (a ∷ es) (b ∷ fs) m one ha hb ea eb za zb rows =
     let same = one_comes m a b es fs one ha.0 hb.0 ha.1 hb.1 za.0 zb.0 rows in
     subst (Rest_ m es a fs) same
-    (λ h e z r. ap (λ (xs : List Entry). a ∷ xs) (same_from es fs (after m a) (one_kept m a ha.0 za.0 one) ha.1 h ea e za.1 z (rows_left a.what a.lane _ _ r)))
+    (λ h e z r. ap (λ (xs : List Entry). a ∷ xs)
+    (same_from es fs (after m a) (one_kept m a ha.0 za.0 one) ha.1 h ea e za.1 z (rows_left a.what a.lane _ _ r)))
     hb.1 eb zb.1 rows
 
 -- ---- from the opening state
@@ -154,4 +167,5 @@ one_serial_history t a b sa sb =
     let ra = runs t a sa in
     let rb = runs t b sb in
     same_history a b (sa.of_trace.header ∙ sym sb.of_trace.header)
-    (same_from a.entries b.entries (start t.header) (one_starts t.header) ra.0.0 rb.0.0 ra.0.1 rb.0.1 ra.1 rb.1 (sa.file_order ∙ sym sb.file_order))
+    (same_from a.entries b.entries (start t.header) (one_starts t.header) ra.0.0 rb.0.0 ra.0.1 rb.0.1 ra.1 rb.1
+    (sa.file_order ∙ sym sb.file_order))

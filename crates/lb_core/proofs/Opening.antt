@@ -27,7 +27,8 @@ HomesDeclared h = All (λ row. row.home < length h.cpus) h.tasks
 
 -- who is at home at a CPU
 is_home : ℕ → ℕ → List TaskRow → Place → ℕ → Bool
-is_home cpu id rows d t = leb id t && (ltb (t - id) (length rows) && same_place (AsleepAt cpu) (get_or (map (λ row. AsleepAt row.home) rows) (t - id) d))
+is_home cpu id rows d t = leb id t && (ltb (t - id) (length rows) && same_place (AsleepAt cpu)
+    (get_or (map (λ row. AsleepAt row.home) rows) (t - id) d))
 
 before : (cpu id t : ℕ) (rows : List TaskRow) (d : Place) → t < id → is_home cpu id rows d t ≡ false
 unfolding is_home
@@ -43,15 +44,18 @@ first_home cpu id t row rows d h =
 ltb_suc : (a b : ℕ) → ltb (suc a) (suc b) ≡ ltb a b
 ltb_suc a b = grind (arith, nat_tests)
 
-later_home : (cpu id t : ℕ) (row : TaskRow) (rows : List TaskRow) (d : Place) → id < t → is_home cpu id (row ∷ rows) d t ≡ is_home cpu (id + 1) rows d t
+later_home : (cpu id t : ℕ) (row : TaskRow) (rows : List TaskRow) (d : Place) → id < t
+    → is_home cpu id (row ∷ rows) d t ≡ is_home cpu (id + 1) rows d t
 unfolding is_home
 later_home cpu id t row rows d h =
     let z : t - id ≡ suc (t - (id + 1)) = omega arith in
     let l : leb id t ≡ true = le-leb id t (omega arith) in
     let k : leb (id + 1) t ≡ true = le-leb (id + 1) t (omega arith) in
-    rw (l, k, z) (ap (λ (b : Bool). b && same_place (AsleepAt cpu) (get_or (map (λ (r : TaskRow). AsleepAt r.home) rows) (t - (id + 1)) d)) (ltb_suc (t - (id + 1)) (length rows)))
+    rw (l, k, z) (ap (λ (b : Bool). b && same_place (AsleepAt cpu)
+    (get_or (map (λ (r : TaskRow). AsleepAt r.home) rows) (t - (id + 1)) d)) (ltb_suc (t - (id + 1)) (length rows)))
 
-home_step : (cpu id t n : ℕ) (row : TaskRow) (b : Bool) → eqb row.home cpu ≡ b → (xs : List TaskRecord) → occurs t (ids xs) ≡ n → occurs t (ids (cond b (new_task id row.nice row.mask ∷ xs) xs)) ≡ cond b (cond (eqb id t) 1 0) 0 + n
+home_step : (cpu id t n : ℕ) (row : TaskRow) (b : Bool) → eqb row.home cpu ≡ b → (xs : List TaskRecord)
+    → occurs t (ids xs) ≡ n → occurs t (ids (cond b (new_task id row.nice row.mask ∷ xs) xs)) ≡ cond b (cond (eqb id t) 1 0) 0 + n
 home_step cpu id t n row true e xs h = rw h refl
 home_step cpu id t n row false e xs h = rw h (omega arith)
 
@@ -104,7 +108,8 @@ at_home cpu id t (row ∷ rows) d =
     ]
 
 -- ---- the opening state
-home_of : (rows : List TaskRow) (n t : ℕ) (d : Place) → t < length rows → All (λ row. row.home < n) rows → (c : ℕ) × (c < n) × (get_or (map (λ (r : TaskRow). AsleepAt r.home) rows) t d ≡ AsleepAt c)
+home_of : (rows : List TaskRow) (n t : ℕ) (d : Place) → t < length rows → All (λ row. row.home < n) rows
+    → (c : ℕ) × (c < n) × (get_or (map (λ (r : TaskRow). AsleepAt r.home) rows) t d ≡ AsleepAt c)
 home_of [] n t d lt all = absurd (omega arith)
 home_of (row ∷ rows) n zero d lt all = (row.home, all 0 row (omega arith), refl)
 home_of (row ∷ rows) n (suc t) d lt all = home_of rows n t d (omega arith) (λ k e l. all (suc k) e (omega arith))
@@ -114,7 +119,8 @@ past [] i d h = refl
 past (x ∷ xs) zero d h = absurd (omega arith)
 past (x ∷ xs) (suc i) d h = past xs i d (omega arith)
 
-pub opening_at : (h : Header) (cpu : ℕ) → (queue_at (start h).queues cpu ≡ opening_queue h cpu) × (cpu < length h.cpus) ⊎ (queue_at (start h).queues cpu ≡ no_queue) × (length h.cpus ≤ cpu)
+pub opening_at : (h : Header) (cpu : ℕ) → (queue_at (start h).queues cpu ≡ opening_queue h cpu)
+    × (cpu < length h.cpus) ⊎ (queue_at (start h).queues cpu ≡ no_queue) × (length h.cpus ≤ cpu)
 unfolding start
 opening_at h cpu = elim (cases_lt cpu (length h.cpus)) [
   | inl lt ↦ inl (get_or-map-range_with_len (opening_queue h) 0 (length h.cpus) cpu cpu no_queue lt (omega arith), lt)
@@ -131,17 +137,21 @@ opening_hand h lane =
     ]
 
 -- nobody stands anywhere but asleep
-its_not : (h : Header) → HomesDeclared h → (p : Place) (t : ℕ) → ((c : ℕ) → c < length h.cpus → same_place p (AsleepAt c) ≡ false) → is_its_place (start h) p t ≡ false
+its_not : (h : Header) → HomesDeclared h → (p : Place) (t : ℕ)
+    → ((c : ℕ) → c < length h.cpus → same_place p (AsleepAt c) ≡ false) → is_its_place (start h) p t ≡ false
 unfolding start
 its_not h homes p t n = elim (cases_lt t (length h.tasks)) [
-  | inl lt ↦ let d = HandOf (length (start h).courses) in let o = home_of h.tasks (length h.cpus) t d lt homes in and_right _ (same_place p (place_at (start h) t)) (let g : place_at (start h) t ≡ AsleepAt o.0 = o.2 in rw g (n o.0 o.1))
-  | inr ge ↦ and_left (ltb t (length (start h).places)) _ (le-ltb t (length (start h).places) (let e = length-map h.tasks (λ (r : TaskRow). AsleepAt r.home) in omega arith))
+  | inl lt ↦ let d = HandOf (length (start h).courses) in let o = home_of h.tasks (length h.cpus) t d lt homes in
+      and_right _ (same_place p (place_at (start h) t)) (let g : place_at (start h) t ≡ AsleepAt o.0 = o.2 in rw g (n o.0 o.1))
+  | inr ge ↦ and_left (ltb t (length (start h).places)) _
+      (le-ltb t (length (start h).places) (let e = length-map h.tasks (λ (r : TaskRow). AsleepAt r.home) in omega arith))
 ]
 
 zero_is : (n : ℕ) (b : Bool) → n ≡ 0 → b ≡ false → n ≡ cond {A = ℕ} b 1 0
 zero_is n b z e = rw e z
 
-asleep_once : (h : Header) → HomesDeclared h → (cpu t : ℕ) → times (start h) (AsleepAt cpu) t ≡ cond {A = ℕ} (is_its_place (start h) (AsleepAt cpu) t) 1 0
+asleep_once : (h : Header) → HomesDeclared h → (cpu t : ℕ)
+    → times (start h) (AsleepAt cpu) t ≡ cond {A = ℕ} (is_its_place (start h) (AsleepAt cpu) t) 1 0
 unfolding start opening_queue is_home
 asleep_once h homes cpu t = elim (opening_at h cpu) [
   | inl a ↦
@@ -150,21 +160,40 @@ asleep_once h homes cpu t = elim (opening_at h cpu) [
       let n = at_home cpu 0 t h.tasks d in
       let z : t - 0 ≡ t = omega arith in
       let l : leb 0 t ≡ true = le-leb 0 t (omega arith) in
-      let e : is_home cpu 0 h.tasks d t ≡ is_its_place (start h) (AsleepAt cpu) t = rw (l, z, length-map h.tasks (λ (r : TaskRow). AsleepAt r.home)) refl in
+      let e : is_home cpu 0 h.tasks d t ≡ is_its_place (start h) (AsleepAt cpu) t =
+      rw (l, z, length-map h.tasks (λ (r : TaskRow). AsleepAt r.home)) refl in
       q ∙ n ∙ ap (λ (b : Bool). cond {A = ℕ} b 1 0) e
-  | inr b ↦ zero_is _ _ (ap (λ (x : QueueState). occurs t (ids x.asleep)) b.0) (its_not h homes (AsleepAt cpu) t (λ c lt. ne_eqb cpu c (λ e. omega arith)))
+  | inr b ↦ zero_is _ _ (ap (λ (x : QueueState). occurs t (ids x.asleep)) b.0)
+      (its_not h homes (AsleepAt cpu) t (λ c lt. ne_eqb cpu c (λ e. omega arith)))
 ]
 
 start_once : (h : Header) → HomesDeclared h → (p : Place) (t : ℕ) → times (start h) p t ≡ cond {A = ℕ} (is_its_place (start h) p t) 1 0
 unfolding opening_queue
-start_once h homes (AwakeAt cpu) t = zero_is _ _ (elim (opening_at h cpu) [ inl a ↦ ap (λ (x : QueueState). occurs t (awake_ids x.awake)) a.0 | inr b ↦ ap (λ (x : QueueState). occurs t (awake_ids x.awake)) b.0 ]) (its_not h homes (AwakeAt cpu) t (λ c lt. refl))
+start_once h homes (AwakeAt cpu) t = zero_is _ _
+    (elim (opening_at h cpu) [
+      | inl a ↦ ap (λ (x : QueueState). occurs t (awake_ids x.awake)) a.0
+      | inr b ↦ ap
+          (λ (x : QueueState). occurs t (awake_ids x.awake)) b.0
+    ]) (its_not h homes (AwakeAt cpu) t (λ c lt. refl))
 start_once h homes (AsleepAt cpu) t = asleep_once h homes cpu t
-start_once h homes (GoneAt cpu) t = zero_is _ _ (elim (opening_at h cpu) [ inl a ↦ ap (λ (x : QueueState). occurs t (ids x.gone)) a.0 | inr b ↦ ap (λ (x : QueueState). occurs t (ids x.gone)) b.0 ]) (its_not h homes (GoneAt cpu) t (λ c lt. refl))
-start_once h homes (HandOf lane) t = zero_is _ _ (ap (λ (x : List TaskRecord). occurs t (ids x)) (opening_hand h lane)) (its_not h homes (HandOf lane) t (λ c lt. refl))
+start_once h homes (GoneAt cpu) t = zero_is _ _
+    (elim (opening_at h cpu) [
+      | inl a ↦ ap (λ (x : QueueState). occurs t (ids x.gone)) a.0
+      | inr b ↦ ap
+          (λ (x : QueueState). occurs t (ids x.gone)) b.0
+    ]) (its_not h homes (GoneAt cpu) t (λ c lt. refl))
+start_once h homes (HandOf lane) t = zero_is _ _
+    (ap (λ (x : List TaskRecord). occurs t (ids x)) (opening_hand h lane)) (its_not h homes (HandOf lane) t (λ c lt. refl))
 
 pub start_kept : (h : Header) → HomesDeclared h → Kept (start h)
 unfolding start
-start_kept h homes = record { placed = record { mapped = length-map h.tasks (λ (r : TaskRow). AsleepAt r.home); once = start_once h homes }; hands = λ lane f. opening_hand h lane }
+start_kept h homes = record {
+  placed = record {
+    mapped = length-map h.tasks (λ (r : TaskRow). AsleepAt r.home);
+    once = start_once h homes;
+  };
+  hands = λ lane f. opening_hand h lane;
+}
 
 pub placed_always : CallsMove → PlacedAlways
 placed_always law h es accepted legal = (run_kept law es (start h) (start_kept h (homes_declared h accepted)) legal).placed
@@ -173,4 +202,5 @@ pub placed_opens : PlacedOpens
 placed_opens h accepted = let k = start_kept h (homes_declared h accepted) in (k.placed, k.hands)
 
 pub placed_stays : CallsMove → PlacedStays
-placed_stays law m e placed hands added = let k = step_kept law m e.owner e.lane e.prev e.what (record { placed = placed; hands = hands }) added in (k.placed, k.hands)
+placed_stays law m e placed hands added = let k =
+    step_kept law m e.owner e.lane e.prev e.what (record { placed = placed; hands = hands }) added in (k.placed, k.hands)

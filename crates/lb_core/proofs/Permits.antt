@@ -51,10 +51,12 @@ pub record Permit (m : Machine) : Type 0 where
   pub queues : (cpu : ℕ) → IsAllowed (queue_at m.queues cpu)
   pub hands : (lane : ℕ) → list_all (may_go_to (course_at m.courses lane).to) (course_at m.courses lane).hand ≡ true
 
-permit_step : (m m' : Machine) (cpu lane : ℕ) (q : QueueState) (c : Course) → IsChanged m m' cpu lane q c → length m'.queues ≡ length m.queues → Permit m → Stays (queue_at m.queues cpu) q → list_all (may_go_to c.to) c.hand ≡ true → Permit m'
+permit_step : (m m' : Machine) (cpu lane : ℕ) (q : QueueState) (c : Course) → IsChanged m m' cpu lane q c
+    → length m'.queues ≡ length m.queues → Permit m → Stays (queue_at m.queues cpu) q → list_all (may_go_to c.to) c.hand ≡ true → Permit m'
 permit_step m m' cpu lane q c h n p s g = record {
   cpus = λ u lt. elim (cases_eq u cpu) [
-    | inl e ↦ ap (λ (x : QueueState). x.cpu) (ap (queue_at m'.queues) e ∙ h.this_queue) ∙ s.cpu ∙ ap (λ (x : ℕ). (queue_at m.queues x).cpu) (sym e) ∙ p.cpus u (omega arith)
+    | inl e ↦ ap (λ (x : QueueState). x.cpu) (ap (queue_at m'.queues) e ∙ h.this_queue) ∙ s.cpu
+        ∙ ap (λ (x : ℕ). (queue_at m.queues x).cpu) (sym e) ∙ p.cpus u (omega arith)
     | inr z ↦ ap (λ (x : QueueState). x.cpu) (h.other_queue u z) ∙ p.cpus u (omega arith)
   ];
   queues = λ u. elim (cases_eq u cpu) [
@@ -76,7 +78,8 @@ queues_long (Lane l) q qs = refl
 queues_long Publisher q qs = refl
 
 -- ---- answers
-did_permits : TaskLaws → (m : Machine) (cpu lane prev : ℕ) (r : Reply) → Kept m → Permit m → MayBeAdded m (entry (Queue cpu) lane prev (Did r)) → Permit (after m (entry (Queue cpu) lane prev (Did r)))
+did_permits : TaskLaws → (m : Machine) (cpu lane prev : ℕ) (r : Reply) → Kept m → Permit m
+    → MayBeAdded m (entry (Queue cpu) lane prev (Did r)) → Permit (after m (entry (Queue cpu) lane prev (Did r)))
 unfolding after sight queue_after
 did_permits law m cpu lane prev r k p h =
     let e = entry (Queue cpu) lane prev (Did r) in
@@ -87,12 +90,14 @@ did_permits law m cpu lane prev r k p h =
     (answer_stays law c.command c.at q said.0 (p.queues cpu)) (none_goes (course_after (sight m e) e) (course_hand m e k h refl))
 
 -- ---- landings
-lands_there : (f : Form) (hd : Header) (c : Course) (q : QueueState) (lane cpu : ℕ) (ts : List ℕ) → is_queue (Queue cpu) (queue_due f c) ≡ true → draws f hd c q lane (Landed ts) ≡ true → eqb cpu c.to ≡ true
+lands_there : (f : Form) (hd : Header) (c : Course) (q : QueueState) (lane cpu : ℕ) (ts : List ℕ)
+    → is_queue (Queue cpu) (queue_due f c) ≡ true → draws f hd c q lane (Landed ts) ≡ true → eqb cpu c.to ≡ true
 unfolding draws
 lands_there Flight hd c q lane cpu ts o h = o
 lands_there f hd c q lane cpu ts o h = absurd (let k : ⊥ = cc in k)
 
-landed_permits : TaskLaws → (m : Machine) (cpu lane prev : ℕ) (ts : List ℕ) → Kept m → Permit m → MayBeAdded m (entry (Queue cpu) lane prev (Landed ts)) → Permit (after m (entry (Queue cpu) lane prev (Landed ts)))
+landed_permits : TaskLaws → (m : Machine) (cpu lane prev : ℕ) (ts : List ℕ) → Kept m → Permit m
+    → MayBeAdded m (entry (Queue cpu) lane prev (Landed ts)) → Permit (after m (entry (Queue cpu) lane prev (Landed ts)))
 unfolding after sight queue_after
 landed_permits law m cpu lane prev ts k p h =
     let e = entry (Queue cpu) lane prev (Landed ts) in
@@ -101,15 +106,20 @@ landed_permits law m cpu lane prev ts k p h =
     let to : cpu ≡ c.to = eqb-true cpu c.to (lands_there c.form m.header c q lane cpu ts (form_lets m e h).0 (form_lets m e h).1) in
     let own : q.cpu ≡ c.to = p.cpus cpu (cpu_there m cpu lane prev (Landed ts) h) ∙ to in
     permit_step m (after m e) cpu lane _ _ (queue_changed m cpu lane prev (Landed ts) h) (queues_long (Queue cpu) _ m.queues) p
-    (land_stays law c.at (cause_of c) c.moment c.hand q (subst (λ (x : ℕ). list_all (may_go_to x) c.hand ≡ true) (sym own) (p.hands lane)) (p.queues cpu))
+    (land_stays law c.at (cause_of c) c.moment c.hand q
+    (subst (λ (x : ℕ). list_all (may_go_to x) c.hand ≡ true) (sym own) (p.hands lane)) (p.queues cpu))
     (none_goes (course_after (sight m e) e) (course_hand m e k h refl))
 
 -- ---- tasks that leave
-sent_off : (o : Option Leaving) (c : Course) (cpu n : ℕ) (l : Leaving) → o ≡ Some l → list_all (may_go_to l.to) l.hand ≡ true → list_all (may_go_to (drew (Queue cpu) n (takes_off o c)).to) (drew (Queue cpu) n (takes_off o c)).hand ≡ true
+sent_off : (o : Option Leaving) (c : Course) (cpu n : ℕ) (l : Leaving) → o ≡ Some l
+    → list_all (may_go_to l.to) l.hand ≡ true → list_all (may_go_to (drew (Queue cpu) n (takes_off o c)).to)
+    (drew (Queue cpu) n (takes_off o c)).hand ≡ true
 sent_off None c cpu n l h g = absurd (let k : ⊥ = cc in k)
 sent_off (Some x) c cpu n l h g = let k : l ≡ x = cc in subst (λ (y : Leaving). list_all (may_go_to y.to) y.hand ≡ true) k g
 
-out_permits : TaskLaws → (m : Machine) (cpu lane prev : ℕ) (cause : OutCause) (to : ℕ) (ts : List ℕ) → Kept m → Permit m → MayBeAdded m (entry (Queue cpu) lane prev (Out cause to ts)) → Permit (after m (entry (Queue cpu) lane prev (Out cause to ts)))
+out_permits : TaskLaws → (m : Machine) (cpu lane prev : ℕ) (cause : OutCause) (to : ℕ) (ts : List ℕ) → Kept m
+    → Permit m → MayBeAdded m (entry (Queue cpu) lane prev (Out cause to ts))
+    → Permit (after m (entry (Queue cpu) lane prev (Out cause to ts)))
 unfolding after sight queue_after course_after leaving
 out_permits law m cpu lane prev cause to ts k p h =
     let e = entry (Queue cpu) lane prev (Out cause to ts) in
@@ -143,23 +153,34 @@ still_cpu (Kick r) s lane n = refl
 still_cpu Over s lane n = refl
 still_cpu w s lane n = absurd (let k : ⊥ = cc in k)
 
-still_permits : (m : Machine) (cpu lane prev : ℕ) (w : What) → is_still w ≡ true → Kept m → Permit m → MayBeAdded m (entry (Queue cpu) lane prev w) → Permit (after m (entry (Queue cpu) lane prev w))
+still_permits : (m : Machine) (cpu lane prev : ℕ) (w : What) → is_still w ≡ true → Kept m → Permit m
+    → MayBeAdded m (entry (Queue cpu) lane prev w) → Permit (after m (entry (Queue cpu) lane prev w))
 unfolding after sight queue_after
 still_permits m cpu lane prev w n k p h =
     let e = entry (Queue cpu) lane prev w in
     permit_step m (after m e) cpu lane _ _ (queue_changed m cpu lane prev w h) (queues_long (Queue cpu) _ m.queues) p
-    (alike_stays _ _ (still_lists w (sight m e) lane n) (still_cpu w (sight m e) lane n) (p.queues cpu)) (none_goes (course_after (sight m e) e) (course_hand m e k h (still_facts w n).1))
+    (alike_stays _ _ (still_lists w (sight m e) lane n) (still_cpu w (sight m e) lane n) (p.queues cpu))
+    (none_goes (course_after (sight m e) e) (course_hand m e k h (still_facts w n).1))
 
-quiet_permits : (m : Machine) (o : Owner) (lane prev : ℕ) (w : What) → is_no_queue o ≡ true → is_quiet w ≡ true → Kept m → Permit m → MayBeAdded m (entry o lane prev w) → Permit (after m (entry o lane prev w))
+quiet_permits : (m : Machine) (o : Owner) (lane prev : ℕ) (w : What) → is_no_queue o ≡ true → is_quiet w ≡ true
+    → Kept m → Permit m → MayBeAdded m (entry o lane prev w) → Permit (after m (entry o lane prev w))
 unfolding after sight
 quiet_permits m o lane prev w b n k p h =
     let e = entry o lane prev w in
     let qs = no_queue_changes o (queue_after (sight m e) e) m.queues b in
     permit_step m (after m e) 0 lane (queue_at m.queues 0) (course_after (sight m e) e)
-    (record { this_queue = ap (λ (x : List QueueState). queue_at x 0) qs; other_queue = λ u z. ap (λ (x : List QueueState). queue_at x u) qs; lane_there = lane_there m e h; header = refl; courses = refl })
-    (queues_long o _ m.queues) p (record { allowed = p.queues 0; cpu = refl }) (none_goes (course_after (sight m e) e) (course_hand m e k h (quiet_facts w n).1))
+    (record {
+      this_queue = ap (λ (x : List QueueState). queue_at x 0) qs;
+      other_queue = λ u z. ap (λ (x : List QueueState). queue_at x u) qs;
+      lane_there = lane_there m e h;
+      header = refl;
+      courses = refl;
+    })
+    (queues_long o _ m.queues) p (record { allowed = p.queues 0; cpu = refl })
+    (none_goes (course_after (sight m e) e) (course_hand m e k h (quiet_facts w n).1))
 
-step_permits : TaskLaws → (m : Machine) (o : Owner) (lane prev : ℕ) (w : What) → Kept m → Permit m → MayBeAdded m (entry o lane prev w) → Permit (after m (entry o lane prev w))
+step_permits : TaskLaws → (m : Machine) (o : Owner) (lane prev : ℕ) (w : What) → Kept m → Permit m
+    → MayBeAdded m (entry o lane prev w) → Permit (after m (entry o lane prev w))
 step_permits law m (Queue cpu) lane prev (Did r) k p h = did_permits law m cpu lane prev r k p h
 step_permits law m o lane prev (Did r) k p h = absurd (owner_wrong m o lane prev (Did r) (λ _. refl) h)
 step_permits law m (Queue cpu) lane prev (Out cause to ts) k p h = out_permits law m cpu lane prev cause to ts k p h
@@ -177,18 +198,23 @@ step_permits law m o lane prev w k p h = quiet_permits m o lane prev w refl refl
 
 run_permits : CallsMove → TaskLaws → (es : List Entry) (m : Machine) → Kept m → Permit m → MayFollow es m → Permit (run es m)
 run_permits moves law [] m k p h = p
-run_permits moves law (e ∷ es) m k p h = run_permits moves law es (after m e) (step_kept moves m e.owner e.lane e.prev e.what k h.0) (step_permits law m e.owner e.lane e.prev e.what k p h.0) h.1
+run_permits moves law (e ∷ es) m k p h =
+    run_permits moves law es (after m e) (step_kept moves m e.owner e.lane e.prev e.what k h.0)
+    (step_permits law m e.owner e.lane e.prev e.what k p h.0) h.1
 
 -- ---- the opening state
-cond_run : (b : Bool) (t : TaskRecord) (ts : List TaskRecord) → may_run t ≡ true → list_all may_run ts ≡ true → list_all may_run (cond b (t ∷ ts) ts) ≡ true
+cond_run : (b : Bool) (t : TaskRecord) (ts : List TaskRecord) → may_run t ≡ true → list_all may_run ts ≡ true
+    → list_all may_run (cond b (t ∷ ts) ts) ≡ true
 cond_run true t ts h k = and_from (may_run t) _ h k
 cond_run false t ts h k = k
 
-home_runs : (cpu id : ℕ) (rows : List TaskRow) → All (λ row. is_empty row.mask ≡ false) rows → list_all may_run (tasks_at cpu id rows) ≡ true
+home_runs : (cpu id : ℕ) (rows : List TaskRow) → All (λ row. is_empty row.mask ≡ false) rows
+    → list_all may_run (tasks_at cpu id rows) ≡ true
 home_runs cpu id [] all = refl
 home_runs cpu id (row ∷ rows) all =
     let m : not (is_empty row.mask) ≡ true = let e : is_empty row.mask ≡ false = all 0 row (omega arith) in rw e refl in
-    cond_run (row.home == cpu) (new_task id row.nice row.mask) (tasks_at cpu (id + 1) rows) m (home_runs cpu (id + 1) rows (λ k d l. all (suc k) d (omega arith)))
+    cond_run (row.home == cpu) (new_task id row.nice row.mask) (tasks_at cpu (id + 1) rows) m
+    (home_runs cpu (id + 1) rows (λ k d l. all (suc k) d (omega arith)))
 
 queues_start : (h : Header) → length (start h).queues ≡ length h.cpus
 unfolding start
@@ -210,10 +236,13 @@ start_permits h masks = record {
 
 permitted : (m : Machine) → Permit m → IsPermitted m
 permitted m p = record {
-  on_queues = λ cpu lt k d i. let h = (and_parts _ _ (all_index (λ (a : Awake). may_be (queue_at m.queues cpu).cpu a.stop a.task) _ (p.queues cpu).awake k d i)).0 in subst (λ (x : ℕ). may_stand x (get_or (queue_at m.queues cpu).awake k d) ≡ true) (p.cpus cpu lt) h;
+  on_queues = λ cpu lt k d i. let h = (and_parts _ _
+      (all_index (λ (a : Awake). may_be (queue_at m.queues cpu).cpu a.stop a.task) _ (p.queues cpu).awake k d i)).0 in
+      subst (λ (x : ℕ). may_stand x (get_or (queue_at m.queues cpu).awake k d) ≡ true) (p.cpus cpu lt) h;
   in_hands = λ lane k d i. (and_parts _ _ (all_index (may_go_to (course_at m.courses lane).to) _ (p.hands lane) k d i)).0;
 }
 
 pub permitted_always : CallsMove → TaskLaws → PermittedAlways
 permitted_always moves law h es accepted legal =
-    permitted (run es (start h)) (run_permits moves law es (start h) (start_kept h (homes_declared h accepted)) (start_permits h (masks_given h accepted)) legal)
+    permitted (run es (start h)) (run_permits moves law es (start h) (start_kept h (homes_declared h accepted))
+    (start_permits h (masks_given h accepted)) legal)

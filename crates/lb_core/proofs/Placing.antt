@@ -87,7 +87,9 @@ distinct m cpu placed = record { awake = times_one m placed (AwakeAt cpu); aslee
 
 -- ---- the machine after an entry of a queue
 pub queue_changed : (m : Machine) (cpu lane prev : ℕ) (w : What) → MayBeAdded m (entry (Queue cpu) lane prev w) →
-    IsChanged m (after m (entry (Queue cpu) lane prev w)) cpu lane (queue_after (sight m (entry (Queue cpu) lane prev w)) (entry (Queue cpu) lane prev w)) (course_after (sight m (entry (Queue cpu) lane prev w)) (entry (Queue cpu) lane prev w))
+    IsChanged m (after m (entry (Queue cpu) lane prev w)) cpu lane
+    (queue_after (sight m (entry (Queue cpu) lane prev w)) (entry (Queue cpu) lane prev w))
+    (course_after (sight m (entry (Queue cpu) lane prev w)) (entry (Queue cpu) lane prev w))
 unfolding after
 queue_changed m cpu lane prev w h = record {
   this_queue = get_or-set_same m.queues cpu _ no_queue (cpu_there m cpu lane prev w h);
@@ -97,26 +99,33 @@ queue_changed m cpu lane prev w h = record {
   courses = refl;
 }
 
-hands_kept : (m m' : Machine) (cpu lane : ℕ) (q : QueueState) (c : Course) → IsChanged m m' cpu lane q c → ((l : ℕ) → is_flight (course_at m.courses l).form ≡ false → (course_at m.courses l).hand ≡ []) →
-    (is_flight c.form ≡ false → c.hand ≡ []) → (l : ℕ) → is_flight (course_at m'.courses l).form ≡ false → (course_at m'.courses l).hand ≡ []
+hands_kept : (m m' : Machine) (cpu lane : ℕ) (q : QueueState) (c : Course) → IsChanged m m' cpu lane q c
+    → ((l : ℕ) → is_flight (course_at m.courses l).form ≡ false → (course_at m.courses l).hand ≡ []) →
+    (is_flight c.form ≡ false → c.hand ≡ []) → (l : ℕ) → is_flight (course_at m'.courses l).form ≡ false
+    → (course_at m'.courses l).hand ≡ []
 hands_kept m m' cpu lane q c h old new l = elim (cases_eq l lane) [
   | inl e ↦ let k : course_at m'.courses l ≡ c = ap (course_at m'.courses) e ∙ course_same m m' cpu lane q c h in rw k new
   | inr n ↦ let k = course_other m m' cpu lane q c h l n in rw k (old l)
 ]
 
-carry : (m m' : Machine) (cpu lane : ℕ) (q : QueueState) (c : Course) → IsChanged m m' cpu lane q c → Kept m → (h' : List TaskRecord) → h' ≡ c.hand →
-    Carried (queue_at m.queues cpu) (course_at m.courses lane).hand q h' cpu lane m.places m'.places → (is_flight c.form ≡ false → c.hand ≡ []) → Kept m'
+carry : (m m' : Machine) (cpu lane : ℕ) (q : QueueState) (c : Course) → IsChanged m m' cpu lane q c → Kept m
+    → (h' : List TaskRecord) → h' ≡ c.hand →
+    Carried (queue_at m.queues cpu) (course_at m.courses lane).hand q h' cpu lane m.places m'.places
+    → (is_flight c.form ≡ false → c.hand ≡ []) → Kept m'
 carry m m' cpu lane q c h k h' e d n = record {
-  placed = placed_by_flow m m' cpu lane q c d.move.tasks d.move.from d.move.to h d.map d.apart (subst (λ (x : List TaskRecord). HasMoved d.move (queue_at m.queues cpu) (course_at m.courses lane).hand q x) e d.moved) k.placed;
+  placed = placed_by_flow m m' cpu lane q c d.move.tasks d.move.from d.move.to h d.map d.apart
+      (subst (λ (x : List TaskRecord). HasMoved d.move (queue_at m.queues cpu) (course_at m.courses lane).hand q x) e d.moved) k.placed;
   hands = hands_kept m m' cpu lane q c h k.hands n;
 }
 
 pub course_hand : (m : Machine) (e : Entry) → Kept m → MayBeAdded m e → is_out e.what ≡ false → (course_after (sight m e) e).hand ≡ []
 unfolding sight course_after
-course_hand m e k h o = hand_after e.what (sight m e) e.owner ((sight m e).count + 1) (cpu_of e.owner) (queue_after (sight m e) e) o (λ n. empty_hand m e k h n)
+course_hand m e k h o = hand_after e.what (sight m e) e.owner ((sight m e).count + 1) (cpu_of e.owner)
+    (queue_after (sight m e) e) o (λ n. empty_hand m e k h n)
 
 -- ---- the answer to a row
-did_kept : CallsMove → (m : Machine) (cpu lane prev : ℕ) (r : Reply) → Kept m → MayBeAdded m (entry (Queue cpu) lane prev (Did r)) → Kept (after m (entry (Queue cpu) lane prev (Did r)))
+did_kept : CallsMove → (m : Machine) (cpu lane prev : ℕ) (r : Reply) → Kept m
+    → MayBeAdded m (entry (Queue cpu) lane prev (Did r)) → Kept (after m (entry (Queue cpu) lane prev (Did r)))
 unfolding after sight queue_after
 did_kept law m cpu lane prev r k h =
     let e = entry (Queue cpu) lane prev (Did r) in
@@ -125,14 +134,17 @@ did_kept law m cpu lane prev r k h =
     let empty = empty_hand m e k h refl in
     let empty' = course_hand m e k h refl in
     let said = or_parts (leaves_instead c.command q || same_reply r NotHere) _ (unbroken_here m e h ReplyRule) in
-    let a = answers law c.command r c.at cpu lane q m.places (distinct m cpu k.placed) (reply_is r (answer_to c.command c.at q).0 (not-false _ said.1)) in
+    let a = answers law c.command r c.at cpu lane q m.places (distinct m cpu k.placed)
+    (reply_is r (answer_to c.command c.at q).0 (not-false _ said.1)) in
     let now = queue_after (sight m e) e in
     carry m _ cpu lane _ _ (queue_changed m cpu lane prev (Did r) h) k [] (sym empty')
-    (subst (λ (x : List TaskRecord). Carried q x now [] cpu lane m.places (places_after (Did r) (Queue cpu) lane c.command m.places)) (sym empty) a)
+    (subst (λ (x : List TaskRecord). Carried q x now [] cpu lane m.places
+    (places_after (Did r) (Queue cpu) lane c.command m.places)) (sym empty) a)
     (λ _. empty')
 
 -- ---- a landing
-landed_kept : CallsMove → (m : Machine) (cpu lane prev : ℕ) (ts : List ℕ) → Kept m → MayBeAdded m (entry (Queue cpu) lane prev (Landed ts)) → Kept (after m (entry (Queue cpu) lane prev (Landed ts)))
+landed_kept : CallsMove → (m : Machine) (cpu lane prev : ℕ) (ts : List ℕ) → Kept m
+    → MayBeAdded m (entry (Queue cpu) lane prev (Landed ts)) → Kept (after m (entry (Queue cpu) lane prev (Landed ts)))
 unfolding after sight queue_after
 landed_kept law m cpu lane prev ts k h =
     let e = entry (Queue cpu) lane prev (Landed ts) in
@@ -141,19 +153,27 @@ landed_kept law m cpu lane prev ts k h =
     let empty' = course_hand m e k h refl in
     let same : ts ≡ ids c.hand = numbers_same ts (ids c.hand) (not-false _ (unbroken_here m e h Flight)) in
     carry m _ cpu lane _ _ (queue_changed m cpu lane prev (Landed ts) h) k [] (sym empty')
-    (record { move = record { tasks = ids c.hand; from = OnHand; to = OnAwake }; apart = refl; moved = law q (distinct m cpu k.placed) (Land c.at (cause_of c) c.moment c.hand); map = rw same refl })
+    (record {
+      move = record { tasks = ids c.hand; from = OnHand; to = OnAwake };
+      apart = refl;
+      moved = law q (distinct m cpu k.placed) (Land c.at (cause_of c) c.moment c.hand);
+      map = rw same refl;
+    })
     (λ _. empty')
 
 -- ---- tasks that leave
-pub leaving_is : (o : Option Leaving) (cause : OutCause) (to : ℕ) (ts : List ℕ) → is_other_out o cause to ts ≡ false → (l : Leaving) × (o ≡ Some l) × (ts ≡ ids l.hand)
+pub leaving_is : (o : Option Leaving) (cause : OutCause) (to : ℕ) (ts : List ℕ) → is_other_out o cause to ts ≡ false
+    → (l : Leaving) × (o ≡ Some l) × (ts ≡ ids l.hand)
 leaving_is None cause to ts h = absurd (let k : ⊥ = cc in k)
 leaving_is (Some l) cause to ts h = let p = or_parts _ _ h in (l, refl, numbers_same ts (ids l.hand) (not-false _ p.1))
 
-pub flight_end : (o : Option Leaving) (c : Course) (cpu n : ℕ) (l : Leaving) → o ≡ Some l → (is_flight (drew (Queue cpu) n (takes_off o c)).form ≡ true) × ((drew (Queue cpu) n (takes_off o c)).hand ≡ l.hand)
+pub flight_end : (o : Option Leaving) (c : Course) (cpu n : ℕ) (l : Leaving) → o ≡ Some l
+    → (is_flight (drew (Queue cpu) n (takes_off o c)).form ≡ true) × ((drew (Queue cpu) n (takes_off o c)).hand ≡ l.hand)
 flight_end None c cpu n l h = absurd (let k : ⊥ = cc in k)
 flight_end (Some x) c cpu n l h = let k : x ≡ l = cc in (refl, ap (λ (y : Leaving). y.hand) k)
 
-out_kept : CallsMove → (m : Machine) (cpu lane prev : ℕ) (cause : OutCause) (to : ℕ) (ts : List ℕ) → Kept m → MayBeAdded m (entry (Queue cpu) lane prev (Out cause to ts)) → Kept (after m (entry (Queue cpu) lane prev (Out cause to ts)))
+out_kept : CallsMove → (m : Machine) (cpu lane prev : ℕ) (cause : OutCause) (to : ℕ) (ts : List ℕ) → Kept m
+    → MayBeAdded m (entry (Queue cpu) lane prev (Out cause to ts)) → Kept (after m (entry (Queue cpu) lane prev (Out cause to ts)))
 unfolding after sight queue_after course_after leaving
 out_kept law m cpu lane prev cause to ts k h =
     let e = entry (Queue cpu) lane prev (Out cause to ts) in
@@ -166,11 +186,18 @@ out_kept law m cpu lane prev cause to ts k h =
     let is : o ≡ Some l = found.1 in
     let gone = out_leaves law q l (is_left c.form m.header c q l is) (distinct m cpu k.placed) in
     let rest : rest_of o q ≡ l.rest = ap (λ (x : Option Leaving). rest_of x q) is in
-    let f = subst (λ (y : QueueState). HasMoved (record { tasks = ids l.hand; from = gone.from; to = OnHand }) q [] y l.hand) (sym rest) gone.moved in
-    let g = subst (λ (x : List TaskRecord). HasMoved (record { tasks = ids l.hand; from = gone.from; to = OnHand }) q x (rest_of o q) l.hand) (sym empty) f in
+    let f = subst (λ (y : QueueState). HasMoved
+    (record { tasks = ids l.hand; from = gone.from; to = OnHand }) q [] y l.hand) (sym rest) gone.moved in
+    let g = subst (λ (x : List TaskRecord). HasMoved
+    (record { tasks = ids l.hand; from = gone.from; to = OnHand }) q x (rest_of o q) l.hand) (sym empty) f in
     let z = flight_end o c cpu ((sight m e).count + 1) l is in
     carry m _ cpu lane _ _ (queue_changed m cpu lane prev (Out cause to ts) h) k l.hand (sym z.1)
-    (record { move = record { tasks = ids l.hand; from = gone.from; to = OnHand }; apart = gone.apart; moved = g; map = ap (λ (x : List ℕ). set_places x (HandOf lane) m.places) found.2 })
+    (record {
+      move = record { tasks = ids l.hand; from = gone.from; to = OnHand };
+      apart = gone.apart;
+      moved = g;
+      map = ap (λ (x : List ℕ). set_places x (HandOf lane) m.places) found.2;
+    })
     (λ n. absurd (let w = z.0 in let y : ⊥ = cc in y))
 
 -- ---- other entries of a queue
@@ -202,7 +229,8 @@ still_facts (Kick r) h = (refl, refl)
 still_facts Over h = (refl, refl)
 still_facts w h = absurd (let k : ⊥ = cc in k)
 
-still_places : (w : What) (o : Owner) (lane : ℕ) (c : Option Command) (places : List Place) → is_still w ≡ true → places_after w o lane c places ≡ places
+still_places : (w : What) (o : Owner) (lane : ℕ) (c : Option Command) (places : List Place) → is_still w ≡ true
+    → places_after w o lane c places ≡ places
 still_places (Turn ps) o lane c places h = refl
 still_places Shut o lane c places h = refl
 still_places (Close p w i f) o lane c places h = refl
@@ -211,7 +239,8 @@ still_places (Kick r) o lane c places h = refl
 still_places Over o lane c places h = refl
 still_places w o lane c places h = absurd (let k : ⊥ = cc in k)
 
-still_kept : (m : Machine) (cpu lane prev : ℕ) (w : What) → is_still w ≡ true → Kept m → MayBeAdded m (entry (Queue cpu) lane prev w) → Kept (after m (entry (Queue cpu) lane prev w))
+still_kept : (m : Machine) (cpu lane prev : ℕ) (w : What) → is_still w ≡ true → Kept m
+    → MayBeAdded m (entry (Queue cpu) lane prev w) → Kept (after m (entry (Queue cpu) lane prev w))
 unfolding after sight queue_after
 still_kept m cpu lane prev w n k h =
     let e = entry (Queue cpu) lane prev w in
@@ -219,7 +248,8 @@ still_kept m cpu lane prev w n k h =
     let empty = empty_hand m e k h (still_facts w n).0 in
     let empty' = course_hand m e k h (still_facts w n).1 in
     carry m _ cpu lane _ _ (queue_changed m cpu lane prev w h) k c.hand (empty ∙ sym empty')
-    (unmoved (queue_at m.queues cpu) c.hand _ cpu lane m.places _ (still_lists w (sight m e) lane n) (still_places w (Queue cpu) lane c.command m.places n))
+    (unmoved (queue_at m.queues cpu) c.hand _ cpu lane m.places _ (still_lists w (sight m e) lane n)
+    (still_places w (Queue cpu) lane c.command m.places n))
     (λ _. empty')
 
 -- ---- entries of a lane and of the publisher
@@ -239,7 +269,8 @@ quiet_facts (Out c to ids) h = absurd (let k : ⊥ = cc in k)
 quiet_facts (Landed ids) h = absurd (let k : ⊥ = cc in k)
 quiet_facts w h = (refl, refl)
 
-quiet_places : (w : What) (o : Owner) (lane : ℕ) (c : Option Command) (places : List Place) → is_quiet w ≡ true → places_after w o lane c places ≡ places
+quiet_places : (w : What) (o : Owner) (lane : ℕ) (c : Option Command) (places : List Place) → is_quiet w ≡ true
+    → places_after w o lane c places ≡ places
 quiet_places (Did r) o lane c places h = absurd (let k : ⊥ = cc in k)
 quiet_places (Out x to ids) o lane c places h = absurd (let k : ⊥ = cc in k)
 quiet_places (Landed ids) o lane c places h = absurd (let k : ⊥ = cc in k)
@@ -249,7 +280,8 @@ pub no_queue_changes : (o : Owner) (q : QueueState) (qs : List QueueState) → i
 no_queue_changes (Queue cpu) q qs h = absurd (let k : ⊥ = cc in k)
 no_queue_changes o q qs h = refl
 
-quiet_kept : (m : Machine) (o : Owner) (lane prev : ℕ) (w : What) → is_no_queue o ≡ true → is_quiet w ≡ true → Kept m → MayBeAdded m (entry o lane prev w) → Kept (after m (entry o lane prev w))
+quiet_kept : (m : Machine) (o : Owner) (lane prev : ℕ) (w : What) → is_no_queue o ≡ true → is_quiet w ≡ true → Kept m
+    → MayBeAdded m (entry o lane prev w) → Kept (after m (entry o lane prev w))
 unfolding after sight
 quiet_kept m o lane prev w b n k h =
     let e = entry o lane prev w in
@@ -258,19 +290,27 @@ quiet_kept m o lane prev w b n k h =
     let empty' = course_hand m e k h (quiet_facts w n).1 in
     let qs = no_queue_changes o (queue_after (sight m e) e) m.queues b in
     carry m (after m e) 0 lane (queue_at m.queues 0) (course_after (sight m e) e)
-    (record { this_queue = ap (λ (x : List QueueState). queue_at x 0) qs; other_queue = λ u z. ap (λ (x : List QueueState). queue_at x u) qs; lane_there = lane_there m e h; header = refl; courses = refl })
+    (record {
+      this_queue = ap (λ (x : List QueueState). queue_at x 0) qs;
+      other_queue = λ u z. ap (λ (x : List QueueState). queue_at x u) qs;
+      lane_there = lane_there m e h;
+      header = refl;
+      courses = refl;
+    })
     k c.hand (empty ∙ sym empty')
     (unmoved (queue_at m.queues 0) c.hand (queue_at m.queues 0) 0 lane m.places _ refl (quiet_places w o lane c.command m.places n))
     (λ _. empty')
 
 -- ---- each entry
-pub owner_wrong : (m : Machine) (o : Owner) (lane prev : ℕ) (w : What) → ((due : Option ℕ) → is_owner w lane due o ≡ false) → MayBeAdded m (entry o lane prev w) → ⊥
+pub owner_wrong : (m : Machine) (o : Owner) (lane prev : ℕ) (w : What)
+    → ((due : Option ℕ) → is_owner w lane due o ≡ false) → MayBeAdded m (entry o lane prev w) → ⊥
 owner_wrong m o lane prev w n h =
     let k = (form_lets m (entry o lane prev w) h).0 in
     let z = n (queue_due (course_at m.courses lane).form (course_at m.courses lane)) in
     let y : ⊥ = cc in y
 
-pub step_kept : CallsMove → (m : Machine) (o : Owner) (lane prev : ℕ) (w : What) → Kept m → MayBeAdded m (entry o lane prev w) → Kept (after m (entry o lane prev w))
+pub step_kept : CallsMove → (m : Machine) (o : Owner) (lane prev : ℕ) (w : What) → Kept m
+    → MayBeAdded m (entry o lane prev w) → Kept (after m (entry o lane prev w))
 step_kept law m (Queue cpu) lane prev (Did r) k h = did_kept law m cpu lane prev r k h
 step_kept law m o lane prev (Did r) k h = absurd (owner_wrong m o lane prev (Did r) (λ _. refl) h)
 step_kept law m (Queue cpu) lane prev (Out cause to ts) k h = out_kept law m cpu lane prev cause to ts k h

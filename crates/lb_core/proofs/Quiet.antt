@@ -60,7 +60,8 @@ out_quiet law f h c q = by_out (out_by f h c q) refl
   where
     by_out : (o : Option Leaving) → out_by f h c q ≡ o → Quiet q (rest_of o q)
     by_out None e = refl
-    by_out (Some l) e = let left = is_left f h c q l e in subst (λ (x : Leaving). Quiet q x.rest) left.is (call_quiet law q left.call (leaves_tasks left.call left.leaves))
+    by_out (Some l) e = let left = is_left f h c q l e in
+        subst (λ (x : Leaving). Quiet q x.rest) left.is (call_quiet law q left.call (leaves_tasks left.call left.leaves))
 
 -- ---- each entry
 -- the entries that change it

@@ -76,50 +76,83 @@ is_use w = false
 pub in_turn_from : (c : Course) → is_open c ≡ true → in_turn c ≡ true
 in_turn_from c k = open_turns c.form (cause_of c) k
 
-stays : StandInOrder → (w : What) (s : Sight) (lane cpu : ℕ) (now : QueueState) (vs : List (List Mask)) (t t' : TurnPart) → draws s.course.form s.header s.course s.queue lane w ≡ true → breaks_counters s w ≡ false → Parts w s lane t t' → Fits s.header vs s.course.cpu t →
-    (in_turn s.course ≡ true → IsPublished vs (use_key s.course)) → Held lane s.header s.course t → is_use w ≡ false → in_turn (course_by w s cpu now) ≡ true → Stays lane s.header s.course (course_by w s cpu now) t'
+stays : StandInOrder → (w : What) (s : Sight) (lane cpu : ℕ) (now : QueueState) (vs : List (List Mask))
+    (t t' : TurnPart) → draws s.course.form s.header s.course s.queue lane w ≡ true → breaks_counters s w ≡ false
+    → Parts w s lane t t' → Fits s.header vs s.course.cpu t →
+    (in_turn s.course ≡ true → IsPublished vs (use_key s.course)) → Held lane s.header s.course t → is_use w ≡ false
+    → in_turn (course_by w s cpu now) ≡ true → Stays lane s.header s.course (course_by w s cpu now) t'
 unfolding leaving
 stays order (Look p x names v) s lane cpu now vs t t' d b ps f u held n k =
     let c = s.course in
     let g = look_works c.form s.header c s.queue lane p x names v (cause_of c) d in
-    record { was = in_turn_from c g.0; now = subst (HasTurn lane s.header (use_key c) Looked (key_of c)) (sym (ps.quiet refl)) (reforms lane s.header (use_key c) c.form Looked (key_of c) t g.1 refl (held g.0)) }
+    record {
+      was = in_turn_from c g.0;
+      now = subst (HasTurn lane s.header (use_key c) Looked (key_of c))
+          (sym (ps.quiet refl)) (reforms lane s.header (use_key c) c.form Looked (key_of c) t g.1 refl (held g.0));
+    }
 stays order (Out cause to ts) s lane cpu now vs t t' d b ps f u held n k = off (out_by s.course.form s.header s.course s.queue) refl k
   where
-    off : (l : Option Leaving) → out_by s.course.form s.header s.course s.queue ≡ l → in_turn (takes_off l s.course) ≡ true → Stays lane s.header s.course (takes_off l s.course) t'
+    off : (l : Option Leaving) → out_by s.course.form s.header s.course s.queue ≡ l
+        → in_turn (takes_off l s.course) ≡ true → Stays lane s.header s.course (takes_off l s.course) t'
     off None z k =
         let c = s.course in
         let g = out_works c.form s.header c s.queue lane cause to ts (cause_of c) (cause_of c) d k in
         record { was = k; now = subst (Turned lane s.header (use_key c) c) (sym (ps.quiet refl)) (held g.0) }
     off (Some l) z k =
         let c = s.course in
-        let g = out_works c.form s.header c s.queue lane cause to ts (cause_of c) WakeOut d (pull_turns c.form s.header c s.queue l WakeOut z k) in
-        record { was = in_turn_from c g.0; now = subst (HasTurn lane s.header (use_key c) Flight (key_of c)) (sym (ps.quiet refl)) (reforms lane s.header (use_key c) c.form Flight (key_of c) t g.1 refl (held g.0)) }
+        let g = out_works c.form s.header c s.queue lane cause to ts (cause_of c) WakeOut d
+        (pull_turns c.form s.header c s.queue l WakeOut z k) in
+        record {
+          was = in_turn_from c g.0;
+          now = subst (HasTurn lane s.header (use_key c) Flight (key_of c)) (sym (ps.quiet refl))
+              (reforms lane s.header (use_key c) c.form Flight (key_of c) t g.1 refl (held g.0));
+        }
 stays order (Landed ts) s lane cpu now vs t t' d b ps f u held n k = by_cause (cause_of s.course) refl k
   where
-    by_cause : (cause : OutCause) → cause_of s.course ≡ cause → in_turn (lands cause s.course) ≡ true → Stays lane s.header s.course (lands cause s.course) t'
+    by_cause : (cause : OutCause) → cause_of s.course ≡ cause → in_turn (lands cause s.course) ≡ true
+        → Stays lane s.header s.course (lands cause s.course) t'
     by_cause PullOut z k =
         let c = s.course in
         let g = landed_works c.form s.header c s.queue lane ts d in
         let o = ap (opens c.form) z ∙ g.0 in
-        record { was = in_turn_from c o; now = subst (HasTurn lane s.header (use_key c) LandedForm (key_of c)) (sym (ps.quiet refl)) (reforms lane s.header (use_key c) c.form LandedForm (key_of c) t g.1 refl (held o)) }
+        record {
+          was = in_turn_from c o;
+          now = subst (HasTurn lane s.header (use_key c) LandedForm (key_of c)) (sym (ps.quiet refl))
+              (reforms lane s.header (use_key c) c.form LandedForm (key_of c) t g.1 refl (held o));
+        }
     by_cause cause z k = clash _ k (lands_out cause s.course refl).0
 stays order (Turn ps') s lane cpu now vs t t' d b ps f u held n k =
     let c = s.course in
     let g : in_turn c ≡ true = ap (λ (x : Form). turning x (cause_of c)) (turn_used c.form s.header c s.queue lane ps' d) in
     let due = mask_is ps' _ (not-false _ b) in
-    record { was = g; now = subst (Turned lane s.header (use_key c) (goes_to (least ps') (with_turn s.header c s.queue ps'))) (ps.now refl) (opened_turn lane s.header vs c s.queue ps' due (u g) (subst (Fits s.header vs c.cpu) (sym (ps.was refl)) f)) }
+    record {
+      was = g;
+      now = subst (Turned lane s.header (use_key c)
+          (goes_to (least ps') (with_turn s.header c s.queue ps'))) (ps.now refl)
+          (opened_turn lane s.header vs c s.queue ps' due (u g) (subst (Fits s.header vs c.cpu) (sym (ps.was refl)) f));
+    }
 stays order (Close p w i m) s lane cpu now vs t t' d b ps f u held n k =
     let c = s.course in
     let g = close_works c.form s.header c s.queue lane p w i m (cause_of c) d in
     let before = subst (Turned lane s.header (use_key c) c) (sym (ps.was refl)) (held g.0) in
-    record { was = in_turn_from c g.0; now = subst (Turned lane s.header (use_key c) (closes w c)) (ps.now refl) (closes_turn lane s.header (use_key c) w c _ (closed_turn order lane s.header c s.queue g.1 before)) }
+    record {
+      was = in_turn_from c g.0;
+      now = subst (Turned lane s.header (use_key c) (closes w c)) (ps.now refl)
+          (closes_turn lane s.header (use_key c) w c _ (closed_turn order lane s.header c s.queue g.1 before));
+    }
 stays order (Ask r) s lane cpu now vs t t' d b ps f u held n k =
     let c = s.course in
     let z = ask_closed c.form s.header c s.queue lane r d in
     let o : is_open c ≡ true = ap (λ (x : Form). opens x (cause_of c)) z in
     let before = subst (λ (x : Form). HasTurn lane s.header (use_key c) x (key_of c) t) z (held o) in
-    record { was = in_turn_from c o; now = subst (Turned lane s.header (use_key c) (goes_to (least_above c.positions c.position) c)) (sym (ps.quiet refl)) (next_on lane s.header (use_key c) c t before) }
-stays order (Scan names v) s lane cpu now vs t t' d b ps f u held n k = clash _ k (scanned_out v (record s.course { figures = s.figs; named = names_of names s.course.named })).0
+    record {
+      was = in_turn_from c o;
+      now = subst
+          (Turned lane s.header (use_key c) (goes_to (least_above c.positions c.position) c)) (sym (ps.quiet refl))
+          (next_on lane s.header (use_key c) c t before);
+    }
+stays order (Scan names v) s lane cpu now vs t t' d b ps f u held n k =
+    clash _ k (scanned_out v (record s.course { figures = s.figs; named = names_of names s.course.named })).0
 stays order (Did r) s lane cpu now vs t t' d b ps f u held n k = clash _ k (answered_out s.course.command cpu s.queue now s.course).0
 stays order (Kick r) s lane cpu now vs t t' d b ps f u held n k = clash _ k (kicked_out r s.course).0
 stays order Shut s lane cpu now vs t t' d b ps f u held n k = clash _ k (turn_out s.header s.course).0
@@ -127,7 +160,8 @@ stays order Over s lane cpu now vs t t' d b ps f u held n k = clash _ k (turn_ou
 stays order w s lane cpu now vs t t' d b ps f u held n k = absurd (let y : ⊥ = cc in y)
 
 -- what an entry that changes a turn leaves of its queue
-set_many : (cs : List Counters) (i n : ℕ) (x : Counters) (o : Option (List Counters)) → o ≡ Some cs → AreMany o n → length (set (unwrap_or o []) i x) ≡ n
+set_many : (cs : List Counters) (i n : ℕ) (x : Counters) (o : Option (List Counters)) → o ≡ Some cs → AreMany o n
+    → length (set (unwrap_or o []) i x) ≡ n
 set_many cs i n x None e h = absurd (let y : ⊥ = cc in y)
 set_many cs i n x (Some ds) e h = length-set ds i x ∙ h
 
@@ -136,7 +170,9 @@ still_below : (o : Option OpenTurn) (cs : Option (List Counters)) (n : ℕ) → 
 still_below None cs n h = tt
 still_below (Some turn) cs n h = (refl, h.1)
 
-fits_after : (w : What) (s : Sight) (lane : ℕ) (vs : List (List Mask)) → turns w ≡ true → draws s.course.form s.header s.course s.queue lane w ≡ true → (in_turn s.course ≡ true → IsPublished vs (use_key s.course)) → Held lane s.header s.course (part_of s.queue) →
+fits_after : (w : What) (s : Sight) (lane : ℕ) (vs : List (List Mask)) → turns w ≡ true
+    → draws s.course.form s.header s.course s.queue lane w ≡ true
+    → (in_turn s.course ≡ true → IsPublished vs (use_key s.course)) → Held lane s.header s.course (part_of s.queue) →
     Fits s.header vs s.course.cpu (part_of s.queue) → Fits s.header vs s.course.cpu (part_of (queue_by w s lane))
 unfolding close_look
 fits_after (Turn ps) s lane vs t d u held f =
@@ -148,11 +184,22 @@ fits_after (Turn ps) s lane vs t d u held f =
       from = is.from;
       to = is.to;
       many = found_many s.queue c.at c.version (shapes_of (turn_domains s.header c)) (finds_many s.header c vs s.queue is f) ∙ l ∙ same;
-      below = (refl, λ p k. let b = positions_below s.queue c.at (kind_of c) c.version p (shapes_of (turn_domains s.header c)) (finds_many s.header c vs s.queue is f) k in omega arith);
+      below = (
+        refl,
+        λ p k. let b = positions_below s.queue c.at (kind_of c) c.version p
+            (shapes_of (turn_domains s.header c)) (finds_many s.header c vs s.queue is f) k in omega arith,
+      );
     }
 fits_after (Close p w i n) s lane vs t d u held f =
     let c = s.course in
-    record { from = f.from; to = f.to; many = set_many _ _ _ _ s.queue.counters (held (close_works c.form s.header c s.queue lane p w i n (cause_of c) d).0).there.are f.many; below = still_below s.queue.open_turn s.queue.counters _ f.below }
+    record {
+      from = f.from;
+      to = f.to;
+      many = set_many _ _ _ _ s.queue.counters
+          (held (close_works c.form s.header c s.queue lane p w i n (cause_of c) d).0).there.are f.many;
+      below =
+          still_below s.queue.open_turn s.queue.counters _ f.below;
+    }
 fits_after Over s lane vs t d u held f = record { from = f.from; to = f.to; many = f.many; below = tt }
 fits_after w s lane vs t d u held f = absurd (let y : ⊥ = cc in y)
 
@@ -165,12 +212,16 @@ grows-refl : (vs : List (List Mask)) → Grows vs vs
 grows-refl vs = record { longer = omega arith; same = λ i h. refl }
 
 versions_grow : (w : What) (command : Option Command) (vs : List (List Mask)) → Grows vs (versions_after w command vs)
-versions_grow (Pub v) (Some (Rebuild parts)) vs = record { longer = let h = length-append vs (parts ∷ []) in omega arith; same = λ i h. get_or_append_left vs (parts ∷ []) [] i h }
+versions_grow (Pub v) (Some (Rebuild parts)) vs =
+    record { longer = let h = length-append vs (parts ∷ []) in omega arith; same = λ i h. get_or_append_left vs (parts ∷ []) [] i h }
 versions_grow (Pub v) None vs = grows-refl vs
 versions_grow (Pub v) (Some command) vs = still command vs
   where
     still : (command : Command) (vs : List (List Mask)) → Grows vs (versions_after (Pub v) (Some command) vs)
-    still (Rebuild parts) vs = record { longer = let h = length-append vs (parts ∷ []) in omega arith; same = λ i h. get_or_append_left vs (parts ∷ []) [] i h }
+    still (Rebuild parts) vs = record {
+      longer = let h = length-append vs (parts ∷ []) in omega arith;
+      same = λ i h. get_or_append_left vs (parts ∷ []) [] i h;
+    }
     still command vs = grows-refl vs
 versions_grow w command vs = grows-refl vs
 
@@ -201,24 +252,28 @@ record Mine (m : Machine) (e : Entry) (cpu : ℕ) : Type 0 where
   now : part_at (after m e) cpu ≡ part_of (queue_by e.what (sight m e) e.lane)
   was : (sight m e).queue ≡ queue_at m.queues cpu
 
-mine : (m : Machine) (o : Owner) (lane prev cpu : ℕ) (w : What) → o ≡ Queue cpu → MayBeAdded m (entry o lane prev w) → Mine m (entry o lane prev w) cpu
+mine : (m : Machine) (o : Owner) (lane prev cpu : ℕ) (w : What) → o ≡ Queue cpu → MayBeAdded m (entry o lane prev w)
+    → Mine m (entry o lane prev w) cpu
 unfolding after queue_after sight
 mine m (Queue u) lane prev cpu w own a =
     let e = entry (Queue u) lane prev w in
     let k : u ≡ cpu = cc in
     record {
-      now = subst (λ (x : ℕ). part_at (after m e) x ≡ part_of (queue_by w (sight m e) lane)) k (ap part_of (get_or-set_same m.queues u (queue_after (sight m e) e) no_queue (cpu_there m u lane prev w a)));
+      now = subst (λ (x : ℕ). part_at (after m e) x ≡ part_of (queue_by w (sight m e) lane)) k
+          (ap part_of (get_or-set_same m.queues u (queue_after (sight m e) e) no_queue (cpu_there m u lane prev w a)));
       was = ap (queue_at m.queues) k;
     }
 mine m o lane prev cpu w own a = absurd (let y : ⊥ = cc in y)
 
 -- any other, and this one too where no turn changes
-others : CallsKeepRest → (m : Machine) (o : Owner) (lane prev cpu : ℕ) (w : What) → (o ≡ Queue cpu → turns w ≡ false) → MayBeAdded m (entry o lane prev w) → part_at (after m (entry o lane prev w)) cpu ≡ part_at m cpu
+others : CallsKeepRest → (m : Machine) (o : Owner) (lane prev cpu : ℕ) (w : What) → (o ≡ Queue cpu → turns w ≡ false)
+    → MayBeAdded m (entry o lane prev w) → part_at (after m (entry o lane prev w)) cpu ≡ part_at m cpu
 unfolding after
 others law m (Queue u) lane prev cpu w n a =
     let e = entry (Queue u) lane prev w in
     elim (cases_eq cpu u) [
-      | inl same ↦ let own = ap Queue (sym same) in let k = mine m (Queue u) lane prev cpu w own a in k.now ∙ quiet_by law w (sight m e) lane (n own) ∙ ap part_of k.was
+      | inl same ↦ let own = ap Queue (sym same) in let k = mine m (Queue u) lane prev cpu w own a in
+          k.now ∙ quiet_by law w (sight m e) lane (n own) ∙ ap part_of k.was
       | inr other ↦ ap part_of (get_or-set_other m.queues u cpu (queue_after (sight m e) e) no_queue other)
     ]
 others law m o lane prev cpu w n a = refl
@@ -245,32 +300,42 @@ pub record Turning (pre : List Entry) (m : Machine) : Type 0 where
 lane_of : (a b : OpenTurn) → Some a ≡ Some b → a.lane ≡ b.lane
 lane_of a b e = let k : a ≡ b = cc in ap (λ (t : OpenTurn). t.lane) k
 
-own_at : (m : Machine) (o : Owner) (lane prev : ℕ) (w : What) → MayBeAdded m (entry o lane prev w) → turns w ≡ true → o ≡ Queue (course_at m.courses lane).cpu
-own_at m o lane prev w a t = let c = course_at m.courses lane in let lets = form_lets m (entry o lane prev w) a in own_turn c.form m.header c (sight m (entry o lane prev w)).queue lane o w t lets.0 lets.1
+own_at : (m : Machine) (o : Owner) (lane prev : ℕ) (w : What) → MayBeAdded m (entry o lane prev w) → turns w ≡ true
+    → o ≡ Queue (course_at m.courses lane).cpu
+own_at m o lane prev w a t = let c = course_at m.courses lane in let lets = form_lets m (entry o lane prev w) a in
+    own_turn c.form m.header c (sight m (entry o lane prev w)).queue lane o w t lets.0 lets.1
 
 -- a close and an end are drawn by the lane whose turn is open
-by_opener : (m : Machine) (pre : List Entry) (o : Owner) (l prev lane cpu : ℕ) (w : What) → Turning pre m → MayBeAdded m (entry o l prev w) → turns w ≡ true → is_open (course_at m.courses l) ≡ true → o ≡ Queue cpu →
+by_opener : (m : Machine) (pre : List Entry) (o : Owner) (l prev lane cpu : ℕ) (w : What) → Turning pre m
+    → MayBeAdded m (entry o l prev w) → turns w ≡ true → is_open (course_at m.courses l) ≡ true → o ≡ Queue cpu →
     (k : Kind) (ps : Mask) → (part_at m cpu).opened ≡ Some (record { lane = lane; kind = k; positions = ps }) → l ≡ lane
 by_opener m pre o l prev lane cpu w held a t z own k ps e =
     let c = course_at m.courses l in
     let same : c.cpu ≡ cpu = let y : Queue c.cpu ≡ Queue cpu = sym (own_at m o l prev w a t) ∙ own in cc in
     lane_of _ _ (sym ((held.each l).open_ z).there.opened ∙ ap (λ (u : ℕ). (part_at m u).opened) same ∙ e)
 
-alone : (m : Machine) (pre : List Entry) (o : Owner) (l prev lane cpu : ℕ) (w : What) → Turning pre m → MayBeAdded m (entry o l prev w) → turns w ≡ true → o ≡ Queue cpu →
+alone : (m : Machine) (pre : List Entry) (o : Owner) (l prev lane cpu : ℕ) (w : What) → Turning pre m
+    → MayBeAdded m (entry o l prev w) → turns w ≡ true → o ≡ Queue cpu →
     (k : Kind) (ps : Mask) → (part_at m cpu).opened ≡ Some (record { lane = lane; kind = k; positions = ps }) → l ≡ lane
 alone m pre o l prev lane cpu (Turn ps') held a t own k ps e =
     let at = mine m o l prev cpu (Turn ps') own a in
-    clash (is_some (sight m (entry o l prev (Turn ps'))).queue.open_turn) (ap (λ (q : QueueState). is_some q.open_turn) at.was ∙ ap (λ (x : Option OpenTurn). is_some x) e) (unbroken_here m (entry o l prev (Turn ps')) a ReplyRule)
+    clash (is_some (sight m (entry o l prev (Turn ps'))).queue.open_turn)
+    (ap (λ (q : QueueState). is_some q.open_turn) at.was ∙ ap (λ (x : Option OpenTurn). is_some x) e)
+    (unbroken_here m (entry o l prev (Turn ps')) a ReplyRule)
 alone m pre o l prev lane cpu (Close p w i n) held a t own k ps e =
     let c = course_at m.courses l in
-    by_opener m pre o l prev lane cpu (Close p w i n) held a t (close_works c.form m.header c _ l p w i n (cause_of c) (form_lets m (entry o l prev (Close p w i n)) a).1).0 own k ps e
+    by_opener m pre o l prev lane cpu (Close p w i n) held a t
+    (close_works c.form m.header c _ l p w i n (cause_of c) (form_lets m (entry o l prev (Close p w i n)) a).1).0 own k ps e
 alone m pre o l prev lane cpu Over held a t own k ps e =
     let c = course_at m.courses l in
-    by_opener m pre o l prev lane cpu Over held a t (over_opens c.form m.header c _ l (cause_of c) (form_lets m (entry o l prev Over) a).1) own k ps e
+    by_opener m pre o l prev lane cpu Over held a t
+    (over_opens c.form m.header c _ l (cause_of c) (form_lets m (entry o l prev Over) a).1) own k ps e
 alone m pre o l prev lane cpu w held a t own k ps e = absurd (let y : ⊥ = cc in y)
 
 -- ---- one step of the queues
-fits_kept : CallsKeepRest → (m : Machine) (o : Owner) (lane prev : ℕ) (w : What) (pre : List Entry) → MayBeAdded m (entry o lane prev w) → Turning pre m → (cpu : ℕ) → Fits m.header m.versions cpu (part_at (after m (entry o lane prev w)) cpu)
+fits_kept : CallsKeepRest → (m : Machine) (o : Owner) (lane prev : ℕ) (w : What) (pre : List Entry)
+    → MayBeAdded m (entry o lane prev w) → Turning pre m → (cpu : ℕ)
+    → Fits m.header m.versions cpu (part_at (after m (entry o lane prev w)) cpu)
 unfolding sight
 fits_kept law m o lane prev w pre a held cpu = by_turns (turns w) refl
   where
@@ -289,14 +354,19 @@ fits_kept law m o lane prev w pre a held cpu = by_turns (turns w) refl
         let own = own_at m o lane prev w a b in
         let at = mine m o lane prev c.cpu w own a in
         let was = sym (ap part_of at.was) in
-        let mine_fits = fits_after w (sight m e) lane m.versions b (form_lets m e a).1 (λ k. ((held.each lane).used k).published) (λ k. subst (Turned lane m.header (use_key c) c) was ((held.each lane).open_ k)) (subst (Fits m.header m.versions c.cpu) was (held.fits c.cpu)) in
+        let mine_fits = fits_after w (sight m e) lane m.versions b (form_lets m e a).1
+        (λ k. ((held.each lane).used k).published)
+        (λ k. subst (Turned lane m.header (use_key c) c) was ((held.each lane).open_ k))
+        (subst (Fits m.header m.versions c.cpu) was (held.fits c.cpu)) in
         elim (cases_eq cpu c.cpu) [
-          | inl same ↦ subst (λ (u : ℕ). Fits m.header m.versions u (part_at (after m e) u)) (sym same) (subst (Fits m.header m.versions c.cpu) (sym at.now) mine_fits)
+          | inl same ↦ subst (λ (u : ℕ). Fits m.header m.versions u (part_at (after m e) u)) (sym same)
+              (subst (Fits m.header m.versions c.cpu) (sym at.now) mine_fits)
           | inr other ↦ still_fits (λ z. absurd (other (let y : Queue cpu ≡ Queue c.cpu = sym z ∙ own in cc)))
         ]
 
 -- ---- one step of the lanes
-keeps_use : (lane : ℕ) (pre pre' : List Entry) (m m' : Machine) (u : UseKey) → last_use lane pre' ≡ last_use lane pre → Grows m.versions m'.versions → HasUse lane pre m u → HasUse lane pre' m' u
+keeps_use : (lane : ℕ) (pre pre' : List Entry) (m m' : Machine) (u : UseKey) → last_use lane pre' ≡ last_use lane pre
+    → Grows m.versions m'.versions → HasUse lane pre m u → HasUse lane pre' m' u
 keeps_use lane pre pre' m m' u l g h = record { last = l ∙ h.last; published = more_published m.versions m'.versions u g h.published }
 
 no_use : (w : What) (o : Option Use) → is_use w ≡ false → use_or w o ≡ o
@@ -304,12 +374,16 @@ no_use (Adopt v kind cpu) o h = absurd (let y : ⊥ = cc in y)
 no_use w o h = refl
 
 -- a lane that does not draw
-other_step : CallsKeepRest → (m : Machine) (o : Owner) (l prev lane : ℕ) (w : What) (pre : List Entry) → MayBeAdded m (entry o l prev w) → Turning pre m → (l ≡ lane → ⊥) → InTurnAt lane (pre ++ entry o l prev w ∷ []) (after m (entry o l prev w)) (course_at m.courses lane)
+other_step : CallsKeepRest → (m : Machine) (o : Owner) (l prev lane : ℕ) (w : What) (pre : List Entry)
+    → MayBeAdded m (entry o l prev w) → Turning pre m → (l ≡ lane → ⊥)
+    → InTurnAt lane (pre ++ entry o l prev w ∷ []) (after m (entry o l prev w)) (course_at m.courses lane)
 unfolding after
 other_step law m o l prev lane w pre a held n = record {
   row = it.row ∙ sym (other_said row_or lane (0, 0) pre e n);
-  used = λ k. keeps_use lane pre (pre ++ e ∷ []) m (after m e) (use_key c) (other_said use_or lane None pre e n) (versions_grow w (sight m e).course.command m.versions) (it.used k);
-  open_ = λ k. subst (Turned lane m.header (use_key c) c) (sym (others law m o l prev c.cpu w (λ own. by_turns (turns w) refl own k) a)) (it.open_ k);
+  used = λ k. keeps_use lane pre (pre ++ e ∷ []) m (after m e) (use_key c) (other_said use_or lane None pre e n)
+      (versions_grow w (sight m e).course.command m.versions) (it.used k);
+  open_ = λ k. subst (Turned lane m.header (use_key c) c)
+      (sym (others law m o l prev c.cpu w (λ own. by_turns (turns w) refl own k) a)) (it.open_ k);
 }
   where
     e : Entry
@@ -326,13 +400,16 @@ other_step law m o l prev lane w pre a held n = record {
     by_turns true b own k = absurd (n (alone m pre o l prev lane c.cpu w held a b own _ _ (it.open_ k).there.opened))
 
 -- the lane that draws
-drew_stays : (o : Owner) (n : ℕ) (c : Course) (P : Form → OutCause → Key → Type 0) → P c.form (cause_of c) (key_of c) → P (drew o n c).form (cause_of (drew o n c)) (key_of (drew o n c))
+drew_stays : (o : Owner) (n : ℕ) (c : Course) (P : Form → OutCause → Key → Type 0) → P c.form (cause_of c) (key_of c)
+    → P (drew o n c).form (cause_of (drew o n c)) (key_of (drew o n c))
 drew_stays (Queue u) n c P h = h
 drew_stays (Lane l) n c P h = h
 drew_stays Publisher n c P h = h
 
-taken_up : (m : Machine) (o : Owner) (lane prev v : ℕ) (kind : Kind) (cpu : ℕ) (pre : List Entry) → MayBeAdded m (entry o lane prev (Adopt v kind cpu)) →
-    HasUse lane (pre ++ entry o lane prev (Adopt v kind cpu) ∷ []) (after m (entry o lane prev (Adopt v kind cpu))) (record { version = v; kind = kind; cpu = cpu; masks = masks_at m v })
+taken_up : (m : Machine) (o : Owner) (lane prev v : ℕ) (kind : Kind) (cpu : ℕ) (pre : List Entry)
+    → MayBeAdded m (entry o lane prev (Adopt v kind cpu)) →
+    HasUse lane (pre ++ entry o lane prev (Adopt v kind cpu) ∷ []) (after m (entry o lane prev (Adopt v kind cpu)))
+    (record { version = v; kind = kind; cpu = cpu; masks = masks_at m v })
 unfolding sight after
 taken_up m o lane prev v kind cpu pre h =
     let e = entry o lane prev (Adopt v kind cpu) in
@@ -340,16 +417,20 @@ taken_up m o lane prev v kind cpu pre h =
     let high = ltb-false (length m.versions) v (unbroken_elsewhere m e h Version) in
     record { last = own_said use_or lane None pre e refl; published = record { from = omega arith; to = high; masks = refl } }
 
-own_kept : TurnLaws → (m : Machine) (o : Owner) (lane prev : ℕ) (w : What) (pre : List Entry) → MayBeAdded m (entry o lane prev w) → Turning pre m → is_use w ≡ false →
-    (let e = entry o lane prev w in InTurnAt lane (pre ++ e ∷ []) (after m e) (course_by w (sight m e) (cpu_of o) (queue_after (sight m e) e)))
+own_kept : TurnLaws → (m : Machine) (o : Owner) (lane prev : ℕ) (w : What) (pre : List Entry)
+    → MayBeAdded m (entry o lane prev w) → Turning pre m → is_use w ≡ false →
+    (let e = entry o lane prev w in InTurnAt lane (pre ++ e ∷ []) (after m e)
+    (course_by w (sight m e) (cpu_of o) (queue_after (sight m e) e)))
 unfolding after sight
 own_kept law m o lane prev w pre a held n = record {
   row = row_by w (sight m e) (cpu_of o) (queue_after (sight m e) e) ∙ ap (row_or w) it.row ∙ sym (own_said row_or lane (0, 0) pre e refl);
   used = λ k.
       let st = kept k in
       let l = own_said use_or lane None pre e refl ∙ no_use w (last_use lane pre) n in
-      subst (HasUse lane (pre ++ e ∷ []) (after m e)) (sym st.now.at) (keeps_use lane pre (pre ++ e ∷ []) m (after m e) (use_key c) l (versions_grow w c.command m.versions) (it.used st.was));
-  open_ = λ k. let st = kept (in_turn_from c' k) in subst (λ (u : UseKey). Turned lane m.header u c' (part_at (after m e) u.cpu)) (sym st.now.at) st.now;
+      subst (HasUse lane (pre ++ e ∷ []) (after m e)) (sym st.now.at)
+      (keeps_use lane pre (pre ++ e ∷ []) m (after m e) (use_key c) l (versions_grow w c.command m.versions) (it.used st.was));
+  open_ = λ k. let st = kept (in_turn_from c' k) in
+      subst (λ (u : UseKey). Turned lane m.header u c' (part_at (after m e) u.cpu)) (sym st.now.at) st.now;
 }
   where
     e : Entry
@@ -372,28 +453,45 @@ own_kept law m o lane prev w pre a held n = record {
     }
 
     kept : in_turn c' ≡ true → Stays lane m.header c c' (part_at (after m e) c.cpu)
-    kept k = stays law.order w (sight m e) lane (cpu_of o) (queue_after (sight m e) e) m.versions (part_at m c.cpu) (part_at (after m e) c.cpu) (form_lets m e a).1 (unbroken_here m e a CountersRule) ps (held.fits c.cpu) (λ z. (it.used z).published) it.open_ n k
+    kept k = stays law.order w (sight m e) lane (cpu_of o) (queue_after (sight m e) e) m.versions (part_at m c.cpu)
+        (part_at (after m e) c.cpu) (form_lets m e a).1 (unbroken_here m e a CountersRule) ps (held.fits c.cpu)
+        (λ z. (it.used z).published) it.open_ n k
 
-own_step : TurnLaws → (m : Machine) (o : Owner) (lane prev : ℕ) (w : What) (pre : List Entry) → MayBeAdded m (entry o lane prev w) → Turning pre m →
-    (let e = entry o lane prev w in InTurnAt lane (pre ++ e ∷ []) (after m e) (course_by w (sight m e) (cpu_of o) (queue_after (sight m e) e)))
+own_step : TurnLaws → (m : Machine) (o : Owner) (lane prev : ℕ) (w : What) (pre : List Entry)
+    → MayBeAdded m (entry o lane prev w) → Turning pre m →
+    (let e = entry o lane prev w in InTurnAt lane (pre ++ e ∷ []) (after m e)
+    (course_by w (sight m e) (cpu_of o) (queue_after (sight m e) e)))
 unfolding sight
-own_step law m o lane prev (Adopt v kind cpu) pre a held = record { row = (held.each lane).row ∙ sym (own_said row_or lane (0, 0) pre (entry o lane prev (Adopt v kind cpu)) refl); used = λ k. taken_up m o lane prev v kind cpu pre a; open_ = λ k. absurd (let y : ⊥ = cc in y) }
+own_step law m o lane prev (Adopt v kind cpu) pre a held =
+    record {
+      row = (held.each lane).row ∙ sym (own_said row_or lane (0, 0) pre
+          (entry o lane prev (Adopt v kind cpu)) refl);
+      used = λ k. taken_up m o lane prev v kind cpu pre a;
+      open_ = λ k. absurd (let y : ⊥ = cc in y);
+    }
 own_step law m o lane prev w pre a held = own_kept law m o lane prev w pre a held refl
 
-turning_step : TurnLaws → (m : Machine) (e : Entry) (pre : List Entry) → MayBeAdded m e → Turning pre m → Turning (pre ++ e ∷ []) (after m e)
+turning_step : TurnLaws → (m : Machine) (e : Entry) (pre : List Entry) → MayBeAdded m e → Turning pre m
+    → Turning (pre ++ e ∷ []) (after m e)
 unfolding after course_after
 turning_step law m e pre a held = record {
   each = λ lane. elim (cases_eq e.lane lane) [
     | inl same ↦
-        let at : course_at (after m e).courses e.lane ≡ course_after (sight m e) e = get_or-set_same m.courses e.lane (course_after (sight m e) e) no_course (lane_there m e a) in
+        let at : course_at (after m e).courses e.lane ≡ course_after (sight m e) e =
+        get_or-set_same m.courses e.lane (course_after (sight m e) e) no_course (lane_there m e a) in
         let made = course_by e.what (sight m e) (cpu_of e.owner) (queue_after (sight m e) e) in
-        let r = drew_stays e.owner ((sight m e).count + 1) made (InTurn e.lane (pre ++ e ∷ []) (after m e)) (own_step law m e.owner e.lane e.prev e.what pre a held) in
-        subst (λ (l : ℕ). InTurnAt l (pre ++ e ∷ []) (after m e) (course_at (after m e).courses l)) same (subst (InTurnAt e.lane (pre ++ e ∷ []) (after m e)) (sym at) r)
+        let r = drew_stays e.owner ((sight m e).count + 1) made (InTurn e.lane (pre ++ e ∷ []) (after m e))
+        (own_step law m e.owner e.lane e.prev e.what pre a held) in
+        subst (λ (l : ℕ). InTurnAt l (pre ++ e ∷ []) (after m e) (course_at (after m e).courses l)) same
+        (subst (InTurnAt e.lane (pre ++ e ∷ []) (after m e)) (sym at) r)
     | inr other ↦
-        let at : course_at (after m e).courses lane ≡ course_at m.courses lane = get_or-set_other m.courses e.lane lane (course_after (sight m e) e) no_course (λ z. other (sym z)) in
-        subst (InTurnAt lane (pre ++ e ∷ []) (after m e)) (sym at) (other_step law.rest m e.owner e.lane e.prev lane e.what pre a held other)
+        let at : course_at (after m e).courses lane ≡ course_at m.courses lane =
+        get_or-set_other m.courses e.lane lane (course_after (sight m e) e) no_course (λ z. other (sym z)) in
+        subst (InTurnAt lane (pre ++ e ∷ []) (after m e)) (sym at)
+        (other_step law.rest m e.owner e.lane e.prev lane e.what pre a held other)
   ];
-  fits = λ cpu. more_fits m.header m.versions (after m e).versions cpu (part_at (after m e) cpu) (versions_grow e.what (sight m e).course.command m.versions) (fits_kept law.rest m e.owner e.lane e.prev e.what pre a held cpu);
+  fits = λ cpu. more_fits m.header m.versions (after m e).versions cpu (part_at (after m e) cpu)
+      (versions_grow e.what (sight m e).course.command m.versions) (fits_kept law.rest m e.owner e.lane e.prev e.what pre a held cpu);
 }
 
 -- ---- the opening state
@@ -413,7 +511,8 @@ turning_start h = record {
     used = λ k. rest_shut c.form (cause_of c) (opening_rests h lane) k;
     open_ = λ k. rest_shut c.form (cause_of c) (opening_rests h lane) (in_turn_from c k);
   };
-  fits = λ cpu. subst (Fits h (h.parts ∷ []) cpu) (sym (opening_part h cpu)) (record { from = omega arith; to = omega arith; many = tt; below = tt });
+  fits = λ cpu. subst (Fits h (h.parts ∷ []) cpu) (sym (opening_part h cpu))
+      (record { from = omega arith; to = omega arith; many = tt; below = tt });
 }
 
 -- ---- every front

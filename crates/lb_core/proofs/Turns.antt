@@ -49,14 +49,17 @@ use Rattle.lb_core.proofs.Quiet.{TurnPart, part_of, turns}
 use Rattle.lb_core.proofs.Positions.{least_has, above_has, AreMany, positions_below}
 
 -- ---- the last `use` in a longer list
-last-snoc : {A : Type 0} (f : What → A → A) (lane : ℕ) (o : A) (pre : List Entry) (e : Entry) → last_said f lane o (pre ++ e ∷ []) ≡ cond (e.lane == lane) (f e.what (last_said f lane o pre)) (last_said f lane o pre)
+last-snoc : {A : Type 0} (f : What → A → A) (lane : ℕ) (o : A) (pre : List Entry) (e : Entry)
+    → last_said f lane o (pre ++ e ∷ []) ≡ cond (e.lane == lane) (f e.what (last_said f lane o pre)) (last_said f lane o pre)
 last-snoc f lane o [] e = refl
 last-snoc f lane o (x ∷ pre) e = last-snoc f lane (cond (x.lane == lane) (f x.what o) o) pre e
 
-pub own_said : {A : Type 0} (f : What → A → A) (lane : ℕ) (o : A) (pre : List Entry) (e : Entry) → e.lane ≡ lane → last_said f lane o (pre ++ e ∷ []) ≡ f e.what (last_said f lane o pre)
+pub own_said : {A : Type 0} (f : What → A → A) (lane : ℕ) (o : A) (pre : List Entry) (e : Entry) → e.lane ≡ lane
+    → last_said f lane o (pre ++ e ∷ []) ≡ f e.what (last_said f lane o pre)
 own_said f lane o pre e own = let b = eq-eqb e.lane lane own in last-snoc f lane o pre e ∙ rw b refl
 
-pub other_said : {A : Type 0} (f : What → A → A) (lane : ℕ) (o : A) (pre : List Entry) (e : Entry) → (e.lane ≡ lane → ⊥) → last_said f lane o (pre ++ e ∷ []) ≡ last_said f lane o pre
+pub other_said : {A : Type 0} (f : What → A → A) (lane : ℕ) (o : A) (pre : List Entry) (e : Entry)
+    → (e.lane ≡ lane → ⊥) → last_said f lane o (pre ++ e ∷ []) ≡ last_said f lane o pre
 other_said f lane o pre e other = let b = ne_eqb e.lane lane other in last-snoc f lane o pre e ∙ rw b refl
 
 -- ---- forms
@@ -107,24 +110,29 @@ pub still : (f : Form) (position : ℕ) → working f ≡ true → stands f posi
 still f position w = rw w (le-leb position position (omega arith))
 
 -- by their forms
-pub look_works : (f : Form) (h : Header) (c : Course) (q : QueueState) (lane p : ℕ) (x : Mask) (names : _) (d : _) (o : OutCause) → draws f h c q lane (Look p x names d) ≡ true → (opens f o ≡ true) × (working f ≡ true)
+pub look_works : (f : Form) (h : Header) (c : Course) (q : QueueState) (lane p : ℕ) (x : Mask) (names : _) (d : _)
+    (o : OutCause) → draws f h c q lane (Look p x names d) ≡ true → (opens f o ≡ true) × (working f ≡ true)
 unfolding draws
 look_works Position h c q lane p x names d o k = (refl, refl)
 look_works LandedForm h c q lane p x names d o k = (refl, refl)
 look_works f h c q lane p x names d o k = absurd (let y : ⊥ = cc in y)
 
-pub close_works : (f : Form) (h : Header) (c : Course) (q : QueueState) (lane p : ℕ) (w : OutcomeWord) (i n : ℕ) (o : OutCause) → draws f h c q lane (Close p w i n) ≡ true → (opens f o ≡ true) × (working f ≡ true)
+pub close_works : (f : Form) (h : Header) (c : Course) (q : QueueState) (lane p : ℕ) (w : OutcomeWord) (i n : ℕ)
+    (o : OutCause) → draws f h c q lane (Close p w i n) ≡ true → (opens f o ≡ true) × (working f ≡ true)
 unfolding draws
 close_works Looked h c q lane p w i n o k = (refl, refl)
 close_works LandedForm h c q lane p w i n o k = (refl, refl)
 close_works f h c q lane p w i n o k = absurd (let y : ⊥ = cc in y)
 
-pub out_works : (f : Form) (h : Header) (c : Course) (q : QueueState) (lane : ℕ) (cause : OutCause) (to : ℕ) (ts : List ℕ) (o o' : OutCause) → draws f h c q lane (Out cause to ts) ≡ true → turning f o' ≡ true → (opens f o ≡ true) × (working f ≡ true)
+pub out_works : (f : Form) (h : Header) (c : Course) (q : QueueState) (lane : ℕ) (cause : OutCause) (to : ℕ)
+    (ts : List ℕ) (o o' : OutCause) → draws f h c q lane (Out cause to ts) ≡ true → turning f o' ≡ true
+    → (opens f o ≡ true) × (working f ≡ true)
 unfolding draws
 out_works Looked h c q lane cause to ts o o' k t = (refl, refl)
 out_works f h c q lane cause to ts o o' k t = absurd (let y : ⊥ = cc in y)
 
-pub landed_works : (f : Form) (h : Header) (c : Course) (q : QueueState) (lane : ℕ) (ts : List ℕ) → draws f h c q lane (Landed ts) ≡ true → (opens f PullOut ≡ true) × (working f ≡ true)
+pub landed_works : (f : Form) (h : Header) (c : Course) (q : QueueState) (lane : ℕ) (ts : List ℕ)
+    → draws f h c q lane (Landed ts) ≡ true → (opens f PullOut ≡ true) × (working f ≡ true)
 unfolding draws
 landed_works Flight h c q lane ts k = (refl, refl)
 landed_works f h c q lane ts k = absurd (let y : ⊥ = cc in y)
@@ -134,12 +142,14 @@ unfolding draws
 ask_closed Closed h c q lane r k = refl
 ask_closed f h c q lane r k = absurd (let y : ⊥ = cc in y)
 
-pub over_opens : (f : Form) (h : Header) (c : Course) (q : QueueState) (lane : ℕ) (o : OutCause) → draws f h c q lane Over ≡ true → opens f o ≡ true
+pub over_opens : (f : Form) (h : Header) (c : Course) (q : QueueState) (lane : ℕ) (o : OutCause)
+    → draws f h c q lane Over ≡ true → opens f o ≡ true
 unfolding draws
 over_opens Done h c q lane o d = refl
 over_opens f h c q lane o d = absurd (let y : ⊥ = cc in y)
 
-pub turn_used : (f : Form) (h : Header) (c : Course) (q : QueueState) (lane : ℕ) (ps : Mask) → draws f h c q lane (Turn ps) ≡ true → f ≡ Used
+pub turn_used : (f : Form) (h : Header) (c : Course) (q : QueueState) (lane : ℕ) (ps : Mask)
+    → draws f h c q lane (Turn ps) ≡ true → f ≡ Used
 unfolding draws
 turn_used Used h c q lane ps k = refl
 turn_used f h c q lane ps k = absurd (let y : ⊥ = cc in y)
@@ -168,7 +178,8 @@ command_no_pull : (command : Option Command) (at : ℕ) (q : QueueState) → NoP
 command_no_pull (Some (Wake t)) at q l e = wake_no_pull (away q t) at t q l e
 command_no_pull command at q l e = absurd (let y : ⊥ = cc in y)
 
-pub pull_turns : (f : Form) (h : Header) (c : Course) (q : QueueState) (l : Leaving) (o : OutCause) → out_by f h c q ≡ Some l → is_pull_cause l.cause ≡ true → turning f o ≡ true
+pub pull_turns : (f : Form) (h : Header) (c : Course) (q : QueueState) (l : Leaving) (o : OutCause)
+    → out_by f h c q ≡ Some l → is_pull_cause l.cause ≡ true → turning f o ≡ true
 pull_turns Looked h c q l o e k = refl
 pull_turns Rest h c q l o e k = absurd (clash _ k (stop_no_pull (next_stop q false) c.at q l e))
 pull_turns Asked h c q l o e k = absurd (clash _ k (command_no_pull c.command c.at q l e))
@@ -201,7 +212,8 @@ kicked_out New c = next_out (target_of c) c
 kicked_out Old c = (refl, refl)
 
 ends_out : (k : Kind) (h : Header) (c : Course) → Out_ c (ends_turn k h c)
-ends_out TickTurn h c = cond_out (ltb 1 c.awake && ltb 0 (length (turn_domains h c))) c (record (begins_anew c) { form = ScanDue }) (rests c) (refl, refl) (refl, refl)
+ends_out TickTurn h c = cond_out (ltb 1 c.awake && ltb 0 (length (turn_domains h c))) c
+    (record (begins_anew c) { form = ScanDue }) (rests c) (refl, refl) (refl, refl)
 ends_out Idle h c = (refl, refl)
 ends_out Nohz h c = next_out (least_above (tickless_in c.figures) c.cpu) c
 
@@ -264,15 +276,18 @@ own_queue (Queue u) cpu h = ap Queue (eqb-true u cpu h)
 own_queue o cpu h = absurd (let y : ⊥ = cc in y)
 
 -- it is that of the turn
-not_pulled : (c : Course) (o : Owner) (b : Bool) → b ≡ false → is_queue o (Some (cond b (source_of c.decision) c.cpu)) ≡ true → o ≡ Queue c.cpu
+not_pulled : (c : Course) (o : Owner) (b : Bool) → b ≡ false
+    → is_queue o (Some (cond b (source_of c.decision) c.cpu)) ≡ true → o ≡ Queue c.cpu
 not_pulled c o true n k = clash _ refl n
 not_pulled c o false n k = own_queue o c.cpu k
 
-pub own_turn : (f : Form) (h : Header) (c : Course) (q : QueueState) (lane : ℕ) (o : Owner) (w : What) → turns w ≡ true → is_owner w lane (queue_due f c) o ≡ true → draws f h c q lane w ≡ true → o ≡ Queue c.cpu
+pub own_turn : (f : Form) (h : Header) (c : Course) (q : QueueState) (lane : ℕ) (o : Owner) (w : What)
+    → turns w ≡ true → is_owner w lane (queue_due f c) o ≡ true → draws f h c q lane w ≡ true → o ≡ Queue c.cpu
 unfolding draws
 own_turn Used h c q lane o (Turn ps) t k d = own_queue o c.cpu k
 own_turn f h c q lane o (Turn ps) t k d = absurd (let y : ⊥ = cc in y)
-own_turn Looked h c q lane o (Close p w i n) t k d = not_pulled c o (is_pull c.decision) (not-true _ (and_parts (is_some c.decision) _ d).1) k
+own_turn Looked h c q lane o (Close p w i n) t k d =
+    not_pulled c o (is_pull c.decision) (not-true _ (and_parts (is_some c.decision) _ d).1) k
 own_turn LandedForm h c q lane o (Close p w i n) t k d = own_queue o c.cpu k
 own_turn f h c q lane o (Close p w i n) t k d = absurd (let y : ⊥ = cc in y)
 own_turn Done h c q lane o Over t k d = own_queue o c.cpu k
@@ -318,7 +333,8 @@ abbrev pub Turned : ℕ → Header → UseKey → Course → TurnPart → Type 0
 Turned lane h u c t = HasTurn lane h u c.form (key_of c) t
 
 -- a position stays in work
-pub reforms : (lane : ℕ) (h : Header) (u : UseKey) (f f' : Form) (k : Key) (t : TurnPart) → working f ≡ true → working f' ≡ true → HasTurn lane h u f k t → HasTurn lane h u f' k t
+pub reforms : (lane : ℕ) (h : Header) (u : UseKey) (f f' : Form) (k : Key) (t : TurnPart) → working f ≡ true
+    → working f' ≡ true → HasTurn lane h u f k t → HasTurn lane h u f' k t
 reforms lane h u f f' k t w w' a = record {
   at = a.at;
   found = a.found;
@@ -328,19 +344,36 @@ reforms lane h u f f' k t w w' a = record {
 }
 
 -- the next position, or none
-goes_on : (lane : ℕ) (h : Header) (u : UseKey) (c : Course) (t : TurnPart) (o : Option ℕ) → ((p : ℕ) → o ≡ Some p → least_above c.positions c.position ≡ Some p) → HasTurn lane h u Closed (key_of c) t → Turned lane h u (goes_to o c) t
-goes_on lane h u c t None e a = record { at = a.at; found = a.found; there = a.there; same = λ p s. absurd (let y : ⊥ = cc in y); one = λ s. absurd (let y : ⊥ = cc in y) }
+goes_on : (lane : ℕ) (h : Header) (u : UseKey) (c : Course) (t : TurnPart) (o : Option ℕ)
+    → ((p : ℕ) → o ≡ Some p → least_above c.positions c.position ≡ Some p) → HasTurn lane h u Closed (key_of c) t
+    → Turned lane h u (goes_to o c) t
+goes_on lane h u c t None e a = record {
+  at = a.at;
+  found = a.found;
+  there = a.there;
+  same = λ p s. absurd (let y : ⊥ = cc in y);
+  one = λ s. absurd (let y : ⊥ = cc in y);
+}
 goes_on lane h u c t (Some p) e a =
     let up = above_has c.positions c.position p (e p refl) in
-    record { at = a.at; found = a.found; there = a.there; same = λ i s. a.same i (lt-ltb c.position i (let k = leb-true p i s in let l = up.0 in omega arith)); one = λ _. up.1 }
+    record {
+      at = a.at;
+      found = a.found;
+      there = a.there;
+      same = λ i s. a.same i (lt-ltb c.position i (let k = leb-true p i s in let l = up.0 in omega arith));
+      one = λ _. up.1;
+    }
 
-pub next_on : (lane : ℕ) (h : Header) (u : UseKey) (c : Course) (t : TurnPart) → HasTurn lane h u Closed (key_of c) t → Turned lane h u (goes_to (least_above c.positions c.position) c) t
+pub next_on : (lane : ℕ) (h : Header) (u : UseKey) (c : Course) (t : TurnPart) → HasTurn lane h u Closed (key_of c) t
+    → Turned lane h u (goes_to (least_above c.positions c.position) c) t
 next_on lane h u c t a = goes_on lane h u c t (least_above c.positions c.position) (λ p e. e) a
 
-done : (lane : ℕ) (h : Header) (u : UseKey) (c : Course) (t : TurnPart) → HasTurn lane h u Closed (key_of c) t → Turned lane h u (goes_to None c) t
+done : (lane : ℕ) (h : Header) (u : UseKey) (c : Course) (t : TurnPart) → HasTurn lane h u Closed (key_of c) t
+    → Turned lane h u (goes_to None c) t
 done lane h u c t a = goes_on lane h u c t None (λ p e. absurd (let y : ⊥ = cc in y)) a
 
-pub closes_turn : (lane : ℕ) (h : Header) (u : UseKey) (w : OutcomeWord) (c : Course) (t : TurnPart) → HasTurn lane h u Closed (key_of c) t → Turned lane h u (closes w c) t
+pub closes_turn : (lane : ℕ) (h : Header) (u : UseKey) (w : OutcomeWord) (c : Course) (t : TurnPart)
+    → HasTurn lane h u Closed (key_of c) t → Turned lane h u (closes w c) t
 closes_turn lane h u AskingWord c t a = a
 closes_turn lane h u NotMineWord c t a = done lane h u c t a
 closes_turn lane h u MovedWord c t a = by_newly (is_newly (kind_of c))
@@ -351,7 +384,8 @@ closes_turn lane h u MovedWord c t a = by_newly (is_newly (kind_of c))
 closes_turn lane h u w c t a = next_on lane h u c t a
 
 -- a close changes the counters of its own position
-pub closed_turn : StandInOrder → (lane : ℕ) (h : Header) (c : Course) (q : QueueState) → working c.form ≡ true → Turned lane h (use_key c) c (part_of q) →
+pub closed_turn : StandInOrder → (lane : ℕ) (h : Header) (c : Course) (q : QueueState) → working c.form ≡ true
+    → Turned lane h (use_key c) c (part_of q) →
     HasTurn lane h (use_key c) Closed (key_of c) (part_of (close_look q c.at (turn_domain h c).shape (outcome_of h c) (flag_of c.taken)))
 unfolding close_look
 closed_turn order lane h c q w a =
@@ -361,7 +395,12 @@ closed_turn order lane h c q w a =
     record {
       at = a.at;
       found = set a.found shape.position x;
-      there = record { opened = a.there.opened; version = a.there.version; below = a.there.below; are = ap (λ (o : Option (List Counters)). Some (set (unwrap_or o []) shape.position x)) a.there.are };
+      there = record {
+        opened = a.there.opened;
+        version = a.there.version;
+        below = a.there.below;
+        are = ap (λ (o : Option (List Counters)). Some (set (unwrap_or o []) shape.position x)) a.there.are;
+      };
       same = λ p s.
           let up = ltb-true c.position p s in
           get_or-set_other a.found shape.position p x no_counters (λ e. omega arith) ∙ a.same p (rw w (le-leb c.position p (omega arith)));
@@ -387,33 +426,53 @@ pub record Fits (h : Header) (vs : List (List Mask)) (cpu : ℕ) (t : TurnPart) 
   pub below : OpensBelow t.opened t.counters (length (domains_of h.cpus h.distances (get_or vs (t.version - 1) []) cpu))
 
 -- a turn finds as many counters as its CPU has domains
-pub finds_many : (h : Header) (c : Course) (vs : List (List Mask)) (q : QueueState) → IsPublished vs (use_key c) → Fits h vs c.cpu (part_of q) → c.version ≡ q.version → AreMany q.counters (length (shapes_of (turn_domains h c)))
+pub finds_many : (h : Header) (c : Course) (vs : List (List Mask)) (q : QueueState) → IsPublished vs (use_key c)
+    → Fits h vs c.cpu (part_of q) → c.version ≡ q.version → AreMany q.counters (length (shapes_of (turn_domains h c)))
 finds_many h c vs q u f same =
     let l = length-map (turn_domains h c) (λ (d : Domain). d.shape) in
-    subst (AreMany q.counters) (ap (λ (v : ℕ). length (domains_of h.cpus h.distances (get_or vs (v - 1) []) c.cpu)) (sym same) ∙ ap (λ (parts : List Mask). length (domains_of h.cpus h.distances parts c.cpu)) (sym u.masks) ∙ sym l) f.many
+    subst (AreMany q.counters) (ap (λ (v : ℕ). length (domains_of h.cpus h.distances (get_or vs (v - 1) []) c.cpu))
+    (sym same) ∙ ap (λ (parts : List Mask). length (domains_of h.cpus h.distances parts c.cpu)) (sym u.masks) ∙ sym l) f.many
 
 -- ---- a turn that opens
 abbrev pub with_turn : Header → Course → QueueState → Mask → Course
 with_turn h c q ps = record c { positions = ps; counters = counters_found q c.at c.version (shapes_of (turn_domains h c)) }
 
-pub opened_turn : (lane : ℕ) (h : Header) (vs : List (List Mask)) (c : Course) (q : QueueState) (ps : Mask) → ps ≡ positions_found q c.at (kind_of c) c.version (shapes_of (turn_domains h c)) → IsPublished vs (use_key c) → Fits h vs c.cpu (part_of q) →
-    Turned lane h (use_key c) (goes_to (least ps) (with_turn h c q ps)) (part_of (opened q c.at lane (kind_of c) c.version (shapes_of (turn_domains h c))))
+pub opened_turn : (lane : ℕ) (h : Header) (vs : List (List Mask)) (c : Course) (q : QueueState) (ps : Mask)
+    → ps ≡ positions_found q c.at (kind_of c) c.version (shapes_of (turn_domains h c)) → IsPublished vs (use_key c)
+    → Fits h vs c.cpu (part_of q) →
+    Turned lane h (use_key c) (goes_to (least ps) (with_turn h c q ps))
+    (part_of (opened q c.at lane (kind_of c) c.version (shapes_of (turn_domains h c))))
 opened_turn lane h vs c q ps due u f = by_first (least ps) refl
   where
     shapes : List Shape
     shapes = shapes_of (turn_domains h c)
 
-    there : IsOpenAt lane h (use_key c) ps (counters_found q c.at c.version shapes) (part_of (opened q c.at lane (kind_of c) c.version shapes))
+    there : IsOpenAt lane h (use_key c) ps (counters_found q c.at c.version shapes)
+        (part_of (opened q c.at lane (kind_of c) c.version shapes))
     there = record {
       opened = ap (λ (m : Mask). let t : OpenTurn = record { lane = lane; kind = kind_of c; positions = m } in Some t) (sym due);
       version = refl;
       below = λ p k.
           let l = length-map (turn_domains h c) (λ (d : Domain). d.shape) in
-          let b = positions_below q c.at (kind_of c) c.version p shapes (finds_many h c vs q u f) (subst (λ (m : Mask). has m p ≡ true) due k) in
+          let b = positions_below q c.at (kind_of c) c.version p shapes (finds_many h c vs q u f)
+          (subst (λ (m : Mask). has m p ≡ true) due k) in
           omega arith;
       are = refl;
     }
 
-    by_first : (o : Option ℕ) → least ps ≡ o → Turned lane h (use_key c) (goes_to o (with_turn h c q ps)) (part_of (opened q c.at lane (kind_of c) c.version shapes))
-    by_first None e = record { at = refl; found = counters_found q c.at c.version shapes; there = there; same = λ p s. refl; one = λ s. absurd (let y : ⊥ = cc in y) }
-    by_first (Some p) e = record { at = refl; found = counters_found q c.at c.version shapes; there = there; same = λ i s. refl; one = λ _. least_has ps p e }
+    by_first : (o : Option ℕ) → least ps ≡ o
+        → Turned lane h (use_key c) (goes_to o (with_turn h c q ps)) (part_of (opened q c.at lane (kind_of c) c.version shapes))
+    by_first None e = record {
+      at = refl;
+      found = counters_found q c.at c.version shapes;
+      there = there;
+      same = λ p s. refl;
+      one = λ s. absurd (let y : ⊥ = cc in y);
+    }
+    by_first (Some p) e = record {
+      at = refl;
+      found = counters_found q c.at c.version shapes;
+      there = there;
+      same = λ i s. refl;
+      one = λ _. least_has ps p e;
+    }

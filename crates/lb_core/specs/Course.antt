@@ -181,7 +181,8 @@ outcome_by None h c = BalancedEnd
 outcome_by (Some NotMine) h c = NotMineEnd
 outcome_by (Some Balanced) h c = if is_some c.taken then PinnedEnd else BalancedEnd
 outcome_by (Some (Pull s k i)) h c =
-    outcome_after (is_all_pinned c.taken) c.took (counters_at c.counters c.position).failures (tries_of (turn_domain h c).shape.name) (kind_of c)
+    outcome_after (is_all_pinned c.taken) c.took (counters_at c.counters c.position).failures
+    (tries_of (turn_domain h c).shape.name) (kind_of c)
 
 -- how the position in work ends, if it ends now
 unfoldable pub outcome_of : Header → Course → Outcome

@@ -66,7 +66,8 @@ kicks_next (Some cpu) c = is_due_at Nohz cpu c
 -- after a turn: a scan after a tick of two or more awake tasks on a CPU with domains; the next CPU
 -- of a kick
 abbrev pub ends_turn : Kind → Header → Course → Course
-ends_turn TickTurn h c = if nat_lt 1 c.awake && nat_lt 0 (length (turn_domains h c)) then record (begins_anew c) { form = ScanDue } else rests c
+ends_turn TickTurn h c = if nat_lt 1 c.awake && nat_lt 0 (length (turn_domains h c))
+    then record (begins_anew c) { form = ScanDue } else rests c
 ends_turn Idle h c = rests c
 ends_turn Nohz h c = kicks_next (least_above (tickless_in c.figures) c.cpu) c
 
@@ -145,16 +146,25 @@ closes w c = goes_on c
 -- `cpu` is the CPU of the owner's queue, and `now` that queue after the entry
 abbrev pub course_by : What → Sight → ℕ → QueueState → Course
 course_by (Row n at command) s cpu now = record s.course { form = Asked; rows = n; at = at; command = Some command }
-course_by (Adopt v kind turned) s cpu now = record s.course { form = Used; version = v; masks = s.masks; kind = Some kind; cpu = turned; named_version = v }
+course_by (Adopt v kind turned) s cpu now =
+    record s.course { form = Used; version = v; masks = s.masks; kind = Some kind; cpu = turned; named_version = v }
 course_by (Look p x fs d) s cpu now =
-    record s.course { form = Looked; decision = Some d; idle = not (is_busy (kind_of s.course) (by_cpu s.figs) s.course.cpu); named = names fs s.course.named }
+    record s.course {
+      form = Looked;
+      decision = Some d;
+      idle = not (is_busy (kind_of s.course) (by_cpu s.figs) s.course.cpu);
+      named = names fs s.course.named;
+    }
 course_by (Scan fs t) s cpu now = scanned t (record s.course { figures = s.figs; named = names fs s.course.named })
 course_by (End unserved) s cpu now = record s.course { form = Ended }
 course_by (Did r) s cpu now = answered s.course.command cpu s.queue now s.course
 course_by (Out cause to tasks) s cpu now = takes_off (leaving s) s.course
 course_by (Landed tasks) s cpu now = lands (cause_of s.course) s.course
 course_by (Turn ps) s cpu now =
-    goes_to (least ps) (record s.course { positions = ps; counters = counters_found s.queue s.course.at s.course.version (shapes_of (turn_domains s.header s.course)) })
+    goes_to (least ps) (record s.course {
+      positions = ps;
+      counters = counters_found s.queue s.course.at s.course.version (shapes_of (turn_domains s.header s.course));
+    })
 course_by Shut s cpu now = turn_ends s.header s.course
 course_by (Close p w i f) s cpu now = closes w s.course
 course_by (Ask r) s cpu now = goes_on s.course

@@ -73,7 +73,8 @@ place_at m t = slice_index_or m.places t (HandOf (length m.courses))
 -- the tasks at home at a CPU, of the rows of the tasks from `id` on
 abbrev pub tasks_at : ℕ → ℕ → List TaskRow → List TaskRecord
 tasks_at cpu id [] = []
-tasks_at cpu id (row ∷ rows) = if row.home == cpu then new_task id row.nice row.mask ∷ tasks_at cpu (id + 1) rows else tasks_at cpu (id + 1) rows
+tasks_at cpu id (row ∷ rows) = if row.home == cpu then new_task id row.nice row.mask ∷ tasks_at cpu (id + 1) rows
+    else tasks_at cpu (id + 1) rows
 
 unfoldable pub opening_queue : Header → ℕ → QueueState
 opening_queue h cpu = record (empty_queue cpu (length h.cpus)) { asleep = tasks_at cpu 0 h.tasks }

@@ -53,4 +53,5 @@ abbrev pub KeepsTurn : Machine → ℕ → Course → Type 0
 KeepsTurn m lane c = TurnIn c.form m lane c
 
 abbrev pub TurnsStayOpen : Type 0
-TurnsStayOpen = (h : Header) (es : List Entry) (lane : ℕ) → IsLegalFront h es → (let m = run es (start h) in KeepsTurn m lane (course_at m.courses lane))
+TurnsStayOpen = (h : Header) (es : List Entry) (lane : ℕ) → IsLegalFront h es
+    → (let m = run es (start h) in KeepsTurn m lane (course_at m.courses lane))

@@ -68,7 +68,8 @@ up_to cpu (suc n) (e ∷ es) = e ∷ up_to cpu (if same_owner e.owner (Queue cpu
 -- is an earlier one; number 0 is the opening one, at ticket 0
 pub record IsFigureOf (h : Header) (before : List Entry) (name : FigName) (fig : Fig) : Type 0 where
   pub earlier : name.n ≤ drawn_at name.cpu before
-  pub value : let front = up_to name.cpu name.n before in fig ≡ figure (queue_at (run front (start h)).queues name.cpu) name.n (length front)
+  pub value : let front = up_to name.cpu name.n before in
+      fig ≡ figure (queue_at (run front (start h)).queues name.cpu) name.n (length front)
 
 -- ---- the domain
 -- the domains of the CPU that balances, in the version that was taken up
@@ -127,7 +128,8 @@ pub record IsTurnOpen (lane p : ℕ) (u : Use) (m : Machine) : Type 0 where
   pub one : has positions p ≡ true
 
 -- the look at position p without the CPUs x, over these figures, with this decision
-pub record IsPass (h : Header) (before : List Entry) (e : Entry) (later : List Entry) (p : ℕ) (x : Mask) (names : List FigName) (d : Decision) : Type 0 where
+pub record IsPass (h : Header) (before : List Entry) (e : Entry) (later : List Entry) (p : ℕ) (x : Mask)
+    (names : List FigName) (d : Decision) : Type 0 where
   pub used : Use
   pub is_last : last_use e.lane before ≡ Some used
   pub from_first : 1 ≤ used.version
@@ -136,14 +138,16 @@ pub record IsPass (h : Header) (before : List Entry) (e : Entry) (later : List E
   pub below : p < length (use_domains h (run before (start h)) used)
   pub excluded : x ≡ last_said left_out e.lane no_cpus before
   pub read : map (λ name. name.cpu) names ≡ members (without (domain_at (use_domains h (run before (start h)) used) p).shape.span x)
-  pub figures : All (λ name. IsFigureOf h before name (slice_index_or (figures_at (run before (start h)).figures name.cpu) name.n no_fig)) names
+  pub figures : All (λ name. IsFigureOf h before name
+      (slice_index_or (figures_at (run before (start h)).figures name.cpu) name.n no_fig)) names
   pub decided :
       let domain = domain_at (use_domains h (run before (start h)) used) p in
       d ≡ decision domain.shape domain.groups (by_cpu (figures_named (run before (start h)).figures names)) used.cpu used.kind x
   pub taken :
       let m = run before (start h) in
       let others : ℕ → Mask = λ source. others_of (domain_at (use_domains h m used) p) (either x (only source)) in
-      Takes d (env_of_pass h m used p names) p others (last_row e.lane before).1 (run (before ++ e ∷ until e.lane later) (start h)) (next_of e.lane later)
+      Takes d (env_of_pass h m used p names) p others (last_row e.lane before).1
+      (run (before ++ e ∷ until e.lane later) (start h)) (next_of e.lane later)
       (next_of e.lane (beyond e.lane (beyond e.lane later)))
 
 abbrev pub PassAt : Header → List Entry → Entry → List Entry → What → Type 0

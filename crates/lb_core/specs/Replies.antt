@@ -60,9 +60,11 @@ ReplyAt h before e later (Row n at command) = HasReply h before e later n at com
 ReplyAt h before e later w = Unit {0}
 
 abbrev pub RepliesAlways : Type 0
-RepliesAlways = (h : Header) (before later : List Entry) (e : Entry) → IsLegalHistory h (before ++ e ∷ later) → ReplyAt h before e later e.what
+RepliesAlways = (h : Header) (before later : List Entry) (e : Entry) → IsLegalHistory h (before ++ e ∷ later)
+    → ReplyAt h before e later e.what
 
 -- in a legal history each lane that is at work has a next entry, until the end
 abbrev pub NextAlways : Type 0
-NextAlways = (h : Header) (before later : List Entry) (lane : ℕ) → IsLegalHistory h (before ++ later) → is_rest (course_at (run before (start h)).courses lane).form ≡ false → (run before (start h)).ended ≡ false →
+NextAlways = (h : Header) (before later : List Entry) (lane : ℕ) → IsLegalHistory h (before ++ later)
+    → is_rest (course_at (run before (start h)).courses lane).form ≡ false → (run before (start h)).ended ≡ false →
     (e : Entry) × (next_of lane later ≡ Some e)

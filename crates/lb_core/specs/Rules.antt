@@ -91,7 +91,8 @@ breaks_figure s w = false
 abbrev pub breaks_decision : Sight → What → Bool
 breaks_decision s (Look p x names d) =
     not (p == s.course.position) || not (same_mask x s.course.excluded)
-    || not (same_decision d (decision (turn_domain s.header s.course).shape (turn_domain s.header s.course).groups (by_cpu s.figs) s.course.cpu (kind_of s.course) s.course.excluded))
+    || not (same_decision d (decision (turn_domain s.header s.course).shape (turn_domain s.header s.course).groups
+    (by_cpu s.figs) s.course.cpu (kind_of s.course) s.course.excluded))
 breaks_decision s (Scan names t) = not (same_number t (least (tickless_in s.figs)))
 breaks_decision s (Close p w i f) = not (p == s.course.position)
 breaks_decision s w = false

@@ -16,7 +16,8 @@ at_place m i lt = get_or-range_with_len 0 m i 0 lt ∙ (let z : 0 + i ≡ i = om
 pub within : (env : Env) (list : List TaskView) → examined env list ≤ length list
 unfolding examined
 within env list =
-    let h : examined env list ≤ length (range_with_len 0 (length list)) = prefix_len-le-length (λ i. not (ends env list i)) (range_with_len 0 (length list)) in
+    let h : examined env list ≤ length (range_with_len 0 (length list)) =
+    prefix_len-le-length (λ i. not (ends env list i)) (range_with_len 0 (length list)) in
     rw (length-range_with_len 0 (length list)) at h
 
 pub goes_on : (env : Env) (list : List TaskView) (i : ℕ) → i < examined env list → ends env list i ≡ false

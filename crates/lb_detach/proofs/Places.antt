@@ -30,7 +30,8 @@ each_passes p n = filter_passes p (range_with_len 0 n)
 pub each_below : (p : ℕ → Bool) (n : ℕ) → All (λ i. i < n) (places p n)
 each_below p n =
     All-filter p (λ i. i < n) (range_with_len 0 n)
-    (All-from_get_or (λ i. i < n) (range_with_len 0 n) 0 (λ i lt. let inside : i < n = rw (length-range_with_len 0 n) at lt in rw (get_or-range_with_len 0 n i 0 inside) (omega arith)))
+    (All-from_get_or (λ i. i < n) (range_with_len 0 n) 0
+    (λ i lt. let inside : i < n = rw (length-range_with_len 0 n) at lt in rw (get_or-range_with_len 0 n i 0 inside) (omega arith)))
 
 pub places_contain : (p : ℕ → Bool) (n i : ℕ) → i < n → p i ≡ true → Contains (places p n) i
 places_contain p zero i lt h = absurd (omega arith)
@@ -50,7 +51,8 @@ length-one true n = refl
 length-one false n = refl
 
 pub length-places_suc : (p : ℕ → Bool) (n : ℕ) → length (places p (suc n)) ≡ length (places p n) + cond (p n) 1 0
-length-places_suc p n = ap length (places_suc p n) ∙ length-append (places p n) (cond (p n) (n ∷ []) []) ∙ ap (λ (x : ℕ). length (places p n) + x) (length-one (p n) n)
+length-places_suc p n = ap length (places_suc p n) ∙ length-append (places p n) (cond (p n) (n ∷ []) [])
+    ∙ ap (λ (x : ℕ). length (places p n) + x) (length-one (p n) n)
 
 pub at_most_one : (b : Bool) → cond b 1 0 ≤ 1
 at_most_one true = omega arith
@@ -80,8 +82,11 @@ fewer p (suc n) i lt h = elim (cases_eq i n) [
   | inr apart ↦ omega (arith, length-places_suc p n, at_most_one (p n), fewer p n i (omega arith) h)
 ]
 
-one_fails_more : (p : ℕ → Bool) (n : ℕ) (b : Bool) → p n ≡ b → (length (places p n) < n → (i : ℕ) × (i < n) × (p i ≡ false)) → length (places p (suc n)) < suc n → (i : ℕ) × (i < suc n) × (p i ≡ false)
-one_fails_more p n true e before lt = let found = before (omega (arith, rw e at (length-places_suc p n))) in (found.0, omega (arith, found.1), found.2)
+one_fails_more : (p : ℕ → Bool) (n : ℕ) (b : Bool) → p n ≡ b
+    → (length (places p n) < n → (i : ℕ) × (i < n) × (p i ≡ false)) → length (places p (suc n)) < suc n
+    → (i : ℕ) × (i < suc n) × (p i ≡ false)
+one_fails_more p n true e before lt = let found = before (omega (arith, rw e at (length-places_suc p n))) in
+    (found.0, omega (arith, found.1), found.2)
 one_fails_more p n false e before lt = (n, omega arith, e)
 
 -- where fewer pass than there are, one place fails
@@ -97,11 +102,13 @@ last_fails false n h = refl
 pub each_fails : (p : ℕ → Bool) (n : ℕ) → length (places p n) ≡ 0 → (i : ℕ) → i < n → p i ≡ false
 each_fails p zero none i lt = absurd (omega arith)
 each_fails p (suc n) none i lt = elim (cases_eq i n) [
-  | inl same ↦ let P : ℕ → Type 0 = λ m. p m ≡ false in subst P (sym same) (last_fails (p n) (length (places p n)) (sym (length-places_suc p n) ∙ none))
+  | inl same ↦ let P : ℕ → Type 0 = λ m. p m ≡ false in
+      subst P (sym same) (last_fails (p n) (length (places p n)) (sym (length-places_suc p n) ∙ none))
   | inr apart ↦ each_fails p n (omega (arith, length-places_suc p n)) i (omega arith)
 ]
 
 -- and where each fails, none pass
 pub none_pass : (p : ℕ → Bool) (n : ℕ) → ((i : ℕ) → i < n → p i ≡ false) → length (places p n) ≡ 0
 none_pass p zero h = refl
-none_pass p (suc n) h = let last = h n (omega arith) in rw (length-places_suc p n, last) (omega (arith, none_pass p n (λ i lt. h i (omega arith))))
+none_pass p (suc n) h = let last = h n (omega arith) in
+    rw (length-places_suc p n, last) (omega (arith, none_pass p n (λ i lt. h i (omega arith))))

@@ -15,7 +15,8 @@ abbrev id_of : TaskView → ℕ
 id_of t = t.id
 
 -- the tasks at the first n places are those at the back of the list, turned round
-from_back : (list : List TaskView) (n : ℕ) → n ≤ length list → ids_at list (range_with_len 0 n) ≡ reverse (map id_of (drop (length list - n) list))
+from_back : (list : List TaskView) (n : ℕ) → n ≤ length list
+    → ids_at list (range_with_len 0 n) ≡ reverse (map id_of (drop (length list - n) list))
 unfolding ids_at task_at
 from_back list zero le = rw (drop_all (length list - 0) list (omega arith)) refl
 from_back list (suc n) le =
@@ -41,8 +42,10 @@ split : (env : Env) (list : List TaskView) (n : ℕ) → IsPermutation (range_wi
 unfolding taken refused
 split env list n =
     IsPermutation-trans (range_with_len 0 n) (taken env list n ++ refused env list n) (taken env list n ++ reverse (refused env list n))
-    (IsPermutation-filter_both (λ i. not (refused_at env list i)) (refused_at env list) (λ i. not_not (refused_at env list i)) (range_with_len 0 n))
-    (IsPermutation-append_right (taken env list n) (refused env list n) (reverse (refused env list n)) (IsPermutation-reverse (refused env list n)))
+    (IsPermutation-filter_both (λ i. not (refused_at env list i)) (refused_at env list)
+    (λ i. not_not (refused_at env list i)) (range_with_len 0 n))
+    (IsPermutation-append_right (taken env list n) (refused env list n) (reverse (refused env list n))
+    (IsPermutation-reverse (refused env list n)))
 
 -- so the tasks at the back are those that are taken and those that are refused
 back_is : (env : Env) (list : List TaskView) (n : ℕ) → n ≤ length list →
@@ -65,10 +68,13 @@ rearranged env list =
     let n = length list - e in
     let front = map id_of (take n list) in
     let back = map id_of (drop n list) in
-    let whole : map id_of list ≡ front ++ back = ap (map id_of) (sym (take-append-drop n list)) ∙ map-append id_of (take n list) (drop n list) in
+    let whole : map id_of list ≡ front ++ back =
+    ap (map id_of) (sym (take-append-drop n list)) ∙ map-append id_of (take n list) (drop n list) in
     let P : List ℕ → Type 0 = λ ids. IsPermutation ids (picked_ids env list ++ kept_ids env list) in
     let Q : List ℕ → Type 0 = λ ids. IsPermutation (front ++ back) ids in
     subst P (sym whole) (subst Q (append_assoc (ids_at list (taken env list e)) (ids_at list (reverse (refused env list e))) front)
-    (IsPermutation-trans (front ++ back) (back ++ front) ((ids_at list (taken env list e) ++ ids_at list (reverse (refused env list e))) ++ front)
+    (IsPermutation-trans (front ++ back) (back ++ front)
+    ((ids_at list (taken env list e) ++ ids_at list (reverse (refused env list e))) ++ front)
     (IsPermutation-append_comm front back)
-    (IsPermutation-append_left front back (ids_at list (taken env list e) ++ ids_at list (reverse (refused env list e))) (back_is env list e (within env list)))))
+    (IsPermutation-append_left front back
+    (ids_at list (taken env list e) ++ ids_at list (reverse (refused env list e))) (back_is env list e (within env list)))))

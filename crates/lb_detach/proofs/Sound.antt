@@ -49,9 +49,11 @@ taken_suc : (env : Env) (list : List TaskView) (n : ℕ) → length (taken env l
 unfolding taken
 taken_suc env list n = omega (arith, length-places_suc (λ i. not (refused_at env list i)) n, at_most_one (not (refused_at env list n)))
 
-few_long : (env : Env) (list : List TaskView) (n : ℕ) (b : Bool) → leb 32 n ≡ b → ends env list n ≡ false → length (taken env list (suc n)) ≤ 32
+few_long : (env : Env) (list : List TaskView) (n : ℕ) (b : Bool) → leb 32 n ≡ b → ends env list n ≡ false
+    → length (taken env list (suc n)) ≤ 32
 unfolding taken
-few_long env list n true long on = omega (arith, taken_suc env list n, taken_are_free env list n, none_free env list n (leb-true 32 n long) on)
+few_long env list n true long on = omega
+    (arith, taken_suc env list n, taken_are_free env list n, none_free env list n (leb-true 32 n long) on)
 few_long env list n false short on = omega (arith, at_most_all (λ i. not (refused_at env list i)) (suc n), leb-false 32 n short)
 
 few : (env : Env) (list : List TaskView) (e : ℕ) → ((i : ℕ) → i < e → ends env list i ≡ false) → length (taken env list e) ≤ 32
@@ -62,8 +64,10 @@ few env list (suc n) on = few_long env list n (leb 32 n) refl (on n (omega arith
 pub sound : (env : Env) (list : List TaskView) → IsSound env list
 unfolding taken picked_ids ids_at
 sound env list = record {
-  permitted = All-weaker (λ i. refused_at env list i ≡ false) (λ i. has (task_at list i).mask env.to ≡ true) (permitted env list) (picked_places env list) (by_rule env list (examined env list));
-  not_running = All-weaker (λ i. refused_at env list i ≡ false) (λ i. (task_at list i).running ≡ false) (not_running env list) (picked_places env list) (by_rule env list (examined env list));
+  permitted = All-weaker (λ i. refused_at env list i ≡ false) (λ i. has (task_at list i).mask env.to ≡ true)
+      (permitted env list) (picked_places env list) (by_rule env list (examined env list));
+  not_running = All-weaker (λ i. refused_at env list i ≡ false) (λ i. (task_at list i).running ≡ false)
+      (not_running env list) (picked_places env list) (by_rule env list (examined env list));
   by_rule = by_rule env list (examined env list);
   inside = each_below (λ i. not (refused_at env list i)) (examined env list);
   few = rw (length-map (picked_places env list) (λ (i : ℕ). (task_at list i).id)) (few env list (examined env list) (goes_on env list));

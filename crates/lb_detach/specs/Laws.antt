@@ -36,4 +36,5 @@ IsRearranged env list = IsPermutation (map (λ t. t.id) list) (picked_ids env li
 -- the flags say whether some, and whether all, of the examined tasks may not run at the destination
 pub record TellsPinned (env : Env) (list : List TaskView) : Type 0 where
   pub some : IsTrue (some_pinned env list) ↔ ((i : ℕ) × (i < examined env list) × (fails_mask env (task_at list i) ≡ true))
-  pub all : IsTrue (all_pinned env list) ↔ ((0 < examined env list) × ((i : ℕ) → i < examined env list → fails_mask env (task_at list i) ≡ true))
+  pub all : IsTrue (all_pinned env list) ↔
+      ((0 < examined env list) × ((i : ℕ) → i < examined env list → fails_mask env (task_at list i) ≡ true))

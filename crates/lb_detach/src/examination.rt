@@ -25,7 +25,8 @@ struct Progress {
 // The examination ends here, where so many tasks were taken of so many that were awake.
 fn is_over(env: &Env, at: &Progress, taken: usize, awake: usize) -> bool
     requires { taken ≤ awake }
-    ensures { result ≡ (at.now.left == 0 || (env.now.idle && nat_le (awake - taken) 1) || (env.now.newly && nat_lt 0 taken) || (nat_le EXAMINED_AT_MOST at.now.examined && nat_lt 0 at.now.free)) }
+    ensures { result ≡ (at.now.left == 0 || (env.now.idle && nat_le (awake - taken) 1) ||
+        (env.now.newly && nat_lt 0 taken) || (nat_le EXAMINED_AT_MOST at.now.examined && nat_lt 0 at.now.free)) }
 {
     at.left == 0
         || (env.idle && awake - taken <= 1)
@@ -46,8 +47,10 @@ fn examine(env: &Env, task: &TaskView, at: &mut Progress, picked: &mut Picked)
     requires ids_room { vec_len picked.old.ids < vec_capacity picked.old.ids }
     requires order_room { vec_len picked.old.order < vec_capacity picked.old.order }
 
-    ensures ids { picked.new.ids.items ≡ (if refuses env.now task.now at.old.left then picked.old.ids.items else picked.old.ids.items ++ task.now.id ∷ []) }
-    ensures order { picked.new.order.items ≡ (if refuses env.now task.now at.old.left then picked.old.order.items ++ task.now.id ∷ [] else picked.old.order.items) }
+    ensures ids { picked.new.ids.items ≡
+        (if refuses env.now task.now at.old.left then picked.old.ids.items else picked.old.ids.items ++ task.now.id ∷ []) }
+    ensures order { picked.new.order.items ≡
+        (if refuses env.now task.now at.old.left then picked.old.order.items ++ task.now.id ∷ [] else picked.old.order.items) }
     ensures left { at.new.left ≡ (if refuses env.now task.now at.old.left then at.old.left else at.old.left - amount_of env.now.kind task.now) }
     ensures free { at.new.free ≡ (if fails_mask env.now task.now then at.old.free else at.old.free + 1) }
     ensures examined { at.new.examined ≡ at.old.examined + 1 }

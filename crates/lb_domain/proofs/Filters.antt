@@ -17,7 +17,8 @@ filter-filter p q (x ∷ xs) =
       | inr fails ↦ rw fails (filter-filter p q xs)
     ]
 
-pub filter_congr : (p q : ℕ → Bool) (a n : ℕ) → ((k : ℕ) → a ≤ k → k < a + n → p k ≡ q k) → filter p (range_with_len a n) ≡ filter q (range_with_len a n)
+pub filter_congr : (p q : ℕ → Bool) (a n : ℕ) → ((k : ℕ) → a ≤ k → k < a + n → p k ≡ q k)
+    → filter p (range_with_len a n) ≡ filter q (range_with_len a n)
 filter_congr p q a zero same = refl
 filter_congr p q a (suc n) same =
     let rest = filter_congr p q (a + 1) n (λ k lo hi. same k (omega (arith, lo)) (omega (arith, hi))) in

@@ -67,7 +67,8 @@ leader group span cpu g there =
     (f, record { least_is = at.1; same = same; small = g.small f in_span; leading = and_from _ _ in_span first })
 
 -- the groups of two leaders have no CPU in common
-leaders_apart : (group : ℕ → Mask) (span : Mask) → IsGrouping group span → (i j : ℕ) → leads group span i ≡ true → leads group span j ≡ true → (i ≡ j → ⊥) → are_apart (group i) (group j) ≡ true
+leaders_apart : (group : ℕ → Mask) (span : Mask) → IsGrouping group span → (i j : ℕ) → leads group span i ≡ true
+    → leads group span j ≡ true → (i ≡ j → ⊥) → are_apart (group i) (group j) ≡ true
 unfolding leads
 leaders_apart group span g i j lead_i lead_j differ =
     let of_i = and_parts (has span i) (is_first (least (group i)) i) lead_i in
@@ -80,7 +81,8 @@ leaders_apart group span g i j lead_i lead_j differ =
 
 -- ---- lists of groups
 
-all_mapped : (f : ℕ → Mask) (q : Mask → Bool) (p : ℕ → Bool) (a n : ℕ) → ((k : ℕ) → a ≤ k → k < a + n → p k ≡ true → q (f k) ≡ true) → list_all q (map f (filter p (range_with_len a n))) ≡ true
+all_mapped : (f : ℕ → Mask) (q : Mask → Bool) (p : ℕ → Bool) (a n : ℕ)
+    → ((k : ℕ) → a ≤ k → k < a + n → p k ≡ true → q (f k) ≡ true) → list_all q (map f (filter p (range_with_len a n))) ≡ true
 all_mapped f q p a zero each = refl
 all_mapped f q p a (suc n) each =
     let rest = all_mapped f q p (a + 1) n (λ k lo hi. each k (omega (arith, lo)) (omega (arith, hi))) in
@@ -89,32 +91,40 @@ all_mapped f q p a (suc n) each =
       | inr fails ↦ rw fails rest
     ]
 
-disjoint_mapped : (f : ℕ → Mask) (p : ℕ → Bool) (a n : ℕ) → ((i j : ℕ) → i < j → p i ≡ true → p j ≡ true → are_apart (f i) (f j) ≡ true) → are_disjoint (map f (filter p (range_with_len a n))) ≡ true
+disjoint_mapped : (f : ℕ → Mask) (p : ℕ → Bool) (a n : ℕ)
+    → ((i j : ℕ) → i < j → p i ≡ true → p j ≡ true → are_apart (f i) (f j) ≡ true)
+    → are_disjoint (map f (filter p (range_with_len a n))) ≡ true
 disjoint_mapped f p a zero apart = refl
 disjoint_mapped f p a (suc n) apart =
     let rest = disjoint_mapped f p (a + 1) n apart in
     elim (cases_Bool (p a)) [
-      | inl passes ↦ rw passes (and_from _ _ (all_mapped f (are_apart (f a)) p (a + 1) n (λ k lo hi there. apart a k (omega (arith, lo)) passes there)) rest)
+      | inl passes ↦ rw passes (and_from _ _
+          (all_mapped f (are_apart (f a)) p (a + 1) n (λ k lo hi there. apart a k (omega (arith, lo)) passes there)) rest)
       | inr fails ↦ rw fails rest
     ]
 
-disjoint_append : (xs ys : List Mask) → are_disjoint xs ≡ true → are_disjoint ys ≡ true → list_all (λ x. list_all (are_apart x) ys) xs ≡ true → are_disjoint (xs ++ ys) ≡ true
+disjoint_append : (xs ys : List Mask) → are_disjoint xs ≡ true → are_disjoint ys ≡ true
+    → list_all (λ x. list_all (are_apart x) ys) xs ≡ true → are_disjoint (xs ++ ys) ≡ true
 disjoint_append [] ys left right across = right
 disjoint_append (x ∷ xs) ys left right across =
     let of_left = and_parts (list_all (are_apart x) xs) (are_disjoint xs) left in
     let of_across = and_parts (list_all (are_apart x) ys) (list_all (λ x. list_all (are_apart x) ys) xs) across in
-    and_from _ _ (list_all-append (are_apart x) xs ys ∙ and_from _ _ of_left.0 of_across.0) (disjoint_append xs ys of_left.1 right of_across.1)
+    and_from _ _ (list_all-append (are_apart x) xs ys ∙ and_from _ _ of_left.0 of_across.0)
+    (disjoint_append xs ys of_left.1 right of_across.1)
 
 -- the first that passes comes first
-head_mapped : (f : ℕ → Mask) (p : ℕ → Bool) (a n c : ℕ) (rest : List Mask) → a ≤ c → c < a + n → p c ≡ true → ((k : ℕ) → k < c → p k ≡ false) → slice_index_or (map f (filter p (range_with_len a n)) ++ rest) 0 no_cpus ≡ f c
+head_mapped : (f : ℕ → Mask) (p : ℕ → Bool) (a n c : ℕ) (rest : List Mask) → a ≤ c → c < a + n → p c ≡ true
+    → ((k : ℕ) → k < c → p k ≡ false) → slice_index_or (map f (filter p (range_with_len a n)) ++ rest) 0 no_cpus ≡ f c
 head_mapped f p a zero c rest lo hi passes before = absurd (omega (arith, lo, hi))
 head_mapped f p a (suc n) c rest lo hi passes before =
     elim (cases_eq a c) [
       | inl same ↦ rw (ap p same ∙ passes) (ap f same)
-      | inr other ↦ rw (before a (omega (arith, lo, other))) (head_mapped f p (a + 1) n c rest (omega (arith, lo, other)) (omega (arith, hi)) passes before)
+      | inr other ↦ rw (before a (omega (arith, lo, other)))
+          (head_mapped f p (a + 1) n c rest (omega (arith, lo, other)) (omega (arith, hi)) passes before)
     ]
 
-any_mapped : (f : ℕ → Mask) (q : Mask → Bool) (p : ℕ → Bool) (a n c : ℕ) → a ≤ c → c < a + n → p c ≡ true → q (f c) ≡ true → list_any q (map f (filter p (range_with_len a n))) ≡ true
+any_mapped : (f : ℕ → Mask) (q : Mask → Bool) (p : ℕ → Bool) (a n c : ℕ) → a ≤ c → c < a + n → p c ≡ true
+    → q (f c) ≡ true → list_any q (map f (filter p (range_with_len a n))) ≡ true
 any_mapped f q p a zero c lo hi passes there = absurd (omega (arith, lo, hi))
 any_mapped f q p a (suc n) c lo hi passes there =
     elim (cases_eq a c) [
@@ -131,7 +141,8 @@ any_mapped f q p a (suc n) c lo hi passes there =
     or_true true = refl
     or_true false = refl
 
-some_mapped : (f : ℕ → Mask) (q : Mask → Bool) (p : ℕ → Bool) (a n : ℕ) → list_any q (map f (filter p (range_with_len a n))) ≡ true → (c : ℕ) × (p c ≡ true) × (q (f c) ≡ true)
+some_mapped : (f : ℕ → Mask) (q : Mask → Bool) (p : ℕ → Bool) (a n : ℕ)
+    → list_any q (map f (filter p (range_with_len a n))) ≡ true → (c : ℕ) × (p c ≡ true) × (q (f c) ≡ true)
 some_mapped f q p a zero any = absurd (cc)
 some_mapped f q p a (suc n) any =
     elim (cases_Bool (p a)) [
@@ -148,14 +159,16 @@ some_mapped f q p a (suc n) any =
 leading : (ℕ → Mask) → Mask → (ℕ → Bool) → List Mask
 leading group span test = map group (filter (λ k. leads group span k && test k) (range_with_len 0 64))
 
-ring_parts : (group : ℕ → Mask) (span : Mask) (cpu f : ℕ) → least (group cpu) ≡ Some f → groups_of group span cpu ≡ leading group span (leb f) ++ leading group span (λ k. ltb k f)
+ring_parts : (group : ℕ → Mask) (span : Mask) (cpu f : ℕ) → least (group cpu) ≡ Some f
+    → groups_of group span cpu ≡ leading group span (leb f) ++ leading group span (λ k. ltb k f)
 unfolding firsts members members_below leading leads
 ring_parts group span cpu f own =
     let lead : ℕ → Bool = λ k. is_first (least (group k)) k in
     let all = range_with_len 0 64 in
     let kept : (test : ℕ → Bool) → filter test (filter lead (filter (has span) all)) ≡ filter (λ k. (has span k && lead k) && test k) all =
     λ test. ap (filter test) (filter-filter (has span) lead all) ∙ filter-filter (λ k. has span k && lead k) test all in
-    ap (λ (o : Option ℕ). map group (filter (leb (unwrap_or o 0)) (filter lead (filter (has span) all)) ++ filter (λ k. ltb k (unwrap_or o 0)) (filter lead (filter (has span) all)))) own
+    ap (λ (o : Option ℕ). map group (filter (leb (unwrap_or o 0)) (filter lead (filter (has span) all)) ++ filter
+    (λ k. ltb k (unwrap_or o 0)) (filter lead (filter (has span) all)))) own
     ∙ map-append group (filter (leb f) (filter lead (filter (has span) all))) (filter (λ k. ltb k f) (filter lead (filter (has span) all)))
     ∙ ap (λ (ks : List ℕ). map group ks ++ map group (filter (λ k. ltb k f) (filter lead (filter (has span) all)))) (kept (leb f))
     ∙ ap (λ (ks : List ℕ). map group (filter (λ k. (has span k && lead k) && leb f k) all) ++ map group ks) (kept (λ k. ltb k f))
@@ -175,38 +188,55 @@ leads_within : (group : ℕ → Mask) (span : Mask) (k : ℕ) → leads group sp
 unfolding leads
 leads_within group span k lead = (and_parts (has span k) (is_first (least (group k)) k) lead).0
 
-parted : (group : ℕ → Mask) (span : Mask) (cpu f : ℕ) → IsGrouping group span → has span cpu ≡ true → IsLeader group span cpu f → ArePart group span cpu (leading group span (leb f) ++ leading group span (λ k. ltb k f))
+parted : (group : ℕ → Mask) (span : Mask) (cpu f : ℕ) → IsGrouping group span → has span cpu ≡ true
+    → IsLeader group span cpu f → ArePart group span cpu (leading group span (leb f) ++ leading group span (λ k. ltb k f))
 unfolding leading
 parted group span cpu f g there at =
     let from : ℕ → Bool = λ k. leads group span k && leb f k in
     let below : ℕ → Bool = λ k. leads group span k && ltb k f in
     let later = map group (filter from (range_with_len 0 64)) in
     let earlier = map group (filter below (range_with_len 0 64)) in
-    let lead : (test : ℕ → Bool) (k : ℕ) → (leads group span k && test k) ≡ true → leads group span k ≡ true = λ test k e. (and_parts (leads group span k) (test k) e).0 in
+    let lead : (test : ℕ → Bool) (k : ℕ) → (leads group span k && test k) ≡ true → leads group span k ≡ true =
+    λ test k e. (and_parts (leads group span k) (test k) e).0 in
     record {
       own = ap (λ (m : Mask). has m cpu)
-          (head_mapped group from 0 64 f earlier (omega arith) (omega (arith, at.small)) (and_from _ _ at.leading (le-leb f f (omega arith)))
+          (head_mapped group from 0 64 f earlier (omega arith) (omega (arith, at.small))
+          (and_from _ _ at.leading (le-leb f f (omega arith)))
           (λ k lt. rw (lt-leb f k lt) (and_false (leads group span k)))
           ∙ at.same) ∙ g.own cpu there;
       apart = disjoint_append later earlier
-          (disjoint_mapped group from 0 64 (λ i j lt of_i of_j. leaders_apart group span g i j (lead (leb f) i of_i) (lead (leb f) j of_j) (λ e. absurd (omega (arith, lt, e)))))
-          (disjoint_mapped group below 0 64 (λ i j lt of_i of_j. leaders_apart group span g i j (lead (λ k. ltb k f) i of_i) (lead (λ k. ltb k f) j of_j) (λ e. absurd (omega (arith, lt, e)))))
+          (disjoint_mapped group from 0 64
+          (λ i j lt of_i of_j. leaders_apart group span g i j (lead (leb f) i of_i) (lead (leb f) j of_j)
+          (λ e. absurd (omega (arith, lt, e)))))
+          (disjoint_mapped group below 0 64
+          (λ i j lt of_i of_j. leaders_apart group span g i j (lead (λ k. ltb k f) i of_i)
+          (lead (λ k. ltb k f) j of_j) (λ e. absurd (omega (arith, lt, e)))))
           (all_mapped group (λ m. list_all (are_apart m) earlier) from 0 64 (λ i lo hi of_i.
           all_mapped group (are_apart (group i)) below 0 64 (λ j lo_j hi_j of_j.
           leaders_apart group span g i j (lead (leb f) i of_i) (lead (λ k. ltb k f) j of_j)
-          (λ e. absurd (omega (arith, e, leb-true f i (and_parts (leads group span i) (leb f i) of_i).1, ltb-true j f (and_parts (leads group span j) (ltb j f) of_j).1))))));
+          (λ e. absurd (omega (
+            arith,
+            e,
+            leb-true f i (and_parts (leads group span i) (leb f i) of_i).1,
+            ltb-true j f
+                (and_parts (leads group span j) (ltb j f) of_j).1,
+          ))))));
       whole = λ k. same_answers _ _
           (λ in_span.
           let first = leader group span k g in_span in
           let in_group : has (group first.0) k ≡ true = ap (λ (m : Mask). has m k) first.1.same ∙ g.own k in_span in
           list_any-append (λ m. has m k) later earlier
           ∙ elim (cases_lt first.0 f) [
-            | inl lt ↦ or_right _ _ (any_mapped group (λ m. has m k) below 0 64 first.0 (omega arith) (omega (arith, first.1.small)) (and_from _ _ first.1.leading (lt-ltb first.0 f lt)) in_group)
-            | inr ge ↦ or_left _ _ (any_mapped group (λ m. has m k) from 0 64 first.0 (omega arith) (omega (arith, first.1.small)) (and_from _ _ first.1.leading (le-leb f first.0 ge)) in_group)
+            | inl lt ↦ or_right _ _ (any_mapped group (λ m. has m k) below 0 64 first.0 (omega arith)
+                (omega (arith, first.1.small)) (and_from _ _ first.1.leading (lt-ltb first.0 f lt)) in_group)
+            | inr ge ↦ or_left _ _ (any_mapped group (λ m. has m k) from 0 64 first.0 (omega arith)
+                (omega (arith, first.1.small)) (and_from _ _ first.1.leading (le-leb f first.0 ge)) in_group)
           ])
           (λ any. elim (or_cases _ _ (sym (list_any-append (λ m. has m k) later earlier) ∙ any)) [
-            | inl left ↦ let in_one = some_mapped group (λ m. has m k) from 0 64 left in member k in_one.0 (lead (leb f) in_one.0 in_one.1) in_one.2
-            | inr right ↦ let in_one = some_mapped group (λ m. has m k) below 0 64 right in member k in_one.0 (lead (λ k. ltb k f) in_one.0 in_one.1) in_one.2
+            | inl left ↦ let in_one = some_mapped group (λ m. has m k) from 0 64 left in
+                member k in_one.0 (lead (leb f) in_one.0 in_one.1) in_one.2
+            | inr right ↦ let in_one = some_mapped group (λ m. has m k) below 0 64 right in
+                member k in_one.0 (lead (λ k. ltb k f) in_one.0 in_one.1) in_one.2
           ]);
     }
   where
@@ -225,7 +255,8 @@ parted group span cpu f g there at =
     member : (k c : ℕ) → leads group span c ≡ true → has (group c) k ≡ true → has span k ≡ true
     member k c leads_here in_group = g.inside c k (leads_within group span c leads_here) in_group
 
-pub groups_part : (group : ℕ → Mask) (span : Mask) (cpu : ℕ) → IsGrouping group span → has span cpu ≡ true → ArePart group span cpu (groups_of group span cpu)
+pub groups_part : (group : ℕ → Mask) (span : Mask) (cpu : ℕ) → IsGrouping group span → has span cpu ≡ true
+    → ArePart group span cpu (groups_of group span cpu)
 groups_part group span cpu g there =
     let at = leader group span cpu g there in
     subst (ArePart group span cpu) (sym (ring_parts group span cpu at.0 at.1.least_is)) (parted group span cpu at.0 g there at.1)

@@ -49,21 +49,25 @@ pub part_has : (parts : List Mask) (cpu : ℕ) (part : Mask) → part_of parts c
 part_has [] cpu part is = absurd (cc)
 part_has (m ∷ ms) cpu part is =
     elim (cases_Bool (has m cpu)) [
-      | inl there ↦ let same : Some m ≡ Some part = sym (rw there refl) ∙ is in let e : m ≡ part = cc in ap (λ (p : Mask). has p cpu) (sym e) ∙ there
+      | inl there ↦ let same : Some m ≡ Some part = sym (rw there refl) ∙ is in let e : m ≡ part = cc in
+          ap (λ (p : Mask). has p cpu) (sym e) ∙ there
       | inr absent ↦ part_has ms cpu part (sym (rw absent refl) ∙ is)
     ]
 
 -- a part among masks that are apart from another is apart from it
-part_apart : (m : Mask) (ms : List Mask) (cpu : ℕ) (part : Mask) → list_all (are_apart m) ms ≡ true → part_of ms cpu ≡ Some part → are_apart m part ≡ true
+part_apart : (m : Mask) (ms : List Mask) (cpu : ℕ) (part : Mask) → list_all (are_apart m) ms ≡ true
+    → part_of ms cpu ≡ Some part → are_apart m part ≡ true
 part_apart m [] cpu part apart is = absurd (cc)
 part_apart m (n ∷ ns) cpu part apart is =
     elim (cases_Bool (has n cpu)) [
-      | inl there ↦ let same : Some n ≡ Some part = sym (rw there refl) ∙ is in let e : n ≡ part = cc in ap (are_apart m) (sym e) ∙ (and_parts _ _ apart).0
+      | inl there ↦ let same : Some n ≡ Some part = sym (rw there refl) ∙ is in let e : n ≡ part = cc in
+          ap (are_apart m) (sym e) ∙ (and_parts _ _ apart).0
       | inr absent ↦ part_apart m ns cpu part (and_parts _ _ apart).1 (sym (rw absent refl) ∙ is)
     ]
 
 -- the CPUs of a part have that part
-pub same_part : (parts : List Mask) (cpu k : ℕ) (part : Mask) → are_disjoint parts ≡ true → part_of parts cpu ≡ Some part → k < 64 → has part k ≡ true → part_of parts k ≡ Some part
+pub same_part : (parts : List Mask) (cpu k : ℕ) (part : Mask) → are_disjoint parts ≡ true
+    → part_of parts cpu ≡ Some part → k < 64 → has part k ≡ true → part_of parts k ≡ Some part
 same_part [] cpu k part apart is small there = absurd (cc)
 same_part (m ∷ ms) cpu k part apart is small there =
     elim (cases_Bool (has m cpu)) [
@@ -81,12 +85,16 @@ same_part (m ∷ ms) cpu k part apart is small there =
     ]
 
 -- the leaders of all parts are those of each
-pub lead_within : (cpus : List CpuRow) (table : List (List ℕ)) (parts : List Mask) (own : List (Option Mask)) (leaders : List Mask) (cpu : ℕ) (part : Mask) → length cpus ≤ 64 → are_disjoint parts ≡ true → own ≡ own_parts (length cpus) parts → AreLeaders cpus table own leaders → part_of parts cpu ≡ Some part → LeadWithin cpus table part leaders
+pub lead_within : (cpus : List CpuRow) (table : List (List ℕ)) (parts : List Mask) (own : List (Option Mask))
+    (leaders : List Mask) (cpu : ℕ) (part : Mask) → length cpus ≤ 64 → are_disjoint parts ≡ true
+    → own ≡ own_parts (length cpus) parts → AreLeaders cpus table own leaders → part_of parts cpu ≡ Some part
+    → LeadWithin cpus table part leaders
 lead_within cpus table parts own leaders cpu part few apart all lead is = record {
   steps = lead.steps;
   lead = λ step within k in_range there.
       let k_part : slice_index_or own k None ≡ Some part =
-      ap (λ (o : List (Option Mask)). slice_index_or o k None) all ∙ own_part_at (length cpus) parts k in_range ∙ same_part parts cpu k part apart is (omega (arith, in_range, few)) there in
+      ap (λ (o : List (Option Mask)). slice_index_or o k None) all ∙ own_part_at (length cpus) parts k in_range
+      ∙ same_part parts cpu k part apart is (omega (arith, in_range, few)) there in
       let in_own : k < length own = omega (arith, ap length all, length-own_parts (length cpus) parts, in_range) in
       lead.lead step within k ∙ rw (lt-ltb k (length own) in_own, k_part) refl;
 }
@@ -100,14 +108,23 @@ own_parts_live n parts = map_same (part_of (filter (λ m. not (eqb m.bits 0)) pa
     map_same f g same a (suc n) = rw (same a, map_same f g same (a + 1) n) refl
 
 -- the domains of each CPU within its own part are the topology
-pub all_domains : (cpus : List CpuRow) (table : List (List ℕ)) (parts : List Mask) (own : List (Option Mask)) → own ≡ own_parts (length cpus) parts → map (λ cpu. domains_in cpus table (slice_index_or own cpu None) cpu) (range_with_len 0 (length own)) ≡ topology_of cpus table parts
+pub all_domains : (cpus : List CpuRow) (table : List (List ℕ)) (parts : List Mask) (own : List (Option Mask))
+    → own ≡ own_parts (length cpus) parts → map (λ cpu. domains_in cpus table (slice_index_or own cpu None) cpu)
+    (range_with_len 0 (length own)) ≡ topology_of cpus table parts
 unfolding topology_of domains_of
 all_domains cpus table parts own all =
     let size : length own ≡ length cpus = ap length all ∙ length-own_parts (length cpus) parts in
     ap (λ (n : ℕ). map (λ cpu. domains_in cpus table (slice_index_or own cpu None) cpu) (range_with_len 0 n)) size
-    ∙ map_within (λ cpu. domains_in cpus table (slice_index_or own cpu None) cpu) (λ cpu. domains_in cpus table (part_of parts cpu) cpu) 0 (length cpus)
-    (λ k lo hi. ap (λ (p : Option Mask). domains_in cpus table p k) (ap (λ (o : List (Option Mask)). slice_index_or o k None) all ∙ own_part_at (length cpus) parts k (omega (arith, hi))))
+    ∙ map_within (λ cpu. domains_in cpus table (slice_index_or own cpu None) cpu)
+    (λ cpu. domains_in cpus table (part_of parts cpu) cpu) 0 (length cpus)
+    (λ k lo hi. ap (λ (p : Option Mask). domains_in cpus table p k)
+    (ap (λ (o : List (Option Mask)). slice_index_or o k None) all ∙ own_part_at (length cpus) parts k (omega (arith, hi))))
   where
-    map_within : {X : Type 0} (f g : ℕ → X) (a n : ℕ) → ((k : ℕ) → a ≤ k → k < a + n → f k ≡ g k) → map f (range_with_len a n) ≡ map g (range_with_len a n)
+    map_within : {X : Type 0} (f g : ℕ → X) (a n : ℕ) → ((k : ℕ) → a ≤ k → k < a + n → f k ≡ g k)
+        → map f (range_with_len a n) ≡ map g (range_with_len a n)
     map_within f g a zero same = refl
-    map_within f g a (suc n) same = rw (same a (omega arith) (omega arith), map_within f g (a + 1) n (λ k lo hi. same k (omega (arith, lo)) (omega (arith, hi)))) refl
+    map_within f g a (suc n) same = rw (
+      same a (omega arith) (omega arith),
+      map_within f g (a + 1) n
+          (λ k lo hi. same k (omega (arith, lo)) (omega (arith, hi))),
+    ) refl

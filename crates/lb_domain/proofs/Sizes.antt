@@ -21,11 +21,16 @@ use Rattle.lb_domain.specs.Domains.{part_of, cut_span, is_first, firsts, ring_of
 use Rattle.lb_domain.specs.Topologies.{IsSmall}
 use Rattle.lb_domain.proofs.Filters.{not_before}
 
-pub few_domains : (span_at : LevelName → ℕ → Mask) (cpu : ℕ) (group : ℕ → Mask) (below : Option Shape) (levels : List LevelName) → length (domains_from span_at cpu group below levels) ≤ length levels
+pub few_domains : (span_at : LevelName → ℕ → Mask) (cpu : ℕ) (group : ℕ → Mask) (below : Option Shape)
+    (levels : List LevelName) → length (domains_from span_at cpu group below levels) ≤ length levels
 few_domains span_at cpu group below [] = omega arith
 few_domains span_at cpu group below (level ∷ levels) =
     elim (cases_Bool (is_kept below (span_at level cpu))) [
-      | inl kept ↦ rw kept (omega (arith, few_domains span_at cpu (span_at level) (Some (shape_above below level (span_at level cpu))) levels))
+      | inl kept ↦ rw kept (omega (
+        arith,
+        few_domains span_at cpu (span_at level)
+            (Some (shape_above below level (span_at level cpu))) levels,
+      ))
       | inr dropped ↦ rw dropped (omega (arith, few_domains span_at cpu (span_at level) below levels))
     ]
 
@@ -47,52 +52,87 @@ length-ring_of group ks cpu =
 few_firsts : (group : ℕ → Mask) (span : Mask) → length (firsts group span) ≤ 64
 unfolding firsts
 few_firsts group span =
-    omega (arith, length-filter (λ k. is_first (least (group k)) k) (members span), count_by-le-length (λ k. is_first (least (group k)) k) (members span), length-members_le span)
+    omega (
+      arith,
+      length-filter (λ k. is_first (least (group k)) k) (members span),
+      count_by-le-length
+          (λ k. is_first (least (group k)) k) (members span),
+      length-members_le span,
+    )
 
-few_groups : (span_at : LevelName → ℕ → Mask) (cpu : ℕ) (group : ℕ → Mask) (below : Option Shape) (levels : List LevelName) (position : ℕ) → position < length (domains_from span_at cpu group below levels) → length (domain_at (domains_from span_at cpu group below levels) position).groups ≤ 64
+few_groups : (span_at : LevelName → ℕ → Mask) (cpu : ℕ) (group : ℕ → Mask) (below : Option Shape)
+    (levels : List LevelName) (position : ℕ) → position < length (domains_from span_at cpu group below levels)
+    → length (domain_at (domains_from span_at cpu group below levels) position).groups ≤ 64
 few_groups span_at cpu group below [] position lt = absurd (omega (arith, lt))
 few_groups span_at cpu group below (level ∷ levels) position lt =
     elim (cases_Bool (is_kept below (span_at level cpu))) [
-      | inl kept ↦ rw kept (at_cons (few_groups span_at cpu (span_at level) (Some (shape_above below level (span_at level cpu))) levels) position (rw kept at lt))
+      | inl kept ↦ rw kept (at_cons (few_groups span_at cpu (span_at level)
+          (Some (shape_above below level (span_at level cpu))) levels) position (rw kept at lt))
       | inr dropped ↦ rw dropped (few_groups span_at cpu (span_at level) below levels position (rw dropped at lt))
     ]
   where
-    at_cons : ((p : ℕ) → p < length (domains_from span_at cpu (span_at level) (Some (shape_above below level (span_at level cpu))) levels) → length (domain_at (domains_from span_at cpu (span_at level) (Some (shape_above below level (span_at level cpu))) levels) p).groups ≤ 64)
+    at_cons : ((p : ℕ) → p < length (domains_from span_at cpu (span_at level)
+        (Some (shape_above below level (span_at level cpu))) levels)
+        → length (domain_at (domains_from span_at cpu (span_at level)
+        (Some (shape_above below level (span_at level cpu))) levels) p).groups ≤ 64)
         → (p : ℕ) → p < suc (length (domains_from span_at cpu (span_at level) (Some (shape_above below level (span_at level cpu))) levels))
-        → length (slice_index_or (record { shape = shape_above below level (span_at level cpu); groups = groups_of group (span_at level cpu) cpu } ∷ domains_from span_at cpu (span_at level) (Some (shape_above below level (span_at level cpu))) levels) p no_domain).groups ≤ 64
-    at_cons rest zero within = omega (arith, length-ring_of group (firsts group (span_at level cpu)) cpu, few_firsts group (span_at level cpu))
+        → length (slice_index_or (record {
+          shape = shape_above below level (span_at level cpu);
+          groups = groups_of group (span_at level cpu) cpu;
+        } ∷ domains_from span_at cpu (span_at level)
+        (Some (shape_above below level (span_at level cpu))) levels) p no_domain).groups ≤ 64
+    at_cons rest zero within = omega (
+      arith,
+      length-ring_of group
+          (firsts group (span_at level cpu)) cpu,
+      few_firsts group (span_at level cpu),
+    )
     at_cons rest (suc p) within = rest p (omega (arith, within))
 
-pub topology_at : (cpus : List CpuRow) (table : List (List ℕ)) (parts : List Mask) (cpu : ℕ) → cpu < length cpus → domains_at (topology_of cpus table parts) cpu ≡ domains_of cpus table parts cpu
+pub topology_at : (cpus : List CpuRow) (table : List (List ℕ)) (parts : List Mask) (cpu : ℕ) → cpu < length cpus
+    → domains_at (topology_of cpus table parts) cpu ≡ domains_of cpus table parts cpu
 unfolding topology_of
 topology_at cpus table parts cpu lt =
     let none : List Domain = [] in
     get_or-map-range_with_len (domains_of cpus table parts) 0 (length cpus) cpu cpu none lt (omega arith)
 
-pub length-topology_of : (cpus : List CpuRow) (table : List (List ℕ)) (parts : List Mask) → length (topology_of cpus table parts) ≡ length cpus
+pub length-topology_of : (cpus : List CpuRow) (table : List (List ℕ)) (parts : List Mask)
+    → length (topology_of cpus table parts) ≡ length cpus
 unfolding topology_of
-length-topology_of cpus table parts = length-map (range_with_len 0 (length cpus)) (domains_of cpus table parts) ∙ length-range_with_len 0 (length cpus)
+length-topology_of cpus table parts = length-map (range_with_len 0 (length cpus)) (domains_of cpus table parts)
+    ∙ length-range_with_len 0 (length cpus)
 
-in_few : (cpus : List CpuRow) (table : List (List ℕ)) (part : Option Mask) (cpu : ℕ) → length (domains_in cpus table part cpu) ≤ length (levels_of table)
+in_few : (cpus : List CpuRow) (table : List (List ℕ)) (part : Option Mask) (cpu : ℕ)
+    → length (domains_in cpus table part cpu) ≤ length (levels_of table)
 in_few cpus table None cpu = omega arith
 in_few cpus table (Some part) cpu = few_domains (cut_span cpus table part) cpu only None (levels_of table)
 
-in_groups : (cpus : List CpuRow) (table : List (List ℕ)) (part : Option Mask) (cpu position : ℕ) → position < length (domains_in cpus table part cpu) → length (domain_at (domains_in cpus table part cpu) position).groups ≤ 64
+in_groups : (cpus : List CpuRow) (table : List (List ℕ)) (part : Option Mask) (cpu position : ℕ)
+    → position < length (domains_in cpus table part cpu) → length (domain_at (domains_in cpus table part cpu) position).groups ≤ 64
 in_groups cpus table None cpu position lt = absurd (omega (arith, lt))
 in_groups cpus table (Some part) cpu position lt = few_groups (cut_span cpus table part) cpu only None (levels_of table) position lt
 
-pub domains_few : (cpus : List CpuRow) (table : List (List ℕ)) (parts : List Mask) (cpu : ℕ) → length (domains_of cpus table parts cpu) ≤ length (levels_of table)
+pub domains_few : (cpus : List CpuRow) (table : List (List ℕ)) (parts : List Mask) (cpu : ℕ)
+    → length (domains_of cpus table parts cpu) ≤ length (levels_of table)
 unfolding domains_of
 domains_few cpus table parts cpu = in_few cpus table (part_of parts cpu) cpu
 
-pub groups_few : (cpus : List CpuRow) (table : List (List ℕ)) (parts : List Mask) (cpu position : ℕ) → position < length (domains_of cpus table parts cpu) → length (domain_at (domains_of cpus table parts cpu) position).groups ≤ 64
+pub groups_few : (cpus : List CpuRow) (table : List (List ℕ)) (parts : List Mask) (cpu position : ℕ)
+    → position < length (domains_of cpus table parts cpu) → length (domain_at (domains_of cpus table parts cpu) position).groups ≤ 64
 unfolding domains_of
 groups_few cpus table parts cpu position lt = in_groups cpus table (part_of parts cpu) cpu position lt
 
-pub small : (cpus : List CpuRow) (table : List (List ℕ)) (parts : List Mask) → length (levels_of table) ≤ MAX_LEVELS → IsSmall (topology_of cpus table parts)
+pub small : (cpus : List CpuRow) (table : List (List ℕ)) (parts : List Mask) → length (levels_of table) ≤ MAX_LEVELS
+    → IsSmall (topology_of cpus table parts)
 small cpus table parts few = record {
-  domains = λ cpu lt. let at = topology_at cpus table parts cpu (omega (arith, lt, length-topology_of cpus table parts)) in omega (arith, ap length at, domains_few cpus table parts cpu, few);
+  domains = λ cpu lt. let at = topology_at cpus table parts cpu
+      (omega (arith, lt, length-topology_of cpus table parts)) in omega (arith, ap length at, domains_few cpus table parts cpu, few);
   groups = λ cpu position lt within.
       let at = topology_at cpus table parts cpu (omega (arith, lt, length-topology_of cpus table parts)) in
-      omega (arith, ap (λ (ds : List Domain). length (domain_at ds position).groups) at, groups_few cpus table parts cpu position (omega (arith, ap length at, within)));
+      omega (
+        arith,
+        ap (λ (ds : List Domain). length (domain_at ds position).groups) at,
+        groups_few cpus table parts
+            cpu position (omega (arith, ap length at, within)),
+      );
 }

@@ -29,9 +29,11 @@ own_parts n parts = map (part_of parts) (range_with_len 0 n)
 pub record AreLeaders (cpus : List CpuRow) (table : List (List ℕ)) (own : List (Option Mask)) (leaders : List Mask) : Type 0 where
   pub steps : length leaders ≡ length (levels_of table)
   pub few : length leaders ≤ MAX_LEVELS
-  pub lead : (step : ℕ) → step < length leaders → (k : ℕ) → has (slice_index_or leaders step no_cpus) k ≡ (nat_lt k (length own) && leads cpus table (slice_index_or own k None) step k)
+  pub lead : (step : ℕ) → step < length leaders → (k : ℕ)
+      → has (slice_index_or leaders step no_cpus) k ≡ (nat_lt k (length own) && leads cpus table (slice_index_or own k None) step k)
 
 -- for each of these steps, the CPUs of the part that lead within it
 pub record LeadWithin (cpus : List CpuRow) (table : List (List ℕ)) (part : Mask) (leaders : List Mask) : Type 0 where
   pub steps : length leaders ≡ length (levels_of table)
-  pub lead : (step : ℕ) → step < length leaders → (k : ℕ) → k < length cpus → has part k ≡ true → has (slice_index_or leaders step no_cpus) k ≡ is_first (least (step_span cpus table part step k)) k
+  pub lead : (step : ℕ) → step < length leaders → (k : ℕ) → k < length cpus → has part k ≡ true
+      → has (slice_index_or leaders step no_cpus) k ≡ is_first (least (step_span cpus table part step k)) k

@@ -62,7 +62,9 @@ fn domain_at(
     requires few_levels { length (levels_of machine.now.distances) ≤ MAX_LEVELS }
     requires leaders { LeadWithin machine.now.cpus machine.now.distances part leaders.now }
     requires position { position_above below ≤ level }
-    ensures { IfOk result (λ domain. domain ≡ kept_domain (step_span machine.now.cpus machine.now.distances part level) cpu below (level_at machine.now.distances level) (cut_span machine.now.cpus machine.now.distances part (level_at machine.now.distances level) cpu)) }
+    ensures { IfOk result (λ domain. domain ≡ kept_domain
+        (step_span machine.now.cpus machine.now.distances part level) cpu below (level_at machine.now.distances level)
+        (cut_span machine.now.cpus machine.now.distances part (level_at machine.now.distances level) cpu)) }
 {
     let span = step_span(machine, part, level + 1, cpu);
     if !is_kept(below, span) {
@@ -166,8 +168,10 @@ fn domains_of_all(
     leaders: &[Mask],
 ) -> Result<Items<Items<Domain>>, NoMemory>
     requires all { length own.now ≡ length machine.now.cpus }
-    requires leaders { (cpu : ℕ) → (part : Mask) → cpu < length own.now → slice_index_or own.now cpu None ≡ Some part → LeadWithin machine.now.cpus machine.now.distances part leaders.now }
-    ensures { IfOk result (λ all. all ≡ map (λ cpu. domains_in machine.now.cpus machine.now.distances (slice_index_or own.now cpu None) cpu) (range_with_len 0 (length own.now))) }
+    requires leaders { (cpu : ℕ) → (part : Mask) → cpu < length own.now → slice_index_or own.now cpu None ≡ Some part
+        → LeadWithin machine.now.cpus machine.now.distances part leaders.now }
+    ensures { IfOk result (λ all. all ≡ map
+        (λ cpu. domains_in machine.now.cpus machine.now.distances (slice_index_or own.now cpu None) cpu) (range_with_len 0 (length own.now))) }
 {
     let mut all = Items::new(alloc);
     for cpu in 0..machine.cpus() {

@@ -70,7 +70,8 @@ fn joined(mask: Mask, cpu: u32, joins: bool) -> Mask
 fn leaders(machine: &Machine, own: &[Option<Mask>], step: u32) -> Mask
     requires step { step ≤ length (levels_of machine.now.distances) }
     requires all { length own.now ≡ length machine.now.cpus }
-    ensures { (k : ℕ) → has result k ≡ (nat_lt k (length own.now) && leads machine.now.cpus machine.now.distances (slice_index_or own.now k None) step k) }
+    ensures { (k : ℕ) → has result k ≡ (nat_lt k (length own.now) && leads machine.now.cpus machine.now.distances
+        (slice_index_or own.now k None) step k) }
 {
     let mut leaders = Mask::none();
     for cpu in 0..machine.cpus() {

@@ -77,7 +77,8 @@ impl Topology {
         ensures value { IfOk result (λ topology. topology ≡ domains_within machine.now.cpus machine.now.distances parts.now) }
         ensures all { IfOk result (λ topology. length topology.all ≡ length machine.now.cpus) }
         ensures good { OnOk result (parts_fault_of (length machine.now.cpus) parts.now ≡ None) }
-        ensures refused { IfErr result (λ e. (e ≡ BuildError.NoMemory) ⊎ (option_map as_error (parts_fault_of (length machine.now.cpus) parts.now) ≡ Some e)) }
+        ensures refused { IfErr result (λ e. (e ≡ BuildError.NoMemory)
+            ⊎ (option_map as_error (parts_fault_of (length machine.now.cpus) parts.now) ≡ Some e)) }
     {
         // No memory holds so many masks that their numbers do not fit a `u32`.
         if parts.len() > u32::MAX as usize {

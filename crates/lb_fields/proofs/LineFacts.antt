@@ -17,7 +17,8 @@ abbrev onto_front : List ℕ → List (List ℕ) → List (List ℕ)
 onto_front front [] = front ∷ []
 onto_front front (part ∷ others) = (front ++ part) ∷ others
 
-onto_front-first : (front : List ℕ) (byte : ℕ) (ps : List (List ℕ)) → onto_front front (onto_first byte ps) ≡ onto_front (front ++ byte ∷ []) ps
+onto_front-first : (front : List ℕ) (byte : ℕ) (ps : List (List ℕ))
+    → onto_front front (onto_first byte ps) ≡ onto_front (front ++ byte ∷ []) ps
 onto_front-first front byte [] = refl
 onto_front-first front byte (p ∷ ps) = ap (λ (t : List ℕ). t ∷ ps) (sym (append_assoc front (byte ∷ []) p))
 
@@ -42,13 +43,16 @@ no_feed byte plain = elim (cases_Bool (byte == 10)) [
 
 -- one byte of a line
 at_comma : (before : Bool) (fields : List (List ℕ)) (field : List ℕ) (byte : ℕ) (rest : List ℕ) → (byte == 44) ≡ true
-    → next_record plain_config (in_line before) fields field (byte ∷ rest) ≡ next_record plain_config (in_line true) (fields ++ field ∷ []) [] rest
+    → next_record plain_config (in_line before) fields field (byte ∷ rest) ≡ next_record plain_config (in_line true)
+    (fields ++ field ∷ []) [] rest
 unfolding next_record
 at_comma true fields field byte rest comma = rw comma refl
 at_comma false fields field byte rest comma = rw comma refl
 
-at_other : (before : Bool) (fields : List (List ℕ)) (field : List ℕ) (byte : ℕ) (rest : List ℕ) → (byte == 44) ≡ false → (byte == 10) ≡ false
-    → next_record plain_config (in_line before) fields field (byte ∷ rest) ≡ next_record plain_config (in_line false) fields (field ++ byte ∷ []) rest
+at_other : (before : Bool) (fields : List (List ℕ)) (field : List ℕ) (byte : ℕ) (rest : List ℕ) → (byte == 44) ≡ false
+    → (byte == 10) ≡ false
+    → next_record plain_config (in_line before) fields field (byte ∷ rest) ≡ next_record plain_config
+    (in_line false) fields (field ++ byte ∷ []) rest
 unfolding next_record
 at_other true fields field byte rest other feed = rw (other, feed) refl
 at_other false fields field byte rest other feed = rw (other, feed) refl
@@ -56,22 +60,26 @@ at_other false fields field byte rest other feed = rw (other, feed) refl
 starts : (line : List ℕ) → onto_front [] (parts 44 line) ≡ parts 44 line
 starts [] = refl
 starts (byte ∷ line) =
-    elim (eqb byte 44) as (λ v. onto_front [] (cond v ([] ∷ parts 44 line) (onto_first byte (parts 44 line))) ≡ cond v ([] ∷ parts 44 line) (onto_first byte (parts 44 line)))
+    elim (eqb byte 44) as (λ v. onto_front [] (cond v ([] ∷ parts 44 line) (onto_first byte (parts 44 line))) ≡ cond v
+    ([] ∷ parts 44 line) (onto_first byte (parts 44 line)))
     [ true ↦ refl | false ↦ first_is byte (parts 44 line) ]
   where
     first_is : (byte : ℕ) (ps : List (List ℕ)) → onto_front [] (onto_first byte ps) ≡ onto_first byte ps
     first_is byte [] = refl
     first_is byte (p ∷ ps) = refl
 
-comma_parts : (field : List ℕ) (byte : ℕ) (line : List ℕ) → (byte == 44) ≡ true → onto_front field (parts 44 (byte ∷ line)) ≡ field ∷ onto_front [] (parts 44 line)
+comma_parts : (field : List ℕ) (byte : ℕ) (line : List ℕ) → (byte == 44) ≡ true
+    → onto_front field (parts 44 (byte ∷ line)) ≡ field ∷ onto_front [] (parts 44 line)
 comma_parts field byte line comma = rw (comma, starts line) (ap (λ (t : List ℕ). t ∷ parts 44 line) (append-nil field))
 
-other_parts : (field : List ℕ) (byte : ℕ) (line : List ℕ) → (byte == 44) ≡ false → onto_front field (parts 44 (byte ∷ line)) ≡ onto_front (field ++ byte ∷ []) (parts 44 line)
+other_parts : (field : List ℕ) (byte : ℕ) (line : List ℕ) → (byte == 44) ≡ false
+    → onto_front field (parts 44 (byte ∷ line)) ≡ onto_front (field ++ byte ∷ []) (parts 44 line)
 other_parts field byte line other = rw other (onto_front-first field byte (parts 44 line))
 
 -- the rest of a line, from inside it to its line feed
 reads_on : (before : Bool) (fields : List (List ℕ)) (field line tail : List ℕ) → is_plain line ≡ true
-    → next_record plain_config (in_line before) fields field (line ++ 10 ∷ tail) ≡ Some (fields ++ onto_front field (parts 44 line), states.StartRecord, tail)
+    → next_record plain_config (in_line before) fields field (line ++ 10 ∷ tail) ≡ Some
+    (fields ++ onto_front field (parts 44 line), states.StartRecord, tail)
 unfolding next_record
 reads_on true fields field [] tail plain = rw (append-nil field) refl
 reads_on false fields field [] tail plain = rw (append-nil field) refl
@@ -80,13 +88,17 @@ reads_on before fields field (byte ∷ line) tail plain =
     let more = and-right _ _ plain in
     elim (cases_Bool (byte == 44)) [
       | inl comma ↦ at_comma before fields field byte (line ++ 10 ∷ tail) comma ∙ reads_on true (fields ++ field ∷ []) [] line tail more
-          ∙ ap (λ t. Some (t, states.StartRecord, tail)) (append_assoc fields (field ∷ []) (onto_front [] (parts 44 line)) ∙ ap (λ t. fields ++ t) (sym (comma_parts field byte line comma)))
-      | inr other ↦ at_other before fields field byte (line ++ 10 ∷ tail) other feed ∙ reads_on false fields (field ++ byte ∷ []) line tail more
+          ∙ ap (λ t. Some (t, states.StartRecord, tail))
+          (append_assoc fields (field ∷ []) (onto_front [] (parts 44 line))
+          ∙ ap (λ t. fields ++ t) (sym (comma_parts field byte line comma)))
+      | inr other ↦ at_other before fields field byte (line ++ 10 ∷ tail) other feed
+          ∙ reads_on false fields (field ++ byte ∷ []) line tail more
           ∙ ap (λ t. Some (fields ++ t, states.StartRecord, tail)) (sym (other_parts field byte line other))
     ]
 
 -- a line that isn't empty begins as a field does
-start_same : (byte : ℕ) (rest : List ℕ) → (byte == 10) ≡ false → next_record plain_config states.StartRecord [] [] (byte ∷ rest) ≡ next_record plain_config (in_line true) [] [] (byte ∷ rest)
+start_same : (byte : ℕ) (rest : List ℕ) → (byte == 10) ≡ false
+    → next_record plain_config states.StartRecord [] [] (byte ∷ rest) ≡ next_record plain_config (in_line true) [] [] (byte ∷ rest)
 unfolding next_record
 start_same byte rest feed = rw feed refl
 
@@ -95,7 +107,8 @@ line_record : (line tail : List ℕ) → (line ≡ [] → ⊥) → is_plain line
     → next_record plain_config states.StartRecord [] [] (line ++ 10 ∷ tail) ≡ Some (parts 44 line, states.StartRecord, tail)
 line_record [] tail full plain = absurd (full refl)
 line_record (byte ∷ line) tail full plain =
-    start_same byte (line ++ 10 ∷ tail) (no_feed byte (and-left _ _ plain)) ∙ reads_on true [] [] (byte ∷ line) tail plain ∙ ap (λ t. Some (t, states.StartRecord, tail)) (starts (byte ∷ line))
+    start_same byte (line ++ 10 ∷ tail) (no_feed byte (and-left _ _ plain))
+    ∙ reads_on true [] [] (byte ∷ line) tail plain ∙ ap (λ t. Some (t, states.StartRecord, tail)) (starts (byte ∷ line))
 
 -- what a read shows, where the next record is known
 next_known : (pending : Option (List ℕ)) (found : Bool) (shown fields : List (List ℕ)) (state : State) (text tail : List ℕ)
@@ -113,5 +126,6 @@ pub takes_line : (old new : Reader (Bor (List ℕ))) (found : Bool) (shown : Lis
     → (line ≡ [] → ⊥) → is_plain line ≡ true → Stands old (line ++ 10 ∷ tail) → ReadRecord left_of old new found shown
     → (shown ≡ parts 44 line) × (reader_state new ≡ states.StartRecord) × (source_of left_of new ≡ Some tail)
 takes_line old new found shown line tail full plain stands reads =
-    let took = next_known (pending_of (left_of new.rdr) new) found shown (parts 44 line) new.state (line ++ 10 ∷ tail) tail (line_record line tail full plain) (rw (stands.config, stands.state, stands.source) at reads.0) in
+    let took = next_known (pending_of (left_of new.rdr) new) found shown (parts 44 line) new.state
+    (line ++ 10 ∷ tail) tail (line_record line tail full plain) (rw (stands.config, stands.state, stands.source) at reads.0) in
     (took.1, took.2, rw reads.1 took.3)

@@ -20,6 +20,7 @@ no_mark [] line lines cut plain = refl
 no_mark (a ∷ []) line lines cut plain = refl
 no_mark (a ∷ b ∷ []) line lines cut plain = refl
 no_mark (a ∷ b ∷ c ∷ rest) line lines cut plain = elim (cases_Bool (a == 0xEF)) [
-  | inl same ↦ absurd (no_mark_first (parts 10 (b ∷ c ∷ rest)) lines line (subst (λ (z : ℕ). parts 10 (z ∷ b ∷ c ∷ rest) ≡ line ∷ lines) (eqb-true a 0xEF same) cut) plain)
+  | inl same ↦ absurd (no_mark_first (parts 10 (b ∷ c ∷ rest)) lines line
+      (subst (λ (z : ℕ). parts 10 (z ∷ b ∷ c ∷ rest) ≡ line ∷ lines) (eqb-true a 0xEF same) cut) plain)
   | inr other ↦ rw other refl
 ]

@@ -42,19 +42,37 @@ some_group [] k here = absurd (both_ways (has no_cpus k) (bit_set_zero k) here)
 some_group (g ∷ gs) k here = omega arith
 
 -- a group's CPUs are of the span
-pub group_in_span : (span : Mask) (groups : List Mask) → IsUnion span groups → (i : ℕ) → i < length groups → (k : ℕ) → has (get_or groups i no_cpus) k ≡ true → has span k ≡ true
+pub group_in_span : (span : Mask) (groups : List Mask) → IsUnion span groups → (i : ℕ) → i < length groups → (k : ℕ)
+    → has (get_or groups i no_cpus) k ≡ true → has span k ≡ true
 group_in_span span groups union i lt k h = union k ∙ list_any_at (λ (g : Mask). has g k) groups i no_cpus lt h
 
-pub all_have_figures : (figs : List Fig) (span excluded : Mask) (groups : List Mask) → IsUnion span groups → AllHaveFigures figs span → All (λ g. AllHaveFigures figs (without g excluded)) groups
+pub all_have_figures : (figs : List Fig) (span excluded : Mask) (groups : List Mask) → IsUnion span groups
+    → AllHaveFigures figs span → All (λ g. AllHaveFigures figs (without g excluded)) groups
 all_have_figures figs span excluded groups union figures =
     All-from_get_or (λ g. AllHaveFigures figs (without g excluded)) groups no_cpus (λ i lt k h.
     figures k (group_in_span span groups union i lt k (has_left (get_or groups i no_cpus) excluded k h)))
 
-pub all_have_small_sums : (figs : List Fig) (excluded : Mask) (groups : List Mask) → HaveSmallSums figs excluded groups → All (λ g. HasSmallSums figs (without g excluded)) groups
+pub all_have_small_sums : (figs : List Fig) (excluded : Mask) (groups : List Mask)
+    → HaveSmallSums figs excluded groups → All (λ g. HasSmallSums figs (without g excluded)) groups
 all_have_small_sums figs excluded groups small =
     All-from_get_or (λ g. HasSmallSums figs (without g excluded)) groups no_cpus (λ i lt. record {
       nr = omega (arith, small.nr, get_or-le-sum_by (λ (g : Mask). total (λ fig. fig.nr) figs (without g excluded)) groups i no_cpus lt);
-      load = omega (arith, small.load, get_or-le-sum_by (λ (g : Mask). total (λ fig. fig.load) figs (without g excluded)) groups i no_cpus lt);
-      util = omega (arith, small.util, get_or-le-sum_by (λ (g : Mask). total (λ fig. fig.util) figs (without g excluded)) groups i no_cpus lt);
-      runnable = omega (arith, small.runnable, get_or-le-sum_by (λ (g : Mask). total (λ fig. fig.runnable) figs (without g excluded)) groups i no_cpus lt);
+      load = omega (
+        arith,
+        small.load,
+        get_or-le-sum_by
+            (λ (g : Mask). total (λ fig. fig.load) figs (without g excluded)) groups i no_cpus lt,
+      );
+      util = omega (
+        arith,
+        small.util,
+        get_or-le-sum_by
+            (λ (g : Mask). total (λ fig. fig.util) figs (without g excluded)) groups i no_cpus lt,
+      );
+      runnable = omega (
+        arith,
+        small.runnable,
+        get_or-le-sum_by
+            (λ (g : Mask). total (λ fig. fig.runnable) figs (without g excluded)) groups i no_cpus lt,
+      );
     })

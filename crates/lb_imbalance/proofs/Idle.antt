@@ -19,12 +19,16 @@ apart : (figs : List Fig) (group : Mask) (k : ℕ) → has group k ≡ false →
 unfolding is_idle_in
 apart figs group k away = and_left _ _ away
 
-pub none_passed : (figs : List Fig) (group : Mask) (n : ℕ) (o : Option ℕ) → NoneIdle figs group n → Finds group n o → NoneIdle figs group (passed o)
-none_passed figs group n None none found k lt = elim (cases_lt k n) [ inl below ↦ none k below | inr from ↦ apart figs group k (found k from) ]
-none_passed figs group n (Some c) none found k lt = elim (cases_lt k n) [ inl below ↦ none k below | inr from ↦ apart figs group k (found.least k from lt) ]
+pub none_passed : (figs : List Fig) (group : Mask) (n : ℕ) (o : Option ℕ) → NoneIdle figs group n → Finds group n o
+    → NoneIdle figs group (passed o)
+none_passed figs group n None none found k lt =
+    elim (cases_lt k n) [ inl below ↦ none k below | inr from ↦ apart figs group k (found k from) ]
+none_passed figs group n (Some c) none found k lt =
+    elim (cases_lt k n) [ inl below ↦ none k below | inr from ↦ apart figs group k (found.least k from lt) ]
 
 -- one more that has tasks
-pub none_more : (figs : List Fig) (group : Mask) (c : ℕ) → NoneIdle figs group c → ((fig_at figs c).nr ≡ 0 → ⊥) → NoneIdle figs group (c + 1)
+pub none_more : (figs : List Fig) (group : Mask) (c : ℕ) → NoneIdle figs group c → ((fig_at figs c).nr ≡ 0 → ⊥)
+    → NoneIdle figs group (c + 1)
 unfolding is_idle_in
 none_more figs group c none some k lt =
     elim (cases_lt k c) [
@@ -39,7 +43,9 @@ pub first_idle_none : (figs : List Fig) (group : Mask) → NoneIdle figs group M
 unfolding first_idle
 first_idle_none figs group none = sym (find_none (is_idle_in figs group) 0 MAX_CPUS (λ k lo hi. none k (omega (arith, hi))))
 
-pub first_idle_some : (figs : List Fig) (group : Mask) (c : ℕ) → IsAt group c → (fig_at figs c).nr ≡ 0 → NoneIdle figs group c → Some c ≡ first_idle figs group
+pub first_idle_some : (figs : List Fig) (group : Mask) (c : ℕ) → IsAt group c → (fig_at figs c).nr ≡ 0
+    → NoneIdle figs group c → Some c ≡ first_idle figs group
 unfolding first_idle is_idle_in
 first_idle_some figs group c at idle none =
-    sym (find_least (is_idle_in figs group) 0 MAX_CPUS c (omega arith) at.in_range (and_from _ _ at.there (eq-eqb (fig_at figs c).nr 0 idle)) (λ k lo hi. none k hi))
+    sym (find_least (is_idle_in figs group) 0 MAX_CPUS c (omega arith) at.in_range
+    (and_from _ _ at.there (eq-eqb (fig_at figs c).nr 0 idle)) (λ k lo hi. none k hi))

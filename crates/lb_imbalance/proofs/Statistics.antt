@@ -25,19 +25,24 @@ unfolding all_stats
 all_stats_none shape figs excluded = refl
 
 -- one group more, written at its place
-pub all_stats_more : (shape : Shape) (figs : List Fig) (excluded : Mask) (groups : List Mask) (all : List Stats) (i : ℕ) (g w : Mask) (s : Stats) →
-    i < length groups → i < length all → g ≡ get_or groups i g → w ≡ without g excluded → s ≡ stats_of figs w shape.position (percent_of shape.name) →
+pub all_stats_more : (shape : Shape) (figs : List Fig) (excluded : Mask) (groups : List Mask) (all : List Stats)
+    (i : ℕ) (g w : Mask) (s : Stats) →
+    i < length groups → i < length all → g ≡ get_or groups i g → w ≡ without g excluded
+    → s ≡ stats_of figs w shape.position (percent_of shape.name) →
     take i all ≡ all_stats shape (take i groups) figs excluded →
     take (i + 1) (slice_set all i s) ≡ all_stats shape (take (i + 1) groups) figs excluded
 unfolding all_stats
 all_stats_more shape figs excluded groups all i g w s lt fits r e q h =
     let left : take (i + 1) (slice_set all i s) ≡ take i all ++ s ∷ [] = take-set_at all i (i + 1) s refl fits in
-    let right : take (i + 1) groups ≡ take i groups ++ g ∷ [] = (take_at_read groups i g lt).1 ∙ ap (λ (x : Mask). take i groups ++ x ∷ []) (sym r) in
+    let right : take (i + 1) groups ≡ take i groups ++ g ∷ [] =
+    (take_at_read groups i g lt).1 ∙ ap (λ (x : Mask). take i groups ++ x ∷ []) (sym r) in
     let F : Mask → Stats = λ g. stats_of figs (without g excluded) shape.position (percent_of shape.name) in
     let last : s ≡ F g = q ∙ ap (λ (x : Mask). stats_of figs x shape.position (percent_of shape.name)) e in
-    left ∙ ap (λ (x : List Stats). x ++ s ∷ []) h ∙ ap (λ (x : Stats). map F (take i groups) ++ x ∷ []) last ∙ sym (ap (map F) right ∙ map-append F (take i groups) (g ∷ []))
+    left ∙ ap (λ (x : List Stats). x ++ s ∷ []) h ∙ ap (λ (x : Stats). map F (take i groups) ++ x ∷ []) last
+    ∙ sym (ap (map F) right ∙ map-append F (take i groups) (g ∷ []))
 
-pub length-all_stats : (shape : Shape) (groups : List Mask) (figs : List Fig) (excluded : Mask) → length (all_stats shape groups figs excluded) ≡ length groups
+pub length-all_stats : (shape : Shape) (groups : List Mask) (figs : List Fig) (excluded : Mask)
+    → length (all_stats shape groups figs excluded) ≡ length groups
 unfolding all_stats
 length-all_stats shape groups figs excluded = length-map groups _
 
@@ -70,25 +75,30 @@ in_range figs group position pct small =
       idle = omega (arith, idle_count-le figs group);
     }
 
-pub all_in_range : (shape : Shape) (groups : List Mask) (figs : List Fig) (excluded : Mask) → All (λ g. HasSmallSums figs (without g excluded)) groups → All IsInRange (all_stats shape groups figs excluded)
+pub all_in_range : (shape : Shape) (groups : List Mask) (figs : List Fig) (excluded : Mask)
+    → All (λ g. HasSmallSums figs (without g excluded)) groups → All IsInRange (all_stats shape groups figs excluded)
 unfolding all_stats
 all_in_range shape groups figs excluded small =
     let F : Mask → Stats = λ g. stats_of figs (without g excluded) shape.position (percent_of shape.name) in
-    All-map IsInRange F groups (All-weaker (λ g. HasSmallSums figs (without g excluded)) (λ g. IsInRange (F g)) (λ g s. in_range figs (without g excluded) shape.position (percent_of shape.name) s) groups small)
+    All-map IsInRange F groups (All-weaker (λ g. HasSmallSums figs (without g excluded)) (λ g. IsInRange (F g))
+    (λ g s. in_range figs (without g excluded) shape.position (percent_of shape.name) s) groups small)
 
 -- ---- the whole domain
 pub caps_small : (stats : List Stats) → length stats ≤ 64 → All IsInRange stats → sum_by (λ s. s.cap) stats < 2 ^ 40
 caps_small stats few ranges =
-    let each : All (λ (s : Stats). s.cap ≤ 2 ^ 20) stats = All-weaker IsInRange (λ s. s.cap ≤ 2 ^ 20) (λ s t. omega (arith, t.cap)) stats ranges in
+    let each : All (λ (s : Stats). s.cap ≤ 2 ^ 20) stats =
+    All-weaker IsInRange (λ s. s.cap ≤ 2 ^ 20) (λ s t. omega (arith, t.cap)) stats ranges in
     omega (arith, sum_by-le (λ (s : Stats). s.cap) (2 ^ 20) stats each)
 
-pub all_loads : (shape : Shape) (groups : List Mask) (figs : List Fig) (excluded : Mask) → sum_by (λ s. s.load) (all_stats shape groups figs excluded) ≡ sum_by (λ g. total (λ fig. fig.load) figs (without g excluded)) groups
+pub all_loads : (shape : Shape) (groups : List Mask) (figs : List Fig) (excluded : Mask)
+    → sum_by (λ s. s.load) (all_stats shape groups figs excluded) ≡ sum_by (λ g. total (λ fig. fig.load) figs (without g excluded)) groups
 unfolding all_stats stats_of
 all_loads shape [] figs excluded = refl
 all_loads shape (g ∷ gs) figs excluded =
     let L : Mask → ℕ = λ g. total (λ fig. fig.load) figs (without g excluded) in
     let F : Mask → Stats = λ g. stats_of figs (without g excluded) shape.position (percent_of shape.name) in
-    sum_by-cons (λ (s : Stats). s.load) (F g) (map F gs) ∙ ap (λ (n : ℕ). L g + n) (all_loads shape gs figs excluded) ∙ sym (sum_by-cons L g gs)
+    sum_by-cons (λ (s : Stats). s.load) (F g) (map F gs) ∙ ap (λ (n : ℕ). L g + n) (all_loads shape gs figs excluded)
+    ∙ sym (sum_by-cons L g gs)
 
 -- a group that has a CPU has capacity
 some_member : (m : Mask) (k : ℕ) → has m k ≡ true → k < 64 → 0 < length (members m)
@@ -97,7 +107,8 @@ some_member m k here lt =
     let each : All (λ (x : ℕ). 1 ≤ 1) (members m) = All-from_get_or (λ (x : ℕ). 1 ≤ 1) (members m) 0 (λ i within. omega arith) in
     omega (arith, sum_members_fits one m k here lt, sum_by-le one 1 (members m) each)
 
-pub first_cap : (shape : Shape) (groups : List Mask) (figs : List Fig) (excluded : Mask) → 0 < length groups → (k : ℕ) → k < 64 → has (without (get_or groups 0 no_cpus) excluded) k ≡ true → 1024 ≤ sum_by (λ s. s.cap) (all_stats shape groups figs excluded)
+pub first_cap : (shape : Shape) (groups : List Mask) (figs : List Fig) (excluded : Mask) → 0 < length groups → (k : ℕ)
+    → k < 64 → has (without (get_or groups 0 no_cpus) excluded) k ≡ true → 1024 ≤ sum_by (λ s. s.cap) (all_stats shape groups figs excluded)
 unfolding all_stats stats_of
 first_cap shape [] figs excluded some k lt here = absurd (omega arith)
 first_cap shape (g ∷ gs) figs excluded some k lt here =

@@ -16,7 +16,8 @@ union_of_two a b k = bit_set_or a.bits b.bits k ∙ ap (λ (t : Bool). has a k |
 
 pub below : (m : Mask) (n : ℕ) → m.bits < 2 ^ n → (k : ℕ) → has m k ≡ true → k < n
 unfolding has
-below m n fits k here = elim (cases_lt k n) [ inl lt ↦ lt | inr above ↦ absurd (both_ways (has m k) (bit_set_above m.bits n k fits above) here) ]
+below m n fits k here = elim (cases_lt k n)
+    [ inl lt ↦ lt | inr above ↦ absurd (both_ways (has m k) (bit_set_above m.bits n k fits above) here) ]
 
 pub apart : (a b : Mask) → bit_and a.bits b.bits ≡ 0 → (k : ℕ) → has a k ≡ true → has b k ≡ false
 unfolding has

@@ -25,11 +25,13 @@ is_level_by_load pct average local busiest =
 
 -- the table: the busiest group's type, then the local group's
 abbrev pub is_level_as : GroupType → GroupType → Shape → Bool → ℕ → Stats → Stats → Bool
-is_level_as HasSpare HasSpare shape busy average local busiest = not (prefers_sibling shape local busiest) && is_level_by_idle busy local busiest
+is_level_as HasSpare HasSpare shape busy average local busiest =
+    not (prefers_sibling shape local busiest) && is_level_by_idle busy local busiest
 is_level_as HasSpare FullyBusy shape busy average local busiest = true
 is_level_as HasSpare Imbalanced shape busy average local busiest = true
 is_level_as HasSpare Overloaded shape busy average local busiest = true
-is_level_as FullyBusy HasSpare shape busy average local busiest = not (prefers_sibling shape local busiest) && is_level_by_idle busy local busiest
+is_level_as FullyBusy HasSpare shape busy average local busiest =
+    not (prefers_sibling shape local busiest) && is_level_by_idle busy local busiest
 is_level_as FullyBusy FullyBusy shape busy average local busiest = is_level_by_idle busy local busiest
 is_level_as FullyBusy Imbalanced shape busy average local busiest = true
 is_level_as FullyBusy Overloaded shape busy average local busiest = true

@@ -38,10 +38,12 @@ abbrev pub FollowsBusiest : Shape → List Mask → List Fig → Bool → Mask �
 FollowsBusiest shape groups figs busy excluded stats None d = d ≡ Balanced
 FollowsBusiest shape groups figs busy excluded stats (Some b) d =
     MatchBool (is_level shape busy (domain_average stats) (stats_at stats 0) (stats_at stats b)) (d ≡ Balanced)
-    (EvensOut figs (without (group_at groups b) excluded) (imbalance_of shape busy (domain_average stats) (stats_at stats 0) (stats_at stats b)) d)
+    (EvensOut figs (without (group_at groups b) excluded)
+    (imbalance_of shape busy (domain_average stats) (stats_at stats 0) (stats_at stats b)) d)
 
 -- the decision of a CPU that may balance follows from the busiest group
-pub record IsChoice (shape : Shape) (groups : List Mask) (figs : List Fig) (busy : Bool) (excluded : Mask) (stats : List Stats) (d : Decision) : Type 0 where
+pub record IsChoice (shape : Shape) (groups : List Mask) (figs : List Fig) (busy : Bool) (excluded : Mask)
+    (stats : List Stats) (d : Decision) : Type 0 where
   pub busiest : Option ℕ
   pub chosen : AnswersBusiest stats busiest
   pub answer : FollowsBusiest shape groups figs busy excluded stats busiest d

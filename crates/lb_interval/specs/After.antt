@@ -60,4 +60,9 @@ unfoldable pub counters_after : Counters → Kind → Outcome → Option Bool �
 counters_after c Idle o imb weight tries now =
     record { last = c.last; interval = c.interval; failures = idle_failures o c.failures tries; imb = flag_after o imb c.imb }
 counters_after c kind o imb weight tries now =
-    record { last = now; interval = interval_after o c.interval weight; failures = failures_after o c.failures tries; imb = flag_after o imb c.imb }
+    record {
+      last = now;
+      interval = interval_after o c.interval weight;
+      failures = failures_after o c.failures tries;
+      imb = flag_after o imb c.imb;
+    }

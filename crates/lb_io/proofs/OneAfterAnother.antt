@@ -23,6 +23,8 @@ appends_kept (Some old) (Some mid) None xs h k = absurd k
 appends_kept (Some old) (Some mid) (Some new) xs h k = k ∙ h
 
 -- a write of the next piece
-pub appends_next : (a b c : Option (List ℕ)) (bytes : List ℕ) (done n : ℕ) → Appends a b (take done bytes) → Appends b c (take n (drop done bytes)) → Appends a c (take (done + n) bytes)
+pub appends_next : (a b c : Option (List ℕ)) (bytes : List ℕ) (done n : ℕ) → Appends a b (take done bytes)
+    → Appends b c (take n (drop done bytes)) → Appends a c (take (done + n) bytes)
 appends_next a b c bytes done n h k =
-    subst (λ (t : List ℕ). Appends a c t) (sym (take-add done n bytes)) (appends_then a b c (take done bytes) (take n (drop done bytes)) h k)
+    subst (λ (t : List ℕ). Appends a c t) (sym (take-add done n bytes))
+    (appends_then a b c (take done bytes) (take n (drop done bytes)) h k)

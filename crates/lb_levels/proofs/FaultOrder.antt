@@ -11,19 +11,24 @@ use Rattle.lb_base.proofs.Ranges.{nothing_found}
 use Rattle.lb_levels.proofs.Nodes.{some_nodes, node_below}
 use Rattle.lb_levels.proofs.Tables.{past_is_misfit}
 
-pub clash_first : (cpus : List CpuRow) (table : List (List ℕ)) (cpu : ℕ) → first_clash cpus ≡ Some cpu → Some (BadCpu cpu) ≡ fault_of cpus table
+pub clash_first : (cpus : List CpuRow) (table : List (List ℕ)) (cpu : ℕ) → first_clash cpus ≡ Some cpu
+    → Some (BadCpu cpu) ≡ fault_of cpus table
 unfolding fault_of
 clash_first cpus table cpu e = rw e refl
 
-pub misfit_first : (cpus : List CpuRow) (table : List (List ℕ)) (row : ℕ) → first_clash cpus ≡ None → first_misfit (nodes_of cpus) table ≡ Some row → Some (BadDistance row) ≡ fault_of cpus table
+pub misfit_first : (cpus : List CpuRow) (table : List (List ℕ)) (row : ℕ) → first_clash cpus ≡ None
+    → first_misfit (nodes_of cpus) table ≡ Some row → Some (BadDistance row) ≡ fault_of cpus table
 unfolding fault_of
 misfit_first cpus table row none e = rw (none, e) refl
 
-pub bad_row_first : (cpus : List CpuRow) (table : List (List ℕ)) (row : ℕ) → first_clash cpus ≡ None → first_misfit (nodes_of cpus) table ≡ None → first_bad_row table ≡ Some row → Some (BadDistance row) ≡ fault_of cpus table
+pub bad_row_first : (cpus : List CpuRow) (table : List (List ℕ)) (row : ℕ) → first_clash cpus ≡ None
+    → first_misfit (nodes_of cpus) table ≡ None → first_bad_row table ≡ Some row → Some (BadDistance row) ≡ fault_of cpus table
 unfolding fault_of
 bad_row_first cpus table row none fits e = rw (none, fits, e) refl
 
-pub not_nested_first : (cpus : List CpuRow) (table : List (List ℕ)) (o : Option ℕ) → first_clash cpus ≡ None → first_misfit (nodes_of cpus) table ≡ None → first_bad_row table ≡ None → first_not_nested table ≡ o → option_map (λ d. NotNested d) o ≡ fault_of cpus table
+pub not_nested_first : (cpus : List CpuRow) (table : List (List ℕ)) (o : Option ℕ) → first_clash cpus ≡ None
+    → first_misfit (nodes_of cpus) table ≡ None → first_bad_row table ≡ None → first_not_nested table ≡ o
+    → option_map (λ d. NotNested d) o ≡ fault_of cpus table
 unfolding fault_of
 not_nested_first cpus table o none fits good e = rw (none, fits, good, e) refl
 
@@ -56,7 +61,8 @@ good cpus table e =
     }
 
 -- a table that fits has a row for each node, and an entry for each in each
-fits_row : (nodes : ℕ) (table : List (List ℕ)) → first_misfit nodes table ≡ None → (a : ℕ) → a < nodes → length (distances_at table a) ≡ nodes
+fits_row : (nodes : ℕ) (table : List (List ℕ)) → first_misfit nodes table ≡ None → (a : ℕ) → a < nodes
+    → length (distances_at table a) ≡ nodes
 unfolding first_misfit
 fits_row nodes table fits a lt =
     let passes = nothing_found (is_misfit nodes table) (max nodes (length table)) fits a (omega (arith, lt)) in
@@ -68,11 +74,15 @@ fits_length nodes table some fits =
     let none : List ℕ = [] in
     let not_longer : length table ≤ nodes =
     elim (cases_lt nodes (length table)) [
-      | inl longer ↦ absurd (both_ways (is_misfit nodes table nodes) (nothing_found (is_misfit nodes table) (max nodes (length table)) fits nodes (omega (arith, longer))) (past_is_misfit nodes table))
+      | inl longer ↦ absurd (both_ways (is_misfit nodes table nodes)
+          (nothing_found (is_misfit nodes table) (max nodes (length table)) fits nodes (omega (arith, longer)))
+          (past_is_misfit nodes table))
       | inr le ↦ le
     ] in
     elim (cases_lt (length table) nodes) [
-      | inl shorter ↦ let empty : length (distances_at table (length table)) ≡ 0 = ap length (get_or_past table (length table) none (omega arith)) in absurd (omega (arith, empty, fits_row nodes table fits (length table) shorter, some))
+      | inl shorter ↦ let empty : length (distances_at table (length table)) ≡ 0 =
+          ap length (get_or_past table (length table) none (omega arith)) in
+          absurd (omega (arith, empty, fits_row nodes table fits (length table) shorter, some))
       | inr ge ↦ omega (arith, ge, not_longer)
     ]
 
@@ -81,6 +91,7 @@ fits_square nodes table some fits a lt =
     let whole = fits_length nodes table some fits in
     fits_row nodes table fits a (omega (arith, lt, whole)) ∙ sym whole
 
-pub fits_nodes : (cpus : List CpuRow) (table : List (List ℕ)) → 0 < length cpus → first_misfit (nodes_of cpus) table ≡ None → AllHaveNodes cpus table
+pub fits_nodes : (cpus : List CpuRow) (table : List (List ℕ)) → 0 < length cpus
+    → first_misfit (nodes_of cpus) table ≡ None → AllHaveNodes cpus table
 fits_nodes cpus table some fits cpu lt =
     omega (arith, node_below cpus cpu lt, fits_length (nodes_of cpus) table (some_nodes cpus some) fits)

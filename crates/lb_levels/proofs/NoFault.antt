@@ -19,7 +19,8 @@ use Rattle.lb_levels.proofs.Overlaps.{none_from_test, no_overlap, overlap_second
 -- ---- rows and a table
 
 -- no fault is to be a machine
-pub machine_from_no_fault : (cpus : List CpuRow) (table : List (List ℕ)) → 0 < length cpus → fault_of cpus table ≡ None → IsMachine cpus table
+pub machine_from_no_fault : (cpus : List CpuRow) (table : List (List ℕ)) → 0 < length cpus
+    → fault_of cpus table ≡ None → IsMachine cpus table
 unfolding first_clash first_bad_row
 machine_from_no_fault cpus table some fine =
     let none = good cpus table fine in
@@ -43,7 +44,8 @@ square_fits nodes table rows square =
     let within : a < length table = omega (arith, lt, rows) in
     or_from _ _ (lt-leb nodes a (omega (arith, within, rows))) (ap not (eq-eqb _ _ (square a within ∙ rows)))))
 
-pub no_fault_from_machine : (cpus : List CpuRow) (table : List (List ℕ)) → 0 < length cpus → IsMachine cpus table → fault_of cpus table ≡ None
+pub no_fault_from_machine : (cpus : List CpuRow) (table : List (List ℕ)) → 0 < length cpus → IsMachine cpus table
+    → fault_of cpus table ≡ None
 unfolding first_clash first_bad_row
 no_fault_from_machine cpus table some m =
     sym (not_nested_first cpus table None
@@ -54,20 +56,27 @@ no_fault_from_machine cpus table some m =
 
 -- ---- masks
 
-none_overlap : (parts : List Mask) → first_overlap parts ≡ None → (second : ℕ) → second < length parts → is_some (first_sharing parts second) ≡ false
+none_overlap : (parts : List Mask) → first_overlap parts ≡ None → (second : ℕ) → second < length parts
+    → is_some (first_sharing parts second) ≡ false
 unfolding first_overlap
 none_overlap parts fine second within =
-    nothing_found (λ second. is_some (first_sharing parts second)) (length parts) (no_second parts (find (λ second. is_some (first_sharing parts second)) (range_with_len 0 (length parts))) (λ second e. (found_at (λ second. is_some (first_sharing parts second)) (length parts) second e).1) fine) second within
+    nothing_found (λ second. is_some (first_sharing parts second)) (length parts)
+    (no_second parts (find (λ second. is_some (first_sharing parts second)) (range_with_len 0 (length parts)))
+    (λ second e. (found_at (λ second. is_some (first_sharing parts second)) (length parts) second e).1) fine) second within
   where
-    no_second : (parts : List Mask) (o : Option ℕ) → ((second : ℕ) → o ≡ Some second → is_some (first_sharing parts second) ≡ true) → option_and_then (λ second. option_map (λ first. Overlap first second) (first_sharing parts second)) o ≡ None → o ≡ None
+    no_second : (parts : List Mask) (o : Option ℕ)
+        → ((second : ℕ) → o ≡ Some second → is_some (first_sharing parts second) ≡ true)
+        → option_and_then (λ second. option_map (λ first. Overlap first second) (first_sharing parts second)) o ≡ None → o ≡ None
     no_second parts None shares fine = refl
     no_second parts (Some second) shares fine =
         absurd (both_ways _ (ap is_some (unmapped (λ first. Overlap first second) (first_sharing parts second) fine)) (shares second refl))
 
-pairs_apart : (parts : List Mask) → first_overlap parts ≡ None → (i j : ℕ) → i < j → j < length parts → are_apart (part_at parts i) (part_at parts j) ≡ true
+pairs_apart : (parts : List Mask) → first_overlap parts ≡ None → (i j : ℕ) → i < j → j < length parts
+    → are_apart (part_at parts i) (part_at parts j) ≡ true
 unfolding first_sharing
 pairs_apart parts fine i j lt within =
-    not-false _ (nothing_found (λ i. not (are_apart (part_at parts i) (part_at parts j))) j (none_from_test _ (none_overlap parts fine j within)) i lt)
+    not-false _ (nothing_found (λ i. not (are_apart (part_at parts i) (part_at parts j))) j
+    (none_from_test _ (none_overlap parts fine j within)) i lt)
 
 all_from : (p : Mask → Bool) (ms : List Mask) → ((i : ℕ) → i < length ms → p (part_at ms i) ≡ true) → list_all p ms ≡ true
 all_from p [] each = refl
@@ -78,18 +87,21 @@ all_to p [] all i lt = absurd (omega (arith, lt))
 all_to p (m ∷ ms) all zero lt = (and_parts _ _ all).0
 all_to p (m ∷ ms) all (suc i) lt = all_to p ms (and_parts _ _ all).1 i (omega (arith, lt))
 
-disjoint_from : (parts : List Mask) → ((i j : ℕ) → i < j → j < length parts → are_apart (part_at parts i) (part_at parts j) ≡ true) → are_disjoint parts ≡ true
+disjoint_from : (parts : List Mask) → ((i j : ℕ) → i < j → j < length parts
+    → are_apart (part_at parts i) (part_at parts j) ≡ true) → are_disjoint parts ≡ true
 disjoint_from [] apart = refl
 disjoint_from (m ∷ ms) apart =
     and_from _ _ (all_from (are_apart m) ms (λ j lt. apart 0 (suc j) (omega arith) (omega (arith, lt))))
     (disjoint_from ms (λ i j before lt. apart (suc i) (suc j) (omega (arith, before)) (omega (arith, lt))))
 
-disjoint_to : (parts : List Mask) → are_disjoint parts ≡ true → (i j : ℕ) → i < j → j < length parts → are_apart (part_at parts i) (part_at parts j) ≡ true
+disjoint_to : (parts : List Mask) → are_disjoint parts ≡ true → (i j : ℕ) → i < j → j < length parts
+    → are_apart (part_at parts i) (part_at parts j) ≡ true
 disjoint_to [] apart i j before lt = absurd (omega (arith, lt))
 disjoint_to (m ∷ ms) apart zero zero before lt = absurd (omega (arith, before))
 disjoint_to (m ∷ ms) apart zero (suc j) before lt = all_to (are_apart m) ms (and_parts _ _ apart).0 j (omega (arith, lt))
 disjoint_to (m ∷ ms) apart (suc i) zero before lt = absurd (omega (arith, before))
-disjoint_to (m ∷ ms) apart (suc i) (suc j) before lt = disjoint_to ms (and_parts _ _ apart).1 i j (omega (arith, before)) (omega (arith, lt))
+disjoint_to (m ∷ ms) apart (suc i) (suc j) before lt =
+    disjoint_to ms (and_parts _ _ apart).1 i j (omega (arith, before)) (omega (arith, lt))
 
 pub partition_from_no_fault : (cpus : ℕ) (parts : List Mask) → parts_fault_of cpus parts ≡ None → ArePartition cpus parts
 unfolding parts_fault_of first_past
@@ -97,14 +109,17 @@ partition_from_no_fault cpus parts fine =
     let none = neither _ _ fine in
     let past = unmapped (λ part. NoSuchCpu part) (first_past cpus parts) none.0 in
     record {
-      below = all_from (λ part. is_below part cpus) parts (λ i lt. not-false _ (nothing_found (λ i. not (is_below (part_at parts i) cpus)) (length parts) past i lt));
+      below = all_from (λ part. is_below part cpus) parts
+          (λ i lt. not-false _ (nothing_found (λ i. not (is_below (part_at parts i) cpus)) (length parts) past i lt));
       apart = disjoint_from parts (pairs_apart parts none.1);
     }
 
 pub no_fault_from_partition : (cpus : ℕ) (parts : List Mask) → ArePartition cpus parts → parts_fault_of cpus parts ≡ None
 unfolding first_past first_sharing
 no_fault_from_partition cpus parts fine =
-    let past = not_found (λ i. not (is_below (part_at parts i) cpus)) (length parts) (λ i lt. ap not (all_to (λ part. is_below part cpus) parts fine.below i lt)) in
+    let past = not_found (λ i. not (is_below (part_at parts i) cpus)) (length parts)
+    (λ i lt. ap not (all_to (λ part. is_below part cpus) parts fine.below i lt)) in
     let shares : (second : ℕ) → second < length parts → is_some (first_sharing parts second) ≡ false =
-    λ second lt. ap is_some (sym (not_found (λ i. not (are_apart (part_at parts i) (part_at parts second))) second (λ i before. ap not (disjoint_to parts fine.apart i second before lt)))) in
+    λ second lt. ap is_some (sym (not_found (λ i. not (are_apart (part_at parts i) (part_at parts second))) second
+    (λ i before. ap not (disjoint_to parts fine.apart i second before lt)))) in
     sym (overlap_second cpus parts (sym past)) ∙ sym (no_overlap parts shares)

@@ -20,24 +20,31 @@ pub none_from_test : {X : Type 0} (o : Option X) → is_some o ≡ false → o �
 none_from_test None e = refl
 none_from_test (Some x) e = absurd (cc)
 
-pub sharing : (parts : List Mask) (second : ℕ) (seen : Mask) → IsUnion parts second seen → true ≡ not (are_apart seen (part_at parts second)) → is_some (first_sharing parts second) ≡ true
+pub sharing : (parts : List Mask) (second : ℕ) (seen : Mask) → IsUnion parts second seen
+    → true ≡ not (are_apart seen (part_at parts second)) → is_some (first_sharing parts second) ≡ true
 unfolding first_sharing
 sharing parts second seen union shares =
     true_from_ne_false _ (λ none.
     let apart : (i : ℕ) → i < second → are_apart (part_at parts i) (part_at parts second) ≡ true =
-    λ i lt. not-false _ (nothing_found (λ i. not (are_apart (part_at parts i) (part_at parts second))) second (none_from_test _ none) i lt) in
+    λ i lt. not-false _ (nothing_found (λ i. not (are_apart (part_at parts i) (part_at parts second))) second
+    (none_from_test _ none) i lt) in
     let whole : are_apart seen (part_at parts second) ≡ true =
-    apart_from seen (part_at parts second) (λ k lt there. let at = union.only k there in apart_at (part_at parts at.0) (part_at parts second) (apart at.0 at.1) k lt at.2) in
+    apart_from seen (part_at parts second)
+    (λ k lt there. let at = union.only k there in apart_at (part_at parts at.0) (part_at parts second) (apart at.0 at.1) k lt at.2) in
     both_ways _ (ap not whole) (sym shares))
 
-pub not_sharing : (parts : List Mask) (second : ℕ) (seen : Mask) → IsUnion parts second seen → false ≡ not (are_apart seen (part_at parts second)) → is_some (first_sharing parts second) ≡ false
+pub not_sharing : (parts : List Mask) (second : ℕ) (seen : Mask) → IsUnion parts second seen
+    → false ≡ not (are_apart seen (part_at parts second)) → is_some (first_sharing parts second) ≡ false
 unfolding first_sharing
 not_sharing parts second seen union apart =
     let whole : are_apart seen (part_at parts second) ≡ true = not-false _ (sym apart) in
     ap is_some (sym (not_found (λ i. not (are_apart (part_at parts i) (part_at parts second))) second
-    (λ i lt. ap not (apart_from (part_at parts i) (part_at parts second) (λ k below there. apart_at seen (part_at parts second) whole k below (union.from i lt k there))))))
+    (λ i lt. ap not (apart_from (part_at parts i) (part_at parts second)
+    (λ k below there. apart_at seen (part_at parts second) whole k below (union.from i lt k there))))))
 
-pub overlap_found : (parts : List Mask) (second : ℕ) → second < length parts → ((i : ℕ) → i < second → is_some (first_sharing parts i) ≡ false) → is_some (first_sharing parts second) ≡ true → option_map (λ first. Overlap first second) (first_sharing parts second) ≡ first_overlap parts
+pub overlap_found : (parts : List Mask) (second : ℕ) → second < length parts
+    → ((i : ℕ) → i < second → is_some (first_sharing parts i) ≡ false) → is_some (first_sharing parts second) ≡ true
+    → option_map (λ first. Overlap first second) (first_sharing parts second) ≡ first_overlap parts
 unfolding first_overlap
 overlap_found parts second within before here =
     let at = found (λ second. is_some (first_sharing parts second)) (length parts) second within before here in
@@ -49,7 +56,8 @@ no_overlap parts none =
     let at = not_found (λ second. is_some (first_sharing parts second)) (length parts) none in
     rw (← at) refl
 
-pub past_first : (cpus : ℕ) (parts : List Mask) (part : ℕ) → first_past cpus parts ≡ Some part → Some (NoSuchCpu part) ≡ parts_fault_of cpus parts
+pub past_first : (cpus : ℕ) (parts : List Mask) (part : ℕ) → first_past cpus parts ≡ Some part
+    → Some (NoSuchCpu part) ≡ parts_fault_of cpus parts
 unfolding parts_fault_of
 past_first cpus parts part e = rw e refl
 
@@ -63,7 +71,8 @@ none_seen parts seen empty = record {
   only = λ k there. absurd (both_ways (has seen k) (empty k) there);
 }
 
-pub one_more_seen : (parts : List Mask) (second : ℕ) (seen more : Mask) → ((k : ℕ) → has more k ≡ (has seen k || has (part_at parts second) k)) → IsUnion parts second seen → IsUnion parts (second + 1) more
+pub one_more_seen : (parts : List Mask) (second : ℕ) (seen more : Mask)
+    → ((k : ℕ) → has more k ≡ (has seen k || has (part_at parts second) k)) → IsUnion parts second seen → IsUnion parts (second + 1) more
 one_more_seen parts second seen more is union = record {
   from = λ i lt k there. elim (cases_eq i second) [
     | inl same ↦ is k ∙ or_right _ _ (ap (λ (i : ℕ). has (part_at parts i) k) (sym same) ∙ there)

@@ -21,7 +21,8 @@ bad_entry_is table a b =
       | inr after ↦ rw (own, here, le-ltb b a after) refl
     ]
 
-pub bad_row_is : (table : List (List ℕ)) (a : ℕ) → IsSquare table → a < length table → is_bad_distance (take a table) (distances_at table a) ≡ list_any (is_bad_entry table a) (range_with_len 0 (length table))
+pub bad_row_is : (table : List (List ℕ)) (a : ℕ) → IsSquare table → a < length table
+    → is_bad_distance (take a table) (distances_at table a) ≡ list_any (is_bad_entry table a) (range_with_len 0 (length table))
 unfolding is_bad_distance
 bad_row_is table a square within =
     let none : List ℕ = [] in

@@ -24,17 +24,21 @@ use Rattle.lb_levels.proofs.Depth.{IsMetric, metric}
 -- ---- cores within caches, caches within nodes
 
 record IsBuilt (cpus : List CpuRow) : Type 0 where
-  cores : (a b : ℕ) → a < length cpus → b < length cpus → (row_at cpus a).core ≡ (row_at cpus b).core → (row_at cpus a).cache ≡ (row_at cpus b).cache
-  caches : (a b : ℕ) → a < length cpus → b < length cpus → (row_at cpus a).cache ≡ (row_at cpus b).cache → (row_at cpus a).node ≡ (row_at cpus b).node
+  cores : (a b : ℕ) → a < length cpus → b < length cpus → (row_at cpus a).core ≡ (row_at cpus b).core
+      → (row_at cpus a).cache ≡ (row_at cpus b).cache
+  caches : (a b : ℕ) → a < length cpus → b < length cpus → (row_at cpus a).cache ≡ (row_at cpus b).cache
+      → (row_at cpus a).node ≡ (row_at cpus b).node
 
-no_clash : (cpus : List CpuRow) → first_clash cpus ≡ None → (a b : ℕ) → a < b → b < length cpus → clashes (row_at cpus a) (row_at cpus b) ≡ false
+no_clash : (cpus : List CpuRow) → first_clash cpus ≡ None → (a b : ℕ) → a < b → b < length cpus
+    → clashes (row_at cpus a) (row_at cpus b) ≡ false
 unfolding first_clash cpu_clashes
 no_clash cpus fine a b lt in_b =
     let row = nothing_found (λ k. cpu_clashes (take k cpus) (row_at cpus k)) (length cpus) fine b in_b in
     let in_front : a < length (take b cpus) = omega (arith, lt, length-take-le b cpus (omega (arith, in_b))) in
     let same : get_or (take b cpus) a no_row ≡ row_at cpus a = get_or-take b cpus a no_row lt in
     false_from_ne_true _ (λ clash.
-    both_ways _ row (list_any_at (λ other. clashes other (row_at cpus b)) (take b cpus) a no_row in_front (ap (λ (r : CpuRow). clashes r (row_at cpus b)) same ∙ clash)))
+    both_ways _ row (list_any_at (λ other. clashes other (row_at cpus b)) (take b cpus) a no_row in_front
+    (ap (λ (r : CpuRow). clashes r (row_at cpus b)) same ∙ clash)))
 
 apart_cores : (a b : CpuRow) → clashes a b ≡ false → a.core ≡ b.core → a.cache ≡ b.cache
 apart_cores a b fine same =
@@ -78,11 +82,13 @@ filter_passes p (x ∷ xs) i d lt =
       | inr fails ↦ rw fails (filter_passes p xs i d (rw fails at lt))
     ]
   where
-    at_cons : p x ≡ true → ((k : ℕ) → k < length (filter p xs) → p (get_or (filter p xs) k d) ≡ true) → (i : ℕ) → i < length (x ∷ filter p xs) → p (get_or (x ∷ filter p xs) i d) ≡ true
+    at_cons : p x ≡ true → ((k : ℕ) → k < length (filter p xs) → p (get_or (filter p xs) k d) ≡ true) → (i : ℕ)
+        → i < length (x ∷ filter p xs) → p (get_or (x ∷ filter p xs) i d) ≡ true
     at_cons passes rest zero lt = passes
     at_cons passes rest (suc i) lt = rest i (omega (arith, lt))
 
-filter_below : (p : ℕ → Bool) (a n i d : ℕ) → i < length (filter p (range_with_len a n)) → get_or (filter p (range_with_len a n)) i d < a + n
+filter_below : (p : ℕ → Bool) (a n i d : ℕ) → i < length (filter p (range_with_len a n))
+    → get_or (filter p (range_with_len a n)) i d < a + n
 filter_below p a zero i d lt = absurd (omega (arith, lt))
 filter_below p a (suc n) i d lt =
     elim (cases_Bool (p a)) [
@@ -90,7 +96,9 @@ filter_below p a (suc n) i d lt =
       | inr fails ↦ rw fails (omega (arith, filter_below p (a + 1) n i d (rw fails at lt)))
     ]
   where
-    at_cons : ((k : ℕ) → k < length (filter p (range_with_len (a + 1) n)) → get_or (filter p (range_with_len (a + 1) n)) k d < a + 1 + n) → (i : ℕ) → i < length (a ∷ filter p (range_with_len (a + 1) n)) → get_or (a ∷ filter p (range_with_len (a + 1) n)) i d < a + suc n
+    at_cons : ((k : ℕ) → k < length (filter p (range_with_len (a + 1) n))
+        → get_or (filter p (range_with_len (a + 1) n)) k d < a + 1 + n) → (i : ℕ)
+        → i < length (a ∷ filter p (range_with_len (a + 1) n)) → get_or (a ∷ filter p (range_with_len (a + 1) n)) i d < a + suc n
     at_cons rest zero lt = omega arith
     at_cons rest (suc i) lt = omega (arith, rest i (omega (arith, lt)))
 
@@ -154,29 +162,43 @@ sound cpus table some fine =
     let none = good cpus table fine in
     record { built = built cpus none.no_clash; metric = metric cpus table some fine; nodes = fits_nodes cpus table some none.fits }
 
-shares_self : (cpus : List CpuRow) (table : List (List ℕ)) → IsSound cpus table → (level : LevelName) → IsLevel table level → (a : ℕ) → a < length cpus → shares table level (row_at cpus a) (row_at cpus a) ≡ true
+shares_self : (cpus : List CpuRow) (table : List (List ℕ)) → IsSound cpus table → (level : LevelName)
+    → IsLevel table level → (a : ℕ) → a < length cpus → shares table level (row_at cpus a) (row_at cpus a) ≡ true
 shares_self cpus table s Smt is a in_a = eq-eqb _ _ refl
 shares_self cpus table s Mc is a in_a = eq-eqb _ _ refl
 shares_self cpus table s Pkg is a in_a = eq-eqb _ _ refl
 shares_self cpus table s (Numa d) is a in_a = le-leb _ _ (omega (arith, s.metric.own (row_at cpus a).node (s.nodes a in_a), is.0))
 
-shares_back : (cpus : List CpuRow) (table : List (List ℕ)) → IsSound cpus table → (level : LevelName) → (a b : ℕ) → a < length cpus → b < length cpus → shares table level (row_at cpus a) (row_at cpus b) ≡ true → shares table level (row_at cpus b) (row_at cpus a) ≡ true
+shares_back : (cpus : List CpuRow) (table : List (List ℕ)) → IsSound cpus table → (level : LevelName) → (a b : ℕ)
+    → a < length cpus → b < length cpus → shares table level (row_at cpus a) (row_at cpus b) ≡ true
+    → shares table level (row_at cpus b) (row_at cpus a) ≡ true
 shares_back cpus table s Smt a b in_a in_b ab = eq-eqb _ _ (sym (eqb-true _ _ ab))
 shares_back cpus table s Mc a b in_a in_b ab = eq-eqb _ _ (sym (eqb-true _ _ ab))
 shares_back cpus table s Pkg a b in_a in_b ab = eq-eqb _ _ (sym (eqb-true _ _ ab))
 shares_back cpus table s (Numa d) a b in_a in_b ab =
     le-leb _ _ (omega (arith, s.metric.both (row_at cpus b).node (row_at cpus a).node (s.nodes b in_b) (s.nodes a in_a), leb-true _ _ ab))
 
-shares_chain : (cpus : List CpuRow) (table : List (List ℕ)) → IsSound cpus table → (level : LevelName) → IsLevel table level → (a b k : ℕ) → a < length cpus → b < length cpus → k < length cpus → shares table level (row_at cpus a) (row_at cpus b) ≡ true → shares table level (row_at cpus b) (row_at cpus k) ≡ true → shares table level (row_at cpus a) (row_at cpus k) ≡ true
+shares_chain : (cpus : List CpuRow) (table : List (List ℕ)) → IsSound cpus table → (level : LevelName)
+    → IsLevel table level → (a b k : ℕ) → a < length cpus → b < length cpus → k < length cpus
+    → shares table level (row_at cpus a) (row_at cpus b) ≡ true
+    → shares table level (row_at cpus b) (row_at cpus k) ≡ true → shares table level (row_at cpus a) (row_at cpus k) ≡ true
 shares_chain cpus table s Smt is a b k in_a in_b in_k ab bk = eq-eqb _ _ (eqb-true _ _ ab ∙ eqb-true _ _ bk)
 shares_chain cpus table s Mc is a b k in_a in_b in_k ab bk = eq-eqb _ _ (eqb-true _ _ ab ∙ eqb-true _ _ bk)
 shares_chain cpus table s Pkg is a b k in_a in_b in_k ab bk = eq-eqb _ _ (eqb-true _ _ ab ∙ eqb-true _ _ bk)
 shares_chain cpus table s (Numa d) is a b k in_a in_b in_k ab bk =
     let near : distance table (row_at cpus a).node (row_at cpus b).node ≤ d = leb-true _ _ ab in
     let next : distance table (row_at cpus b).node (row_at cpus k).node ≤ d = leb-true _ _ bk in
-    le-leb _ _ (omega (arith, near, next, s.metric.through (row_at cpus a).node (row_at cpus b).node (row_at cpus k).node (s.nodes a in_a) (s.nodes b in_b) (s.nodes k in_k) (omega (arith, near, is.1)) (omega (arith, next, is.1))))
+    le-leb _ _ (omega (
+      arith,
+      near,
+      next,
+      s.metric.through (row_at cpus a).node (row_at cpus b).node
+          (row_at cpus k).node (s.nodes a in_a) (s.nodes b in_b) (s.nodes k in_k) (omega (arith, near, is.1)) (omega (arith, next, is.1)),
+    ))
 
-node_within : (cpus : List CpuRow) (table : List (List ℕ)) → IsSound cpus table → (d a b : ℕ) → own_distance table < d → a < length cpus → b < length cpus → (row_at cpus a).node ≡ (row_at cpus b).node → shares table (Numa d) (row_at cpus a) (row_at cpus b) ≡ true
+node_within : (cpus : List CpuRow) (table : List (List ℕ)) → IsSound cpus table → (d a b : ℕ) → own_distance table < d
+    → a < length cpus → b < length cpus → (row_at cpus a).node ≡ (row_at cpus b).node
+    → shares table (Numa d) (row_at cpus a) (row_at cpus b) ≡ true
 node_within cpus table s d a b above in_a in_b same =
     le-leb _ _ (omega (arith, s.metric.own (row_at cpus a).node (s.nodes a in_a), ap (distance table (row_at cpus a).node) same, above))
 
@@ -189,24 +211,31 @@ abbrev known : List (List ℕ) → ℕ → LevelName
 known table i = get_or (Smt ∷ Mc ∷ Pkg ∷ map (λ d. Numa d) (far table)) i Smt
 
 -- CPUs of one node share each level above the nodes
-share_above : (cpus : List CpuRow) (table : List (List ℕ)) → IsSound cpus table → (a b j : ℕ) → a < length cpus → b < length cpus → (row_at cpus a).node ≡ (row_at cpus b).node → j < length (far table) → Sharing cpus table a b (known table (suc (suc (suc j))))
+share_above : (cpus : List CpuRow) (table : List (List ℕ)) → IsSound cpus table → (a b j : ℕ) → a < length cpus
+    → b < length cpus → (row_at cpus a).node ≡ (row_at cpus b).node → j < length (far table)
+    → Sharing cpus table a b (known table (suc (suc (suc j))))
 share_above cpus table s a b j in_a in_b same within =
     subst (Sharing cpus table a b) (sym (get_or-map (λ d. Numa d) (far table) j 0 Smt within))
     (node_within cpus table s (get_or (far table) j 0) a b (far_is table j within).0 in_a in_b same)
 
-core_node : (cpus : List CpuRow) → IsBuilt cpus → (a b : ℕ) → a < length cpus → b < length cpus → (row_at cpus a).core ≡ (row_at cpus b).core → (row_at cpus a).node ≡ (row_at cpus b).node
+core_node : (cpus : List CpuRow) → IsBuilt cpus → (a b : ℕ) → a < length cpus → b < length cpus
+    → (row_at cpus a).core ≡ (row_at cpus b).core → (row_at cpus a).node ≡ (row_at cpus b).node
 core_node cpus m a b in_a in_b same = m.caches a b in_a in_b (m.cores a b in_a in_b same)
 
 -- what CPUs share at one level they share at the next but one, and so on
-known_more : (cpus : List CpuRow) (table : List (List ℕ)) → IsSound cpus table → (a b : ℕ) → a < length cpus → b < length cpus → (lower upper : ℕ) → lower < upper → upper < 3 + length (far table) → Sharing cpus table a b (known table lower) → Sharing cpus table a b (known table upper)
+known_more : (cpus : List CpuRow) (table : List (List ℕ)) → IsSound cpus table → (a b : ℕ) → a < length cpus
+    → b < length cpus → (lower upper : ℕ) → lower < upper → upper < 3 + length (far table)
+    → Sharing cpus table a b (known table lower) → Sharing cpus table a b (known table upper)
 known_more cpus table s a b in_a in_b zero zero lt in_levels ab = absurd (omega (arith, lt))
 known_more cpus table s a b in_a in_b zero (suc zero) lt in_levels ab = eq-eqb _ _ (s.built.cores a b in_a in_b (eqb-true _ _ ab))
-known_more cpus table s a b in_a in_b zero (suc (suc zero)) lt in_levels ab = eq-eqb _ _ (core_node cpus s.built a b in_a in_b (eqb-true _ _ ab))
+known_more cpus table s a b in_a in_b zero (suc (suc zero)) lt in_levels ab =
+    eq-eqb _ _ (core_node cpus s.built a b in_a in_b (eqb-true _ _ ab))
 known_more cpus table s a b in_a in_b zero (suc (suc (suc j))) lt in_levels ab =
     share_above cpus table s a b j in_a in_b (core_node cpus s.built a b in_a in_b (eqb-true _ _ ab)) (omega (arith, in_levels))
 known_more cpus table s a b in_a in_b (suc zero) zero lt in_levels ab = absurd (omega (arith, lt))
 known_more cpus table s a b in_a in_b (suc zero) (suc zero) lt in_levels ab = absurd (omega (arith, lt))
-known_more cpus table s a b in_a in_b (suc zero) (suc (suc zero)) lt in_levels ab = eq-eqb _ _ (s.built.caches a b in_a in_b (eqb-true _ _ ab))
+known_more cpus table s a b in_a in_b (suc zero) (suc (suc zero)) lt in_levels ab =
+    eq-eqb _ _ (s.built.caches a b in_a in_b (eqb-true _ _ ab))
 known_more cpus table s a b in_a in_b (suc zero) (suc (suc (suc j))) lt in_levels ab =
     share_above cpus table s a b j in_a in_b (s.built.caches a b in_a in_b (eqb-true _ _ ab)) (omega (arith, in_levels))
 known_more cpus table s a b in_a in_b (suc (suc zero)) zero lt in_levels ab = absurd (omega (arith, lt))
@@ -225,35 +254,47 @@ known_more cpus table s a b in_a in_b (suc (suc (suc i))) (suc (suc (suc j))) lt
     subst (Sharing cpus table a b) (sym (get_or-map (λ d. Numa d) (far table) j 0 Smt within))
     (le-leb _ _ (omega (arith, near, far_rise table i j (omega (arith, lt)) within)))
 
-shares_more : (cpus : List CpuRow) (table : List (List ℕ)) → IsSound cpus table → (lower upper : ℕ) → lower < upper → upper < length (levels_of table) → (a b : ℕ) → a < length cpus → b < length cpus → Sharing cpus table a b (level_at table lower) → Sharing cpus table a b (level_at table upper)
+shares_more : (cpus : List CpuRow) (table : List (List ℕ)) → IsSound cpus table → (lower upper : ℕ) → lower < upper
+    → upper < length (levels_of table) → (a b : ℕ) → a < length cpus → b < length cpus
+    → Sharing cpus table a b (level_at table lower) → Sharing cpus table a b (level_at table upper)
 shares_more cpus table s lower upper lt in_levels a b in_a in_b ab =
     subst (Sharing cpus table a b) (sym (level_of table upper))
-    (known_more cpus table s a b in_a in_b lower upper lt (omega (arith, in_levels, far_length table)) (subst (Sharing cpus table a b) (level_of table lower) ab))
+    (known_more cpus table s a b in_a in_b lower upper lt (omega (arith, in_levels, far_length table))
+    (subst (Sharing cpus table a b) (level_of table lower) ab))
 
 -- ---- spans
 
-pub in_span_from : (cpus : List CpuRow) (table : List (List ℕ)) (level : LevelName) (cpu k : ℕ) → length cpus ≤ 64 → k < length cpus → shares table level (row_at cpus cpu) (row_at cpus k) ≡ true → has (span_of cpus table level cpu) k ≡ true
+pub in_span_from : (cpus : List CpuRow) (table : List (List ℕ)) (level : LevelName) (cpu k : ℕ) → length cpus ≤ 64
+    → k < length cpus → shares table level (row_at cpus cpu) (row_at cpus k) ≡ true → has (span_of cpus table level cpu) k ≡ true
 unfolding span_of
 in_span_from cpus table level cpu k few in_k together =
     mask_where_has (λ k. ltb k (length cpus) && shares table level (row_at cpus cpu) (row_at cpus k)) k
     ∙ and_from _ _ (lt-ltb k 64 (omega (arith, in_k, few))) (and_from _ _ (lt-ltb k (length cpus) in_k) together)
 
-pub in_span_to : (cpus : List CpuRow) (table : List (List ℕ)) (level : LevelName) (cpu k : ℕ) → has (span_of cpus table level cpu) k ≡ true → (k < length cpus) × (shares table level (row_at cpus cpu) (row_at cpus k) ≡ true)
+pub in_span_to : (cpus : List CpuRow) (table : List (List ℕ)) (level : LevelName) (cpu k : ℕ)
+    → has (span_of cpus table level cpu) k ≡ true → (k < length cpus) × (shares table level (row_at cpus cpu) (row_at cpus k) ≡ true)
 unfolding span_of
 in_span_to cpus table level cpu k there =
-    let parts = and_parts _ _ (and_parts _ _ (sym (mask_where_has (λ k. ltb k (length cpus) && shares table level (row_at cpus cpu) (row_at cpus k)) k) ∙ there)).1 in
+    let parts = and_parts _ _ (and_parts _ _
+    (sym (mask_where_has (λ k. ltb k (length cpus) && shares table level (row_at cpus cpu) (row_at cpus k)) k) ∙ there)).1 in
     (ltb-true _ _ parts.0, parts.1)
 
-pub span_own : (cpus : List CpuRow) (table : List (List ℕ)) → 0 < length cpus → length cpus ≤ 64 → fault_of cpus table ≡ None → (level cpu : ℕ) → level < length (levels_of table) → cpu < length cpus → has (span_of cpus table (level_at table level) cpu) cpu ≡ true
+pub span_own : (cpus : List CpuRow) (table : List (List ℕ)) → 0 < length cpus → length cpus ≤ 64
+    → fault_of cpus table ≡ None → (level cpu : ℕ) → level < length (levels_of table) → cpu < length cpus
+    → has (span_of cpus table (level_at table level) cpu) cpu ≡ true
 span_own cpus table some few fine level cpu in_levels in_cpu =
-    in_span_from cpus table (level_at table level) cpu cpu few in_cpu (shares_self cpus table (sound cpus table some fine) (level_at table level) (level_is table level in_levels) cpu in_cpu)
+    in_span_from cpus table (level_at table level) cpu cpu few in_cpu
+    (shares_self cpus table (sound cpus table some fine) (level_at table level) (level_is table level in_levels) cpu in_cpu)
 
 same_answers : (x y : Bool) → (x ≡ true → y ≡ true) → (y ≡ true → x ≡ true) → x ≡ y
 same_answers true y there back = sym (there refl)
 same_answers false true there back = back refl
 same_answers false false there back = refl
 
-pub span_same : (cpus : List CpuRow) (table : List (List ℕ)) → 0 < length cpus → length cpus ≤ 64 → fault_of cpus table ≡ None → (level cpu k : ℕ) → level < length (levels_of table) → cpu < length cpus → has (span_of cpus table (level_at table level) cpu) k ≡ true → span_of cpus table (level_at table level) k ≡ span_of cpus table (level_at table level) cpu
+pub span_same : (cpus : List CpuRow) (table : List (List ℕ)) → 0 < length cpus → length cpus ≤ 64
+    → fault_of cpus table ≡ None → (level cpu k : ℕ) → level < length (levels_of table) → cpu < length cpus
+    → has (span_of cpus table (level_at table level) cpu) k ≡ true
+    → span_of cpus table (level_at table level) k ≡ span_of cpus table (level_at table level) cpu
 span_same cpus table some few fine level cpu k in_levels in_cpu there =
     let s = sound cpus table some fine in
     let name = level_at table level in
@@ -261,10 +302,15 @@ span_same cpus table some few fine level cpu k in_levels in_cpu there =
     let at = in_span_to cpus table name cpu k there in
     let back = shares_back cpus table s name cpu k in_cpu at.0 at.1 in
     same_mask (span_of cpus table name k) (span_of cpus table name cpu) (λ i. same_answers _ _
-    (λ of_k. let to = in_span_to cpus table name k i of_k in in_span_from cpus table name cpu i few to.0 (shares_chain cpus table s name is cpu k i in_cpu at.0 to.0 at.1 to.1))
-    (λ of_cpu. let to = in_span_to cpus table name cpu i of_cpu in in_span_from cpus table name k i few to.0 (shares_chain cpus table s name is k cpu i at.0 in_cpu to.0 back to.1)))
+    (λ of_k. let to = in_span_to cpus table name k i of_k in
+    in_span_from cpus table name cpu i few to.0 (shares_chain cpus table s name is cpu k i in_cpu at.0 to.0 at.1 to.1))
+    (λ of_cpu. let to = in_span_to cpus table name cpu i of_cpu in
+    in_span_from cpus table name k i few to.0 (shares_chain cpus table s name is k cpu i at.0 in_cpu to.0 back to.1)))
 
-pub span_grow : (cpus : List CpuRow) (table : List (List ℕ)) → 0 < length cpus → length cpus ≤ 64 → fault_of cpus table ≡ None → (lower upper cpu : ℕ) → lower < upper → upper < length (levels_of table) → cpu < length cpus → IsSubset (span_of cpus table (level_at table lower) cpu) (span_of cpus table (level_at table upper) cpu)
+pub span_grow : (cpus : List CpuRow) (table : List (List ℕ)) → 0 < length cpus → length cpus ≤ 64
+    → fault_of cpus table ≡ None → (lower upper cpu : ℕ) → lower < upper → upper < length (levels_of table)
+    → cpu < length cpus → IsSubset (span_of cpus table (level_at table lower) cpu) (span_of cpus table (level_at table upper) cpu)
 span_grow cpus table some few fine lower upper cpu lt in_levels in_cpu k there =
     let at = in_span_to cpus table (level_at table lower) cpu k there in
-    in_span_from cpus table (level_at table upper) cpu k few at.0 (shares_more cpus table (sound cpus table some fine) lower upper lt in_levels cpu k in_cpu at.0 at.1)
+    in_span_from cpus table (level_at table upper) cpu k few at.0
+    (shares_more cpus table (sound cpus table some fine) lower upper lt in_levels cpu k in_cpu at.0 at.1)

@@ -47,7 +47,8 @@ spans_of cpus table = map (spans_at cpus table) (levels_of table)
 -- and the CPUs of a span have that span; and from level to level the span of a CPU grows
 pub record SpansPartAndGrow (cpus : List CpuRow) (table : List (List ℕ)) : Type 0 where
   pub within : (level cpu k : ℕ) → has (span_of cpus table (level_at table level) cpu) k ≡ true → k < length cpus
-  pub own : (level cpu : ℕ) → level < length (levels_of table) → cpu < length cpus → has (span_of cpus table (level_at table level) cpu) cpu ≡ true
+  pub own : (level cpu : ℕ) → level < length (levels_of table) → cpu < length cpus
+      → has (span_of cpus table (level_at table level) cpu) cpu ≡ true
   pub same : (level cpu k : ℕ) → level < length (levels_of table) → cpu < length cpus
       → has (span_of cpus table (level_at table level) cpu) k ≡ true
       → span_of cpus table (level_at table level) k ≡ span_of cpus table (level_at table level) cpu

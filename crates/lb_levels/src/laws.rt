@@ -22,7 +22,8 @@ pub fn a_partition_has_no_fault()
 /// A machine has at most two levels more than nodes, so at most `MAX_LEVELS`.
 pub fn levels_are_few()
     ensures of_nodes { (cpus : List CpuRow) → (table : List (List ℕ)) → CanBeRead cpus table → length (levels_of table) ≤ length table + 2 }
-    ensures most { (cpus : List CpuRow) → (table : List (List ℕ)) → CanBeRead cpus table → nodes_in_range cpus ≡ true → length (levels_of table) ≤ MAX_LEVELS }
+    ensures most { (cpus : List CpuRow) → (table : List (List ℕ)) → CanBeRead cpus table → nodes_in_range cpus ≡ true
+        → length (levels_of table) ≤ MAX_LEVELS }
 {}
 
 /// At each level the spans part the machine's CPUs: a CPU is in its own, and the CPUs of a span

@@ -14,11 +14,14 @@ kept_some p v n = cond-false (eqb p 0) v _ (ne_eqb p 0 n)
 pub contribution_inside : (part e : ℕ) → (part + e) / 1024 ≡ 0 → contribution part e ≡ e
 contribution_inside part e z = cond-true (eqb ((part + e) / 1024) 0) e _ (eq-eqb _ 0 z)
 
-pub contribution_across : (part e : ℕ) → ((part + e) / 1024 ≡ 0 → ⊥) → contribution part e ≡ decayed (1024 - part) ((part + e) / 1024) + (47742 - decayed 47742 ((part + e) / 1024) - 1024) + (part + e) % 1024
+pub contribution_across : (part e : ℕ) → ((part + e) / 1024 ≡ 0 → ⊥)
+    → contribution part e ≡ decayed (1024 - part) ((part + e) / 1024) +
+    (47742 - decayed 47742 ((part + e) / 1024) - 1024) + (part + e) % 1024
 contribution_across part e n = cond-false (eqb ((part + e) / 1024) 0) e _ (ne_eqb _ 0 n)
 
 -- ---- a sum stays in its bounds
-pub load_fits : (part e v : ℕ) → part < 1024 → v ≤ 46718 + part → kept ((part + e) / 1024) v + contribution part e ≤ 46718 + (part + e) % 1024
+pub load_fits : (part e v : ℕ) → part < 1024 → v ≤ 46718 + part
+    → kept ((part + e) / 1024) v + contribution part e ≤ 46718 + (part + e) % 1024
 load_fits part e v small fits =
     let p = (part + e) / 1024 in
     elim (cases_eq p 0) [
@@ -31,7 +34,8 @@ load_fits part e v small fits =
           rw (kept_some p v n, contribution_across part e n) (omega arith)
     ]
 
-pub sum_fits : (part e v : ℕ) → part < 1024 → v ≤ 1024 * (46718 + part) + 49152 → kept ((part + e) / 1024) v + 1024 * contribution part e ≤ 1024 * (46718 + (part + e) % 1024) + 49152
+pub sum_fits : (part e v : ℕ) → part < 1024 → v ≤ 1024 * (46718 + part) + 49152
+    → kept ((part + e) / 1024) v + 1024 * contribution part e ≤ 1024 * (46718 + (part + e) % 1024) + 49152
 sum_fits part e v small fits =
     let p = (part + e) / 1024 in
     elim (cases_eq p 0) [

@@ -53,7 +53,8 @@ inverses_small = refl
 
 inverse_small : (k : ℕ) → k < 32 → inverse_at k < 2 ^ 32
 unfolding inverse_at inverses
-inverse_small k h = ltb-true _ _ (All-get_or (λ x. ltb x (2 ^ 32) ≡ true) inverses k 0 h (AllPass-from_list_all (λ x. ltb x (2 ^ 32)) inverses inverses_small))
+inverse_small k h = ltb-true _ _ (All-get_or (λ x. ltb x (2 ^ 32) ≡ true) inverses k 0 h
+    (AllPass-from_list_all (λ x. ltb x (2 ^ 32)) inverses inverses_small))
 
 pub decayed_late : (v n : ℕ) → 2016 < n → decayed v n ≡ 0
 unfolding decayed
@@ -67,28 +68,47 @@ pub decayed_le : (v n : ℕ) → decayed v n ≤ v
 decayed_le v n =
     elim (cases_lt 2016 n) [
       | inl late ↦ omega (arith, decayed_late v n late)
-      | inr early ↦ omega (arith, decayed_early v n early, scaled_le (2 ^ (n / 32)) (inverse_at (n % 32)) v (omega (arith, inverse_small (n % 32) (omega arith))))
+      | inr early ↦ omega (
+        arith,
+        decayed_early v n early,
+        scaled_le (2 ^ (n / 32)) (inverse_at (n % 32)) v
+            (omega (arith, inverse_small (n % 32) (omega arith))),
+      )
     ]
 
 pub decayed_sum : (a b n : ℕ) → decayed a n + decayed b n ≤ decayed (a + b) n
 decayed_sum a b n =
     elim (cases_lt 2016 n) [
       | inl late ↦ omega (arith, decayed_late a n late, decayed_late b n late)
-      | inr early ↦ omega (arith, decayed_early a n early, decayed_early b n early, decayed_early (a + b) n early, scaled_sum (2 ^ (n / 32)) (inverse_at (n % 32)) a b (pow_pos (n / 32)))
+      | inr early ↦ omega (
+        arith,
+        decayed_early a n early,
+        decayed_early b n early,
+        decayed_early
+            (a + b) n early,
+        scaled_sum (2 ^ (n / 32)) (inverse_at (n % 32)) a b (pow_pos (n / 32)),
+      )
     ]
 
 pub decayed_mono : (a b n : ℕ) → a ≤ b → decayed a n ≤ decayed b n
 decayed_mono a b n le =
     elim (cases_lt 2016 n) [
       | inl late ↦ omega (arith, decayed_late a n late)
-      | inr early ↦ omega (arith, decayed_early a n early, decayed_early b n early, scaled_mono (2 ^ (n / 32)) (inverse_at (n % 32)) a b (pow_pos (n / 32)) le)
+      | inr early ↦ omega (
+        arith,
+        decayed_early a n early,
+        decayed_early b n early,
+        scaled_mono (2 ^ (n / 32))
+            (inverse_at (n % 32)) a b (pow_pos (n / 32)) le,
+      )
     ]
 
 pub decayed_times : (c a n : ℕ) → c * decayed a n ≤ decayed (c * a) n
 decayed_times c a n =
     elim (cases_lt 2016 n) [
       | inl late ↦ rw (decayed_late a n late) (omega arith)
-      | inr early ↦ rw (decayed_early a n early, decayed_early (c * a) n early) (scaled_times (2 ^ (n / 32)) (inverse_at (n % 32)) c a (pow_pos (n / 32)))
+      | inr early ↦ rw (decayed_early a n early, decayed_early (c * a) n early)
+          (scaled_times (2 ^ (n / 32)) (inverse_at (n % 32)) c a (pow_pos (n / 32)))
     ]
 
 -- ---- what a whole sum keeps, for each number of periods
@@ -119,6 +139,9 @@ room_from n some t =
 pub room : (n : ℕ) → 0 < n → HasRoom n
 room n some =
     elim (cases_lt 2016 n) [
-      | inl late ↦ record { sums = omega (arith, decayed_late (1024 * 47742 + 49152) n late); period = omega (arith, decayed_late 47742 n late) }
+      | inl late ↦ record {
+        sums = omega (arith, decayed_late (1024 * 47742 + 49152) n late);
+        period = omega (arith, decayed_late 47742 n late);
+      }
       | inr early ↦ room_from n some (agree_below_at room_test (λ _. true) 2017 n room_all (omega arith))
     ]

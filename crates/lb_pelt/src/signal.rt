@@ -38,7 +38,13 @@ impl Model for Signal {
 
     ghost view = { λ s. record { stamp = s.stamp; part = s.part; load_sum = s.load_sum; runnable_sum = s.runnable_sum; util_sum = s.util_sum } };
 
-    ghost invariant = { λ s. IsBounded (record { stamp = s.stamp; part = s.part; load_sum = s.load_sum; runnable_sum = s.runnable_sum; util_sum = s.util_sum }) };
+    ghost invariant = { λ s. IsBounded (record {
+      stamp = s.stamp;
+      part = s.part;
+      load_sum = s.load_sum;
+      runnable_sum = s.runnable_sum;
+      util_sum = s.util_sum;
+    }) };
 
     ghost inverse = { λ v. record { stamp = v.stamp; part = v.part; load_sum = v.load_sum; runnable_sum = v.runnable_sum; util_sum = v.util_sum } };
 }

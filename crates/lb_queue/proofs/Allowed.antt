@@ -45,36 +45,47 @@ one_may : (to : ℕ) (t : TaskRecord) → has t.mask to ≡ true → All (MayRun
 one_may to t h = All-cons (MayRun to) t [] h (All-nil (MayRun to))
 
 leave_may : (q : QueueState) (at id to : ℕ) → away q id ≡ Some to → All (MayRun to) (leave q at id).0
-leave_may q at id to a = leave_by (λ ts q'. All (MayRun to) ts) q at id (All-nil (MayRun to)) (λ t e. one_may to _ (leaves_there q id t to (sym e) a))
+leave_may q at id to a = leave_by (λ ts q'. All (MayRun to) ts) q at id (All-nil (MayRun to))
+    (λ t e. one_may to _ (leaves_there q id t to (sym e) a))
 
 stop_may : (q : QueueState) (at id to : ℕ) → stop_to q id ≡ Some to → All (MayRun to) (take_stop q at id).0
-stop_may q at id to s = stop_by (λ ts q'. All (MayRun to) ts) q at id (All-nil (MayRun to)) (λ a e. one_may to (set_down (clock_at q at) a) (stops_there q id (clock_at q at) (set_down (clock_at q at) a) to (ap (down_of (clock_at q at)) (sym e)) s))
+stop_may q at id to s = stop_by (λ ts q'. All (MayRun to) ts) q at id (All-nil (MayRun to))
+    (λ a e. one_may to (set_down (clock_at q at) a)
+    (stops_there q id (clock_at q at) (set_down (clock_at q at) a) to (ap (down_of (clock_at q at)) (sym e)) s))
 
 push_may : (q : QueueState) (at to : ℕ) → AreDistinct q → All (MayRun to) (take_push q at to).0
 unfolding views
 push_may q at to one = push_by (λ ts q'. All (MayRun to) ts) q at to (All-nil (MayRun to)) goes
   where
-    goes : (id : ℕ) (a : Awake) → pick_of (views q at) to ≡ Some id → awake_with id q.awake ≡ Some a → All (MayRun to) (set_down (clock_at q at) a ∷ [])
-    goes id a f e = one_may to (set_down (clock_at q at) a) (pushed_there to (clock_at q at) (clock_at q at) q.awake id (Some (set_down (clock_at q at) a)) one.awake (sym f) (ap (down_of (clock_at q at)) (sym e)))
+    goes : (id : ℕ) (a : Awake) → pick_of (views q at) to ≡ Some id → awake_with id q.awake ≡ Some a
+        → All (MayRun to) (set_down (clock_at q at) a ∷ [])
+    goes id a f e = one_may to (set_down (clock_at q at) a)
+        (pushed_there to (clock_at q at) (clock_at q at) q.awake id (Some (set_down (clock_at q at) a)) one.awake
+        (sym f) (ap (down_of (clock_at q at)) (sym e)))
 
-down_may : (to clock id : ℕ) (xs : List Awake) (o : Option Awake) (ts : List Awake) → awake_with id xs ≡ o → IsSomeAnd o (CanGo to) → All (MayRun to) (map (set_down clock) ts) → All (MayRun to) (map (set_down clock) (cons_option o ts))
+down_may : (to clock id : ℕ) (xs : List Awake) (o : Option Awake) (ts : List Awake) → awake_with id xs ≡ o
+    → IsSomeAnd o (CanGo to) → All (MayRun to) (map (set_down clock) ts) → All (MayRun to) (map (set_down clock) (cons_option o ts))
 down_may to clock id xs None ts e h k = absurd h
-down_may to clock id xs (Some a) ts e h k = All-cons (MayRun to) (set_down clock a) (map (set_down clock) ts) (rw (down_mask clock a a.running refl) h.may_run) k
+down_may to clock id xs (Some a) ts e h k =
+    All-cons (MayRun to) (set_down clock a) (map (set_down clock) ts) (rw (down_mask clock a a.running refl) h.may_run) k
 
 all_may : (to clock : ℕ) (is : List ℕ) (xs : List Awake) → AllCanGo to xs is → All (MayRun to) (map (set_down clock) (in_order is xs))
 unfolding in_order
 all_may to clock [] xs h = All-nil (MayRun to)
 all_may to clock (id ∷ is) xs h =
     let P = λ (i : ℕ). IsSomeAnd (awake_with i xs) (CanGo to) in
-    down_may to clock id xs (awake_with id xs) (filter_map (λ i. awake_with i xs) is) refl (All-head P id is h) (all_may to clock is xs (All-tail P id is h))
+    down_may to clock id xs (awake_with id xs) (filter_map (λ i. awake_with i xs) is) refl (All-head P id is h)
+    (all_may to clock is xs (All-tail P id is h))
 
 pull_may : PicksSoundly → (q : QueueState) (at : ℕ) (env : Env) → AreDistinct q → All (MayRun env.to) (pull q at env).0
 unfolding pull views
 pull_may picks q at env one =
     let now = clock_at q at in
-    all_may env.to now (picked_ids env (map (view_at now) q.awake)) q.awake (picked_can_go env now q.awake one.awake (picks env (map (view_at now) q.awake)))
+    all_may env.to now (picked_ids env (map (view_at now) q.awake)) q.awake
+    (picked_can_go env now q.awake one.awake (picks env (map (view_at now) q.awake)))
 
-pub taken_may_run : PicksSoundly → (q : QueueState) → AreDistinct q → (call : Call) → May q call → All (λ t. has t.mask (goes_to call) ≡ true) (taken_along q call)
+pub taken_may_run : PicksSoundly → (q : QueueState) → AreDistinct q → (call : Call) → May q call
+    → All (λ t. has t.mask (goes_to call) ≡ true) (taken_along q call)
 taken_may_run picks q one (Leave at id to) m = leave_may q at id to m
 taken_may_run picks q one (TakeStop at id to) m = stop_may q at id to m
 taken_may_run picks q one (TakePush at to) m = push_may q at to one
@@ -106,10 +117,14 @@ least_exists owed d xs zero le = (None, refl)
 least_exists owed d xs (suc i) le =
     let r = least_exists owed d xs i (omega arith) in
     let a = get_or xs i d in
-    let o : Option ℕ = cond (asks owed a) (Some (min (unwrap_or r.0 a.task.id) a.task.id)) r.0 in
-    (o, subst (λ (n : ℕ). IsLeastAsked owed (take n xs) o) (add-one i) (least_more owed xs i r.0 o a le (get_or_default xs i d a le) refl r.1))
+    let o : Option ℕ = cond (asks owed a) (Some (min (unwrap_or r.0 a.task.id) a.task.id)) r.0 in (
+      o,
+      subst (λ (n : ℕ). IsLeastAsked owed (take n xs) o) (add-one i)
+          (least_more owed xs i r.0 o a le (get_or_default xs i d a le) refl r.1),
+    )
 
-next_by : (owed : Bool) (xs : List Awake) (o : Option ℕ) → IsLeastAsked owed xs o → list_any (asks owed) xs ≡ true → (a : Awake) × (next_asked owed xs ≡ Some a)
+next_by : (owed : Bool) (xs : List Awake) (o : Option ℕ) → IsLeastAsked owed xs o → list_any (asks owed) xs ≡ true
+    → (a : Awake) × (next_asked owed xs ≡ Some a)
 unfolding next_asked
 next_by owed xs None h any = absurd (let y : ⊥ = cc in y)
 next_by owed xs (Some id) h any =
@@ -120,7 +135,8 @@ next_by owed xs (Some id) h any =
 
 next_exists : (owed : Bool) (xs : List Awake) → list_any (asks owed) xs ≡ true → (a : Awake) × (next_asked owed xs ≡ Some a)
 next_exists owed [] h = absurd (let y : ⊥ = cc in y)
-next_exists owed (x ∷ xs) h = let r = least_exists owed x (x ∷ xs) (length (x ∷ xs)) (omega arith) in next_by owed (x ∷ xs) r.0 (least_all owed (x ∷ xs) (length (x ∷ xs)) r.0 (omega arith) r.1) h
+next_exists owed (x ∷ xs) h = let r = least_exists owed x (x ∷ xs) (length (x ∷ xs)) (omega arith) in
+    next_by owed (x ∷ xs) r.0 (least_all owed (x ∷ xs) (length (x ∷ xs)) r.0 (omega arith) r.1) h
 
 next_where : (q : QueueState) (owed : Bool) → is_some (next_stop q owed) ≡ list_any (asks owed) q.awake
 unfolding next_asked
@@ -144,7 +160,9 @@ not_empty : (o : Option ℕ) → not (is_none o) ≡ true → is_some o ≡ true
 not_empty None h = absurd (let k : ⊥ = cc in k)
 not_empty (Some c) h = refl
 
-pub next_may_be_taken : (q : QueueState) → AreDistinct q → list_all (λ (a : Awake). not (is_empty a.task.mask)) q.awake ≡ true → (owed : Bool) → IfSome (next_stop q owed) (λ s. stop_to q s.id ≡ Some s.to)
+pub next_may_be_taken : (q : QueueState) → AreDistinct q
+    → list_all (λ (a : Awake). not (is_empty a.task.mask)) q.awake ≡ true → (owed : Bool)
+    → IfSome (next_stop q owed) (λ s. stop_to q s.id ≡ Some s.to)
 unfolding next_asked
 next_may_be_taken q one masks owed = by (find (is_next_asked owed q.awake) q.awake) refl
   where
@@ -157,9 +175,11 @@ next_may_be_taken q one masks owed = by (find (is_next_asked owed q.awake) q.awa
 
     here : (a : Awake) → find (is_next_asked owed q.awake) q.awake ≡ Some a → awake_with a.task.id q.awake ≡ Some a
     here a e =
-        let b = passes_found (is_next_asked owed q.awake) (λ (x : Awake). x.task.id == a.task.id) q.awake a e (eq-eqb a.task.id a.task.id refl) in
+        let b = passes_found (is_next_asked owed q.awake) (λ (x : Awake). x.task.id == a.task.id) q.awake a e
+        (eq-eqb a.task.id a.task.id refl) in
         let n = eqb-true b.0.task.id a.task.id (found (λ (x : Awake). x.task.id == a.task.id) key q.awake b.0 b.1).passes in
-        let same : b.0 ≡ a = same_found (λ (x : Awake). x.task.id == a.task.id) (is_next_asked owed q.awake) key q.awake b.0 a b.1 e n (one.awake b.0.task.id) in
+        let same : b.0 ≡ a = same_found (λ (x : Awake). x.task.id == a.task.id)
+        (is_next_asked owed q.awake) key q.awake b.0 a b.1 e n (one.awake b.0.task.id) in
         b.1 ∙ ap Some same
 
     by : (o : Option Awake) → find (is_next_asked owed q.awake) q.awake ≡ o → IfSome (stop_of o) (λ s. stop_to q s.id ≡ Some s.to)

@@ -38,20 +38,28 @@ use Rattle.lb_queue.proofs.Taking.{waits_out, without_more, found_without, once_
 use Rattle.lb_queue.proofs.Ticking.{sound_ticked}
 
 -- ---- a task is declared
-pub declare_sound : (q : QueueState) (id : ℕ) (nice : ℤ) (mask : Mask) → IsNew q id nice mask → Keeps q → SoundQueue (declared (new_task id nice mask) q)
-declare_sound q id nice mask n h = sound_asleep q.cpu q.awake q.asleep q.gone (new_task id nice mask) n.numbered (unknown_where q id n.unknown) h.sound
+pub declare_sound : (q : QueueState) (id : ℕ) (nice : ℤ) (mask : Mask) → IsNew q id nice mask → Keeps q
+    → SoundQueue (declared (new_task id nice mask) q)
+declare_sound q id nice mask n h = sound_asleep q.cpu q.awake q.asleep q.gone (new_task id nice mask) n.numbered
+    (unknown_where q id n.unknown) h.sound
 
 -- ---- a task goes
 -- where a sleeping task was, no task of its id is known any more
-gone_up : (cpu id : ℕ) (awake : List Awake) (asleep gone : List TaskRecord) (t : TaskRecord) → task_with id asleep ≡ Some t → AreSound cpu awake asleep gone → stands awake (without_task t.id asleep) gone t.id ≡ 0
-gone_up cpu id awake asleep gone t e h = unknown_up cpu t.id awake asleep gone t (subst (λ (i : ℕ). task_with i asleep ≡ Some t) (sym (task_named id asleep t e)) e) h
+gone_up : (cpu id : ℕ) (awake : List Awake) (asleep gone : List TaskRecord) (t : TaskRecord)
+    → task_with id asleep ≡ Some t → AreSound cpu awake asleep gone → stands awake (without_task t.id asleep) gone t.id ≡ 0
+gone_up cpu id awake asleep gone t e h =
+    unknown_up cpu t.id awake asleep gone t (subst (λ (i : ℕ). task_with i asleep ≡ Some t) (sym (task_named id asleep t e)) e) h
 
-gone_out : (cpu clock id : ℕ) (awake : List Awake) (asleep gone : List TaskRecord) (a : Awake) → awake_with id awake ≡ Some a → AreSound cpu awake asleep gone → stands (left_by clock a awake) asleep gone (set_down clock a).id ≡ 0
-gone_out cpu clock id awake asleep gone a e h = subst (λ (i : ℕ). stands (left_by clock a awake) asleep gone i ≡ 0) (sym (set_down_keeps clock a)) (unknown_out cpu clock id awake asleep gone a e h)
+gone_out : (cpu clock id : ℕ) (awake : List Awake) (asleep gone : List TaskRecord) (a : Awake)
+    → awake_with id awake ≡ Some a → AreSound cpu awake asleep gone → stands (left_by clock a awake) asleep gone (set_down clock a).id ≡ 0
+gone_out cpu clock id awake asleep gone a e h =
+    subst (λ (i : ℕ). stands (left_by clock a awake) asleep gone i ≡ 0) (sym (set_down_keeps clock a))
+    (unknown_out cpu clock id awake asleep gone a e h)
 
 -- an awake task that was put down keeps its id's bound
 low_down : (q : QueueState) (clock id : ℕ) (a : Awake) → awake_with id q.awake ≡ Some a → Keeps q → (set_down clock a).id < id_limit
-low_down q clock id a e h = subst (λ (i : ℕ). i < id_limit) (sym (set_down_keeps clock a)) (found_all IsUp (λ x. x.task.id == id) q.awake a h.up e).numbered
+low_down q clock id a e h = subst (λ (i : ℕ). i < id_limit) (sym (set_down_keeps clock a))
+    (found_all IsUp (λ x. x.task.id == id) q.awake a h.up e).numbered
 
 module _ (q : QueueState) (h : Keeps q) where
   refuses : (at : ℕ) → Refuses (λ r q'. SoundQueue q') q at
@@ -61,7 +69,9 @@ module _ (q : QueueState) (h : Keeps q) where
   pub wake_sound : (at id : ℕ) → away q id ≡ None → SoundQueue (wake q at id).1
   wake_sound at id here = wake_by (λ r q'. SoundQueue q') q at id (refuses at) (λ t e.
       let k = found_all IsTask (λ x. x.id == id) q.asleep t h.down e in
-      sound_in q.cpu (clock_at q at) q.awake (without_task t.id q.asleep) q.gone (advanced_task Asleep (clock_at q at) t) k.numbered (gone_up q.cpu id q.awake q.asleep q.gone t e h.sound) (wakes_here q id t (sym e) here k.somewhere) (sound_up q.cpu t.id q.awake q.asleep q.gone h.sound))
+      sound_in q.cpu (clock_at q at) q.awake (without_task t.id q.asleep) q.gone
+      (advanced_task Asleep (clock_at q at) t) k.numbered (gone_up q.cpu id q.awake q.asleep q.gone t e h.sound)
+      (wakes_here q id t (sym e) here k.somewhere) (sound_up q.cpu t.id q.awake q.asleep q.gone h.sound))
 
   pub leave_sound : (at id : ℕ) → SoundQueue (leave q at id).1
   leave_sound at id = leave_by (λ ts q'. SoundQueue q') q at id h.sound (λ t e. sound_up q.cpu t.id q.awake q.asleep q.gone h.sound)
@@ -69,20 +79,24 @@ module _ (q : QueueState) (h : Keeps q) where
   pub sleep_sound : (at id : ℕ) → SoundQueue (sleep q at id).1
   sleep_sound at id = sleep_by (λ r q'. SoundQueue q') q at id (refuses at) (λ a e.
       let clock = clock_at q at in
-      sound_asleep q.cpu (left_by clock a q.awake) q.asleep q.gone (set_down clock a) (low_down q clock id a e h) (gone_out q.cpu clock id q.awake q.asleep q.gone a e h.sound) (sound_out q.cpu clock id q.awake q.asleep q.gone a e h.sound))
+      sound_asleep q.cpu (left_by clock a q.awake) q.asleep q.gone (set_down clock a) (low_down q clock id a e h)
+      (gone_out q.cpu clock id q.awake q.asleep q.gone a e h.sound) (sound_out q.cpu clock id q.awake q.asleep q.gone a e h.sound))
 
   pub exit_sound : (at id : ℕ) → SoundQueue (exit q at id).1
   exit_sound at id = exit_by (λ r q'. SoundQueue q') q at id (refuses at)
       (λ a e.
       let clock = clock_at q at in
-      sound_gone q.cpu (left_by clock a q.awake) q.asleep q.gone (set_down clock a) (low_down q clock id a e h) (gone_out q.cpu clock id q.awake q.asleep q.gone a e h.sound) (sound_out q.cpu clock id q.awake q.asleep q.gone a e h.sound))
+      sound_gone q.cpu (left_by clock a q.awake) q.asleep q.gone (set_down clock a) (low_down q clock id a e h)
+      (gone_out q.cpu clock id q.awake q.asleep q.gone a e h.sound) (sound_out q.cpu clock id q.awake q.asleep q.gone a e h.sound))
       (λ t n e.
       let k = found_all IsTask (λ x. x.id == id) q.asleep t h.down e in
-      sound_gone q.cpu q.awake (without_task t.id q.asleep) q.gone t k.numbered (gone_up q.cpu id q.awake q.asleep q.gone t e h.sound) (sound_up q.cpu t.id q.awake q.asleep q.gone h.sound))
+      sound_gone q.cpu q.awake (without_task t.id q.asleep) q.gone t k.numbered
+      (gone_up q.cpu id q.awake q.asleep q.gone t e h.sound) (sound_up q.cpu t.id q.awake q.asleep q.gone h.sound))
 
   pub mask_sound : (at id : ℕ) (mask : Mask) → SoundQueue (set_mask q at id mask).1
   mask_sound at id mask = mask_by (λ r q'. SoundQueue q') q at id mask (refuses at)
-      (λ good. sound_map q.cpu _ q.awake q.asleep q.gone (masked_key q.cpu id mask) (masked_running q.cpu id mask) (masked_asked q.cpu id mask) h.sound)
+      (λ good. sound_map q.cpu _ q.awake q.asleep q.gone (masked_key q.cpu id mask) (masked_running q.cpu id mask)
+      (masked_asked q.cpu id mask) h.sound)
       (λ good. sound_tasks q.cpu _ q.awake q.asleep q.gone (mask_name id mask) h.sound)
 
   pub nice_sound : (at id : ℕ) (nice : ℤ) → SoundQueue (renice q at id nice).1
@@ -96,54 +110,72 @@ module _ (q : QueueState) (h : Keeps q) where
 
   -- ---- hands
   pub stop_sound : (at id : ℕ) → SoundQueue (take_stop q at id).1
-  stop_sound at id = stop_by (λ ts q'. SoundQueue q') q at id h.sound (λ a e. sound_out q.cpu (clock_at q at) id q.awake q.asleep q.gone a e h.sound)
+  stop_sound at id = stop_by (λ ts q'. SoundQueue q') q at id h.sound
+      (λ a e. sound_out q.cpu (clock_at q at) id q.awake q.asleep q.gone a e h.sound)
 
   pub push_sound : (at to : ℕ) → SoundQueue (take_push q at to).1
-  push_sound at to = push_by (λ ts q'. SoundQueue q') q at to h.sound (λ id a f e. sound_out q.cpu (clock_at q at) id q.awake q.asleep q.gone a e h.sound)
+  push_sound at to = push_by (λ ts q'. SoundQueue q') q at to h.sound
+      (λ id a f e. sound_out q.cpu (clock_at q at) id q.awake q.asleep q.gone a e h.sound)
 
-land_all : (cpu clock : ℕ) (ts : List TaskRecord) (awake : List Awake) (asleep gone : List TaskRecord) → ((u : ℕ) → occurs u (ids ts) ≤ 1) → ((u : ℕ) → 1 ≤ occurs u (ids ts) → stands awake asleep gone u ≡ 0) → list_all (λ t. has t.mask cpu) ts ≡ true → All IsTask ts →
+land_all : (cpu clock : ℕ) (ts : List TaskRecord) (awake : List Awake) (asleep gone : List TaskRecord)
+    → ((u : ℕ) → occurs u (ids ts) ≤ 1) → ((u : ℕ) → 1 ≤ occurs u (ids ts) → stands awake asleep gone u ≡ 0)
+    → list_all (λ t. has t.mask cpu) ts ≡ true → All IsTask ts →
     AreSound cpu awake asleep gone → AreSound cpu (all_joined clock ts awake) asleep gone
 land_all cpu clock [] awake asleep gone one new m k h = h
 land_all cpu clock (t ∷ ts) awake asleep gone one new m k h =
     let p = and_parts (has t.mask cpu) (list_all (λ x. has x.mask cpu) ts) m in
     let z : cond {A = ℕ} (eqb t.id t.id) 1 0 ≡ 1 = cond-true {A = ℕ} (eqb t.id t.id) 1 0 (eq-eqb t.id t.id refl) in
     land_all cpu clock ts (joined clock t awake) asleep gone (λ u. let o = one u in omega arith)
-    (λ u some. let o = one u in let n = new u (omega arith) in let j = joined_ids clock t awake u in omega arith) p.1 (All-tail IsTask t ts k)
+    (λ u some. let o = one u in let n = new u (omega arith) in let j = joined_ids clock t awake u in omega arith) p.1
+    (All-tail IsTask t ts k)
     (sound_in cpu clock awake asleep gone t (All-head IsTask t ts k).numbered (new t.id (omega arith)) p.0 h)
 
-pub land_sound : (q : QueueState) (at : ℕ) (cause : OutCause) (moment : ℕ) (ts : List TaskRecord) → CanLand q ts → Keeps q → SoundQueue (land q at cause moment ts)
+pub land_sound : (q : QueueState) (at : ℕ) (cause : OutCause) (moment : ℕ) (ts : List TaskRecord) → CanLand q ts
+    → Keeps q → SoundQueue (land q at cause moment ts)
 land_sound q at cause moment ts c h = land_by (λ xs q'. CanLand q xs → SoundQueue q') q at cause moment ts (λ c. h.sound)
-    (λ t xs e c. land_all q.cpu (clock_at q (max at moment)) (t ∷ xs) q.awake q.asleep q.gone c.differ (unknown_each q (t ∷ xs) c.unknown) c.permitted c.each h.sound) c
+    (λ t xs e c. land_all q.cpu (clock_at q (max at moment)) (t ∷ xs) q.awake q.asleep q.gone c.differ
+    (unknown_each q (t ∷ xs) c.unknown) c.permitted c.each h.sound) c
 
 -- ---- a pull
 -- a waiting task has left the list
-wait_keeps : (cpu to id : ℕ) (awake : List Awake) (asleep gone : List TaskRecord) (o : Option Awake) → awake_with id awake ≡ o → IsSomeAnd o (CanGo to) → AreSound cpu awake asleep gone → AreSound cpu (without_awake id awake) asleep gone
+wait_keeps : (cpu to id : ℕ) (awake : List Awake) (asleep gone : List TaskRecord) (o : Option Awake)
+    → awake_with id awake ≡ o → IsSomeAnd o (CanGo to) → AreSound cpu awake asleep gone → AreSound cpu (without_awake id awake) asleep gone
 wait_keeps cpu to id awake asleep gone None e go h = absurd go
 wait_keeps cpu to id awake asleep gone (Some a) e go h =
-    let left : left_by 0 a awake ≡ without_awake id awake = sym (ap (λ (o : Option Awake). left_of 0 o awake) e) ∙ waits_out to 0 id awake (subst (λ (o : Option Awake). IsSomeAnd o (CanGo to)) (sym e) go) in
+    let left : left_by 0 a awake ≡ without_awake id awake =
+    sym (ap (λ (o : Option Awake). left_of 0 o awake) e)
+    ∙ waits_out to 0 id awake (subst (λ (o : Option Awake). IsSomeAnd o (CanGo to)) (sym e) go) in
     subst (λ (xs : List Awake). AreSound cpu xs asleep gone) left (sound_out cpu 0 id awake asleep gone a e h)
 
 -- the first of some waiting tasks have left it
-some_keep : (cpu to : ℕ) (is : List ℕ) (awake : List Awake) (asleep gone : List TaskRecord) → ((u : ℕ) → occurs u is ≤ 1) → AllCanGo to awake is → AreSound cpu awake asleep gone → (n : ℕ) → n ≤ length is → AreSound cpu (without_all (take n is) awake) asleep gone
+some_keep : (cpu to : ℕ) (is : List ℕ) (awake : List Awake) (asleep gone : List TaskRecord)
+    → ((u : ℕ) → occurs u is ≤ 1) → AllCanGo to awake is → AreSound cpu awake asleep gone → (n : ℕ) → n ≤ length is
+    → AreSound cpu (without_all (take n is) awake) asleep gone
 some_keep cpu to is awake asleep gone one go h zero le = subst (λ (xs : List Awake). AreSound cpu xs asleep gone) (sym (filter_all awake)) h
 some_keep cpu to is awake asleep gone one go h (suc n) le =
     let id = get_or is n 0 in
     let lt : n < length is = omega arith in
     let front : take n is ++ id ∷ [] ≡ take (suc n) is = sym (take_more is n 0 lt) ∙ ap (λ (k : ℕ). take k is) (add-one n) in
     let before = without_all (take n is) awake in
-    let there : awake_with id before ≡ awake_with id awake = found_without (take n is) id awake (first_of (take n is) id (once_next is n one lt)) in
+    let there : awake_with id before ≡ awake_with id awake =
+    found_without (take n is) id awake (first_of (take n is) id (once_next is n one lt)) in
     let goes : IsSomeAnd (awake_with id before) (CanGo to) = subst (λ (o : Option Awake). IsSomeAnd o (CanGo to)) (sym there) (go n 0 lt) in
-    let left = wait_keeps cpu to id before asleep gone (awake_with id before) refl goes (some_keep cpu to is awake asleep gone one go h n (omega arith)) in
-    subst (λ (xs : List Awake). AreSound cpu xs asleep gone) (without_more (take n is) id awake ∙ ap (λ (js : List ℕ). without_all js awake) front) left
+    let left = wait_keeps cpu to id before asleep gone (awake_with id before) refl goes
+    (some_keep cpu to is awake asleep gone one go h n (omega arith)) in
+    subst (λ (xs : List Awake). AreSound cpu xs asleep gone)
+    (without_more (take n is) id awake ∙ ap (λ (js : List ℕ). without_all js awake) front) left
 
 -- the picked tasks have left it
-pulled_sound : (cpu now : ℕ) (env : Env) (awake : List Awake) (asleep gone : List TaskRecord) → IsSound env (map (view_at now) awake) → AreSound cpu awake asleep gone → AreSound cpu (without_all (picked_ids env (map (view_at now) awake)) awake) asleep gone
+pulled_sound : (cpu now : ℕ) (env : Env) (awake : List Awake) (asleep gone : List TaskRecord)
+    → IsSound env (map (view_at now) awake) → AreSound cpu awake asleep gone
+    → AreSound cpu (without_all (picked_ids env (map (view_at now) awake)) awake) asleep gone
 pulled_sound cpu now env awake asleep gone s h =
     let one = once_turned awake asleep gone h in
     let is = picked_ids env (map (view_at now) awake) in
     let all : take (length is) is ≡ is = take_all (length is) is (omega arith) in
     subst (λ (js : List ℕ). AreSound cpu (without_all js awake) asleep gone) all
-    (some_keep cpu env.to is awake asleep gone (picked_once env now awake one) (picked_can_go env now awake one s) h (length is) (omega arith))
+    (some_keep cpu env.to is awake asleep gone (picked_once env now awake one) (picked_can_go env now awake one s) h
+    (length is) (omega arith))
 
 pub pull_sound : (q : QueueState) (at : ℕ) (env : Env) → IsSound env (views q at) → Keeps q → SoundQueue (pull q at env).1
 unfolding pull views

@@ -9,9 +9,11 @@ use Rattle.lb_queue.specs.Tasks.{occurs}
 use Rattle.lb_queue.proofs.Counts.{occurs-without}
 use Rattle.lb_queue.proofs.Search.{others, others-none}
 
-taken_step : {X : Type 0} (w f : X → ℕ) (id : ℕ) (x a : X) (xs : List X) (b : Bool) → eqb (f x) id ≡ b → cond (eqb (f x) id) 1 0 + occurs id (map f xs) ≤ 1 →
+taken_step : {X : Type 0} (w f : X → ℕ) (id : ℕ) (x a : X) (xs : List X) (b : Bool) → eqb (f x) id ≡ b
+    → cond (eqb (f x) id) 1 0 + occurs id (map f xs) ≤ 1 →
     (occurs id (map f xs) ≤ 1 → find (λ y. f y == id) xs ≡ Some a → sum_by w (others f id xs) + w a ≡ sum_by w xs) →
-    cond b (Some x) (find (λ y. f y == id) xs) ≡ Some a → sum_by w (cond (not b) (x ∷ others f id xs) (others f id xs)) + w a ≡ w x + sum_by w xs
+    cond b (Some x) (find (λ y. f y == id) xs) ≡ Some a
+    → sum_by w (cond (not b) (x ∷ others f id xs) (others f id xs)) + w a ≡ w x + sum_by w xs
 taken_step w f id x a xs true e one later h =
     let k : cond {A = ℕ} (eqb (f x) id) 1 0 ≡ 1 = cond-true {A = ℕ} (eqb (f x) id) 1 0 e in
     let z : x ≡ a = cc in
@@ -20,7 +22,8 @@ taken_step w f id x a xs true e one later h =
     omega arith
 taken_step w f id x a xs false e one later h = let k = later (omega arith) h in let c = sum_by-cons w x (others f id xs) in omega arith
 
-pub sum_others : {X : Type 0} (w f : X → ℕ) (id : ℕ) (xs : List X) (a : X) → occurs id (map f xs) ≤ 1 → find (λ x. f x == id) xs ≡ Some a → sum_by w (others f id xs) + w a ≡ sum_by w xs
+pub sum_others : {X : Type 0} (w f : X → ℕ) (id : ℕ) (xs : List X) (a : X) → occurs id (map f xs) ≤ 1
+    → find (λ x. f x == id) xs ≡ Some a → sum_by w (others f id xs) + w a ≡ sum_by w xs
 sum_others w f id [] a one h = absurd (let z : ⊥ = cc in z)
 sum_others w f id (x ∷ xs) a one h = taken_step w f id x a xs (f x == id) refl one (sum_others w f id xs a) h ∙ sym (sum_by-cons w x xs)
 
@@ -61,11 +64,14 @@ pub length_below : (n : ℕ) (xs : List ℕ) → ((u : ℕ) → occurs u xs ≤ 
 length_below zero xs one high = no_numbers xs (λ u. high u (omega arith))
 length_below (suc n) xs one high =
     let rest = others (λ x. x) n xs in
-    let without : (u : ℕ) → occurs u rest ≡ cond (u == n) 0 (occurs u xs) = λ u. ap (occurs u) (sym (map_same rest)) ∙ occurs-without (λ x. x) n u xs ∙ ap (λ ys. cond {A = ℕ} (u == n) 0 (occurs u ys)) (map_same xs) in
+    let without : (u : ℕ) → occurs u rest ≡ cond (u == n) 0 (occurs u xs) =
+    λ u. ap (occurs u) (sym (map_same rest)) ∙ occurs-without (λ x. x) n u xs
+    ∙ ap (λ ys. cond {A = ℕ} (u == n) 0 (occurs u ys)) (map_same xs) in
     let l = length_others n xs in
     let s = ap (occurs n) (map_same xs) in
     let k = one n in
-    let ih = length_below n rest (λ u. at_most (u == n) (occurs u xs) _ (without u) (one u)) (λ u h. at_high u n (occurs u xs) _ (without u) (high u) h) in
+    let ih = length_below n rest (λ u. at_most (u == n) (occurs u xs) _ (without u) (one u))
+    (λ u h. at_high u n (occurs u xs) _ (without u) (high u) h) in
     omega arith
   where
     at_most : (b : Bool) (o r : ℕ) → r ≡ cond b 0 o → o ≤ 1 → r ≤ 1

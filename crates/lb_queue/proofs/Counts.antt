@@ -17,7 +17,8 @@ map-append' : {X : Type 0} (f : X → ℕ) (xs ys : List X) → map f (xs ++ ys)
 map-append' f [] ys = refl
 map-append' f (x ∷ xs) ys = ap (λ (zs : List ℕ). f x ∷ zs) (map-append' f xs ys)
 
-pub occurs-map_append : {X : Type 0} (f : X → ℕ) (t : ℕ) (xs ys : List X) → occurs t (map f (xs ++ ys)) ≡ occurs t (map f xs) + occurs t (map f ys)
+pub occurs-map_append : {X : Type 0} (f : X → ℕ) (t : ℕ) (xs ys : List X)
+    → occurs t (map f (xs ++ ys)) ≡ occurs t (map f xs) + occurs t (map f ys)
 occurs-map_append f t xs ys = ap (occurs t) (map-append' f xs ys) ∙ occurs-append t (map f xs) (map f ys)
 
 pub occurs-reverse : {X : Type 0} (f : X → ℕ) (t : ℕ) (xs : List X) → occurs t (map f (reverse xs)) ≡ occurs t (map f xs)
@@ -33,7 +34,8 @@ occurs-reverse f t (x ∷ xs) =
 num_true : (fx id t r r' : ℕ) → eqb fx id ≡ true → r' ≡ cond (eqb t id) 0 r → r' ≡ cond (eqb t id) 0 (cond (eqb fx t) 1 0 + r)
 num_true fx id t r r' h e = grind (arith, nat_tests)
 
-num_false : (fx id t r r' : ℕ) → eqb fx id ≡ false → r' ≡ cond (eqb t id) 0 r → cond (eqb fx t) 1 0 + r' ≡ cond (eqb t id) 0 (cond (eqb fx t) 1 0 + r)
+num_false : (fx id t r r' : ℕ) → eqb fx id ≡ false → r' ≡ cond (eqb t id) 0 r
+    → cond (eqb fx t) 1 0 + r' ≡ cond (eqb t id) 0 (cond (eqb fx t) 1 0 + r)
 num_false fx id t r r' h e = grind (arith, nat_tests)
 
 without_step : {X : Type 0} (f : X → ℕ) (id t : ℕ) (x : X) (rest rest' : List X) (b : Bool) → eqb (f x) id ≡ b →
@@ -42,7 +44,8 @@ without_step : {X : Type 0} (f : X → ℕ) (id t : ℕ) (x : X) (rest rest' : L
 without_step f id t x rest rest' true h e = num_true (f x) id t _ _ h e
 without_step f id t x rest rest' false h e = num_false (f x) id t _ _ h e
 
-pub occurs-without : {X : Type 0} (f : X → ℕ) (id : ℕ) (t : ℕ) (xs : List X) → occurs t (map f (filter (λ x. not (f x == id)) xs)) ≡ cond (t == id) 0 (occurs t (map f xs))
+pub occurs-without : {X : Type 0} (f : X → ℕ) (id : ℕ) (t : ℕ) (xs : List X)
+    → occurs t (map f (filter (λ x. not (f x == id)) xs)) ≡ cond (t == id) 0 (occurs t (map f xs))
 occurs-without f id t [] = cond_both (t == id) 0 0 (λ v. 0 ≡ v) (λ _. refl) (λ _. refl)
 occurs-without f id t (x ∷ xs) = without_step f id t x xs (filter (λ y. not (f y == id)) xs) (f x == id) refl (occurs-without f id t xs)
 
@@ -55,9 +58,14 @@ found_later : {X : Type 0} (p : X → Bool) (f : X → ℕ) (x : X) (xs : List X
 found_later p f x xs a h = record { passes = h.passes; there = let k = h.there in omega arith }
 
 found_here : {X : Type 0} (p : X → Bool) (f : X → ℕ) (x : X) (xs : List X) → p x ≡ true → IsFound p f (x ∷ xs) x
-found_here p f x xs h = record { passes = h; there = let k : cond {A = ℕ} (eqb (f x) (f x)) 1 0 ≡ 1 = cond-true {A = ℕ} (eqb (f x) (f x)) 1 0 (eq-eqb (f x) (f x) refl) in omega arith }
+found_here p f x xs h = record {
+  passes = h;
+  there = let k : cond {A = ℕ} (eqb (f x) (f x)) 1 0 ≡ 1 =
+      cond-true {A = ℕ} (eqb (f x) (f x)) 1 0 (eq-eqb (f x) (f x) refl) in omega arith;
+}
 
-found_step : {X : Type 0} (p : X → Bool) (f : X → ℕ) (x : X) (xs : List X) (a : X) (b : Bool) → p x ≡ b → (find p xs ≡ Some a → IsFound p f xs a) → cond b (Some x) (find p xs) ≡ Some a → IsFound p f (x ∷ xs) a
+found_step : {X : Type 0} (p : X → Bool) (f : X → ℕ) (x : X) (xs : List X) (a : X) (b : Bool) → p x ≡ b
+    → (find p xs ≡ Some a → IsFound p f xs a) → cond b (Some x) (find p xs) ≡ Some a → IsFound p f (x ∷ xs) a
 found_step p f x xs a true h later e = let k : x ≡ a = cc in subst (λ y. IsFound p f (x ∷ xs) y) k (found_here p f x xs h)
 found_step p f x xs a false h later e = found_later p f x xs a (later e)
 
@@ -65,7 +73,9 @@ pub found : {X : Type 0} (p : X → Bool) (f : X → ℕ) (xs : List X) (a : X) 
 found p f [] a e = absurd (let k : ⊥ = cc in k)
 found p f (x ∷ xs) a e = found_step p f x xs a (p x) refl (found p f xs a) e
 
-none_step : {X : Type 0} (f : X → ℕ) (id : ℕ) (x : X) (xs : List X) (b : Bool) → eqb (f x) id ≡ b → (find (λ y. f y == id) xs ≡ None → occurs id (map f xs) ≡ 0) → cond b (Some x) (find (λ y. f y == id) xs) ≡ None → cond (eqb (f x) id) 1 0 + occurs id (map f xs) ≡ 0
+none_step : {X : Type 0} (f : X → ℕ) (id : ℕ) (x : X) (xs : List X) (b : Bool) → eqb (f x) id ≡ b
+    → (find (λ y. f y == id) xs ≡ None → occurs id (map f xs) ≡ 0) → cond b (Some x) (find (λ y. f y == id) xs) ≡ None
+    → cond (eqb (f x) id) 1 0 + occurs id (map f xs) ≡ 0
 none_step f id x xs true h later e = absurd (let k : ⊥ = cc in k)
 none_step f id x xs false h later e = let k = later e in rw h (omega arith)
 
@@ -74,6 +84,7 @@ found_none f id [] e = refl
 found_none f id (x ∷ xs) e = none_step f id x xs (f x == id) refl (found_none f id xs) e
 
 -- ---- a map that keeps the key
-pub occurs-map : {X : Type 0} (f : X → ℕ) (g : X → X) (same : (x : X) → f (g x) ≡ f x) (t : ℕ) (xs : List X) → occurs t (map f (map g xs)) ≡ occurs t (map f xs)
+pub occurs-map : {X : Type 0} (f : X → ℕ) (g : X → X) (same : (x : X) → f (g x) ≡ f x) (t : ℕ) (xs : List X)
+    → occurs t (map f (map g xs)) ≡ occurs t (map f xs)
 occurs-map f g same t [] = refl
 occurs-map f g same t (x ∷ xs) = let h = occurs-map f g same t xs in rw (same x, h) refl

@@ -23,17 +23,20 @@ mapped_at f zero xs d = refl
 mapped_at f (suc i) [] d = refl
 mapped_at f (suc i) (x ∷ xs) d = mapped_at f i xs d
 
-set_step : {X : Type 0} (f : X → X) (i : ℕ) (xs : List X) (d : X) → i < length xs → set (mapped f i xs) i (f (get_or xs i d)) ≡ mapped f (suc i) xs
+set_step : {X : Type 0} (f : X → X) (i : ℕ) (xs : List X) (d : X) → i < length xs
+    → set (mapped f i xs) i (f (get_or xs i d)) ≡ mapped f (suc i) xs
 set_step f i [] d h = absurd (omega arith)
 set_step f zero (x ∷ xs) d h = refl
 set_step f (suc i) (x ∷ xs) d h = ap (λ ys. f x ∷ ys) (set_step f i xs d (omega arith))
 
 -- one more element is changed
-pub mapped_set : {X : Type 0} (f : X → X) (i : ℕ) (xs : List X) (v d : X) → i < length xs → v ≡ f (get_or xs i d) → set (mapped f i xs) i v ≡ mapped f (i + 1) xs
+pub mapped_set : {X : Type 0} (f : X → X) (i : ℕ) (xs : List X) (v d : X) → i < length xs → v ≡ f (get_or xs i d)
+    → set (mapped f i xs) i v ≡ mapped f (i + 1) xs
 mapped_set f i xs v d h e = ap (set (mapped f i xs) i) e ∙ set_step f i xs d h ∙ ap (λ (n : ℕ). mapped f n xs) (sym (add-one i))
 
 -- the loop has come to its end
-pub mapped_done : {X : Type 0} (f : X → X) (before after : List X) (i m : ℕ) → after ≡ mapped f i before → length before ≤ i → m ≡ length before → take m (after ++ drop (length after) before) ≡ map f before
+pub mapped_done : {X : Type 0} (f : X → X) (before after : List X) (i m : ℕ) → after ≡ mapped f i before
+    → length before ≤ i → m ≡ length before → take m (after ++ drop (length after) before) ≡ map f before
 mapped_done f before after i m e far same =
     let all : after ≡ map f before = e ∙ mapped_all f i before far in
     let long : length after ≡ length before = ap length e ∙ mapped_length f i before in

@@ -13,13 +13,15 @@ filtered_step : (p h rest : Bool) → (cond h (p && rest) rest) ≡ ((not h || p
 filtered_step p true rest = refl
 filtered_step p false rest = refl
 
-pick : {X : Type 0} (p : X → Bool) (x : X) (xs : List X) (b : Bool) → list_all p (cond b (x ∷ xs) xs) ≡ cond b (p x && list_all p xs) (list_all p xs)
+pick : {X : Type 0} (p : X → Bool) (x : X) (xs : List X) (b : Bool)
+    → list_all p (cond b (x ∷ xs) xs) ≡ cond b (p x && list_all p xs) (list_all p xs)
 pick p x xs true = refl
 pick p x xs false = refl
 
 all_filtered : {X : Type 0} (p h : X → Bool) (xs : List X) → list_all p (filter h xs) ≡ list_all (λ x. not (h x) || p x) xs
 all_filtered p h [] = refl
-all_filtered p h (x ∷ xs) = pick p x (filter h xs) (h x) ∙ ap (λ (b : Bool). cond (h x) (p x && b) b) (all_filtered p h xs) ∙ filtered_step (p x) (h x) (list_all (λ y. not (h y) || p y) xs)
+all_filtered p h (x ∷ xs) = pick p x (filter h xs) (h x)
+    ∙ ap (λ (b : Bool). cond (h x) (p x && b) b) (all_filtered p h xs) ∙ filtered_step (p x) (h x) (list_all (λ y. not (h y) || p y) xs)
 
 unless : (h p : Bool) → (h ≡ true → p ≡ true) → (not h || p) ≡ true
 unless true p f = f refl
@@ -32,13 +34,16 @@ whenever false p f e = absurd (let z : ⊥ = cc in z)
 below_subset : (m of : Mask) (n : ℕ) → m.bits < 2 ^ 64 → ((k : ℕ) → has of k ≡ nat_lt k n) → is_below m n ≡ true → IsSubset m of
 unfolding is_below members members_below
 below_subset m of n fits e h k there = elim (cases_lt k 64) [
-  | inl low ↦ e k ∙ whenever (has m k) (nat_lt k n) (all_at (λ x. not (has m x) || nat_lt x n) 0 64 (sym (all_filtered (λ x. nat_lt x n) (has m) (range_with_len 0 64)) ∙ h) k (omega arith) (omega arith)) there
+  | inl low ↦ e k ∙ whenever (has m k) (nat_lt k n)
+      (all_at (λ x. not (has m x) || nat_lt x n) 0 64
+      (sym (all_filtered (λ x. nat_lt x n) (has m) (range_with_len 0 64)) ∙ h) k (omega arith) (omega arith)) there
   | inr high ↦ absurd (both_ways (has m k) (has_above m k fits high) there)
 ]
 
 subset_below : (m of : Mask) (n : ℕ) → ((k : ℕ) → has of k ≡ nat_lt k n) → IsSubset m of → is_below m n ≡ true
 unfolding is_below members members_below
-subset_below m of n e h = all_filtered (λ x. nat_lt x n) (has m) (range_with_len 0 64) ∙ all_of (λ x. not (has m x) || nat_lt x n) 0 64 (λ k lo hi. unless (has m k) (nat_lt k n) (λ there. sym (e k) ∙ h k there))
+subset_below m of n e h = all_filtered (λ x. nat_lt x n) (has m) (range_with_len 0 64)
+    ∙ all_of (λ x. not (has m x) || nat_lt x n) 0 64 (λ k lo hi. unless (has m k) (nat_lt k n) (λ there. sym (e k) ∙ h k there))
 
 from_both : (a b : Bool) → (a ≡ true → b ≡ true) → (b ≡ true → a ≡ true) → a ≡ b
 from_both true true f g = refl
@@ -47,7 +52,8 @@ from_both false true f g = absurd (let h : false ≡ true = g refl in let z : �
 from_both false false f g = refl
 
 -- the test by subsets is the definition's
-pub below_is : (m of : Mask) (n : ℕ) (b : Bool) → m.bits < 2 ^ 64 → ((k : ℕ) → has of k ≡ nat_lt k n) → (IsTrue b → IsSubset m of) → (IsSubset m of → IsTrue b) → b ≡ is_below m n
+pub below_is : (m of : Mask) (n : ℕ) (b : Bool) → m.bits < 2 ^ 64 → ((k : ℕ) → has of k ≡ nat_lt k n)
+    → (IsTrue b → IsSubset m of) → (IsSubset m of → IsTrue b) → b ≡ is_below m n
 below_is m of n b fits e f g = from_both b (is_below m n) (λ t. subset_below m of n e (f t)) (λ t. g (below_subset m of n fits e t))
 
 pub bad_by : (empty below b : Bool) → empty ≡ false → b ≡ below → not b ≡ (empty || not below)

@@ -26,7 +26,8 @@ pub wake_by : (P : Reply → QueueState → Type 0) (q : QueueState) (at id : �
 unfolding wake
 wake_by P q at id r done = by (task_with id q.asleep) refl (awake_with id q.awake) (task_with id q.gone)
   where
-    by : (t : Option TaskRecord) → task_with id q.asleep ≡ t → (a : Option Awake) (g : Option TaskRecord) → P (wakes q at t a g).0 (wakes q at t a g).1
+    by : (t : Option TaskRecord) → task_with id q.asleep ≡ t → (a : Option Awake) (g : Option TaskRecord)
+        → P (wakes q at t a g).0 (wakes q at t a g).1
     by (Some t) e a g = done t e
     by None e (Some a) g = r.already
     by None e None (Some g) = r.gone
@@ -43,23 +44,28 @@ sleep_by P q at id r done = by (awake_with id q.awake) refl (task_with id q.asle
     by None e None (Some g) = r.gone
     by None e None None = r.not_here
 
-pub exit_by : (P : Reply → QueueState → Type 0) (q : QueueState) (at id : ℕ) → Refuses P q at → ((a : Awake) → awake_with id q.awake ≡ Some a → P Done (ended a (at_moment q at))) →
-    ((t : TaskRecord) → awake_with id q.awake ≡ None → task_with id q.asleep ≡ Some t → P Done (ended_asleep t (at_moment q at))) → P (exit q at id).0 (exit q at id).1
+pub exit_by : (P : Reply → QueueState → Type 0) (q : QueueState) (at id : ℕ) → Refuses P q at
+    → ((a : Awake) → awake_with id q.awake ≡ Some a → P Done (ended a (at_moment q at))) →
+    ((t : TaskRecord) → awake_with id q.awake ≡ None → task_with id q.asleep ≡ Some t
+    → P Done (ended_asleep t (at_moment q at))) → P (exit q at id).0 (exit q at id).1
 unfolding exit
 exit_by P q at id r awake asleep = by (awake_with id q.awake) refl (task_with id q.asleep) refl (task_with id q.gone)
   where
-    by : (a : Option Awake) → awake_with id q.awake ≡ a → (t : Option TaskRecord) → task_with id q.asleep ≡ t → (g : Option TaskRecord) → P (exits q at a t g).0 (exits q at a t g).1
+    by : (a : Option Awake) → awake_with id q.awake ≡ a → (t : Option TaskRecord) → task_with id q.asleep ≡ t
+        → (g : Option TaskRecord) → P (exits q at a t g).0 (exits q at a t g).1
     by (Some a) e t f g = awake a e
     by None e (Some t) f g = asleep t e f
     by None e None f (Some g) = r.gone
     by None e None f None = r.not_here
 
-pub mask_by : (P : Reply → QueueState → Type 0) (q : QueueState) (at id : ℕ) (mask : Mask) → Refuses P q at → (is_bad_mask q mask ≡ false → P Done (masks_awake id mask (at_moment q at))) →
+pub mask_by : (P : Reply → QueueState → Type 0) (q : QueueState) (at id : ℕ) (mask : Mask) → Refuses P q at
+    → (is_bad_mask q mask ≡ false → P Done (masks_awake id mask (at_moment q at))) →
     (is_bad_mask q mask ≡ false → P Done (masks_asleep id mask (at_moment q at))) → P (set_mask q at id mask).0 (set_mask q at id mask).1
 unfolding set_mask
 mask_by P q at id mask r awake asleep = by (awake_with id q.awake) (task_with id q.asleep) (task_with id q.gone)
   where
-    unless : (b : Bool) (after : QueueState) → (b ≡ false → P Done after) → P (unless_bad b (at_moment q at) after).0 (unless_bad b (at_moment q at) after).1
+    unless : (b : Bool) (after : QueueState) → (b ≡ false → P Done after)
+        → P (unless_bad b (at_moment q at) after).0 (unless_bad b (at_moment q at) after).1
     unless true after h = r.bad_mask
     unless false after h = h refl
 
@@ -69,8 +75,10 @@ mask_by P q at id mask r awake asleep = by (awake_with id q.awake) (task_with id
     by None None (Some g) = r.gone
     by None None None = r.not_here
 
-pub nice_by : (P : Reply → QueueState → Type 0) (q : QueueState) (at id : ℕ) (nice : ℤ) → Refuses P q at → P Done (record (at_moment q at) { awake = changed_awake id (reniced nice) q.awake }) →
-    P Done (record (at_moment q at) { asleep = changed_task id (with_nice nice) q.asleep }) → P (renice q at id nice).0 (renice q at id nice).1
+pub nice_by : (P : Reply → QueueState → Type 0) (q : QueueState) (at id : ℕ) (nice : ℤ) → Refuses P q at
+    → P Done (record (at_moment q at) { awake = changed_awake id (reniced nice) q.awake }) →
+    P Done (record (at_moment q at) { asleep = changed_task id (with_nice nice) q.asleep })
+    → P (renice q at id nice).0 (renice q at id nice).1
 unfolding renice
 nice_by P q at id nice r awake asleep = by (awake_with id q.awake) (task_with id q.asleep) (task_with id q.gone)
   where
@@ -82,7 +90,8 @@ nice_by P q at id nice r awake asleep = by (awake_with id q.awake) (task_with id
 
 -- ---- tasks that leave
 pub leave_by : (P : List TaskRecord → QueueState → Type 0) (q : QueueState) (at id : ℕ) → P [] (at_moment q at) →
-    ((t : TaskRecord) → task_with id q.asleep ≡ Some t → P (leaves_asleep q at (Some t)).0 (leaves_asleep q at (Some t)).1) → P (leave q at id).0 (leave q at id).1
+    ((t : TaskRecord) → task_with id q.asleep ≡ Some t
+    → P (leaves_asleep q at (Some t)).0 (leaves_asleep q at (Some t)).1) → P (leave q at id).0 (leave q at id).1
 unfolding leave
 leave_by P q at id none one = by (task_with id q.asleep) refl
   where
@@ -91,7 +100,8 @@ leave_by P q at id none one = by (task_with id q.asleep) refl
     by (Some t) e = one t e
 
 pub stop_by : (P : List TaskRecord → QueueState → Type 0) (q : QueueState) (at id : ℕ) → P [] (at_moment q at) →
-    ((a : Awake) → awake_with id q.awake ≡ Some a → P (leaves_awake q at (Some a)).0 (leaves_awake q at (Some a)).1) → P (take_stop q at id).0 (take_stop q at id).1
+    ((a : Awake) → awake_with id q.awake ≡ Some a → P (leaves_awake q at (Some a)).0 (leaves_awake q at (Some a)).1)
+    → P (take_stop q at id).0 (take_stop q at id).1
 unfolding take_stop
 stop_by P q at id none one = by (awake_with id q.awake) refl
   where
@@ -101,22 +111,28 @@ stop_by P q at id none one = by (awake_with id q.awake) refl
 
 -- the active request is gone in both cases
 pub push_by : (P : List TaskRecord → QueueState → Type 0) (q : QueueState) (at to : ℕ) → P [] (at_moment (record q { active = None }) at) →
-    ((id : ℕ) (a : Awake) → pick_of (views q at) to ≡ Some id → awake_with id q.awake ≡ Some a → P (leaves_awake (record q { active = None }) at (Some a)).0 (leaves_awake (record q { active = None }) at (Some a)).1) →
+    ((id : ℕ) (a : Awake) → pick_of (views q at) to ≡ Some id → awake_with id q.awake ≡ Some a
+    → P (leaves_awake (record q { active = None }) at (Some a)).0 (leaves_awake (record q { active = None }) at (Some a)).1) →
     P (take_push q at to).0 (take_push q at to).1
 unfolding take_push pushed
 push_by P q at to none one = by (pick_of (views q at) to) refl
   where
-    found : (id : ℕ) → pick_of (views q at) to ≡ Some id → (a : Option Awake) → awake_with id q.awake ≡ a → P (leaves_awake (record q { active = None }) at a).0 (leaves_awake (record q { active = None }) at a).1
+    found : (id : ℕ) → pick_of (views q at) to ≡ Some id → (a : Option Awake) → awake_with id q.awake ≡ a
+        → P (leaves_awake (record q { active = None }) at a).0 (leaves_awake (record q { active = None }) at a).1
     found id f None e = none
     found id f (Some a) e = one id a f e
 
-    by : (o : Option ℕ) → pick_of (views q at) to ≡ o → P (leaves_awake (record q { active = None }) at (awake_named o q.awake)).0 (leaves_awake (record q { active = None }) at (awake_named o q.awake)).1
+    by : (o : Option ℕ) → pick_of (views q at) to ≡ o
+        → P (leaves_awake (record q { active = None }) at (awake_named o q.awake)).0
+        (leaves_awake (record q { active = None }) at (awake_named o q.awake)).1
     by None f = none
     by (Some id) f = found id f (awake_with id q.awake) refl
 
 -- ---- a landing
-pub land_by : (P : List TaskRecord → QueueState → Type 0) (q : QueueState) (at : ℕ) (cause : OutCause) (moment : ℕ) (tasks : List TaskRecord) → P [] (at_moment q (max at moment)) →
-    ((t : TaskRecord) (ts : List TaskRecord) → tasks ≡ t ∷ ts → P (t ∷ ts) (landed cause (t ∷ ts) (at_moment q (max at moment)))) → P tasks (land q at cause moment tasks)
+pub land_by : (P : List TaskRecord → QueueState → Type 0) (q : QueueState) (at : ℕ) (cause : OutCause) (moment : ℕ)
+    (tasks : List TaskRecord) → P [] (at_moment q (max at moment)) →
+    ((t : TaskRecord) (ts : List TaskRecord) → tasks ≡ t ∷ ts
+    → P (t ∷ ts) (landed cause (t ∷ ts) (at_moment q (max at moment)))) → P tasks (land q at cause moment tasks)
 unfolding land
 land_by P q at cause moment [] none some = none
 land_by P q at cause moment (t ∷ ts) none some = some t ts refl

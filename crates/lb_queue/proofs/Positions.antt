@@ -8,7 +8,8 @@ use Rattle.lb_base.proofs.Members.{same_mask}
 use Rattle.lb_base.proofs.Sets.{mask_where_has}
 
 -- one position more
-pub position_step : (D : ℕ → Bool) (p k : ℕ) (d m r : Bool) → r ≡ (m || (d && (k == p))) → m ≡ (nat_lt k p && D k) → d ≡ D p → r ≡ (nat_lt k (p + 1) && D k)
+pub position_step : (D : ℕ → Bool) (p k : ℕ) (d m r : Bool) → r ≡ (m || (d && (k == p))) → m ≡ (nat_lt k p && D k)
+    → d ≡ D p → r ≡ (nat_lt k (p + 1) && D k)
 position_step D p k d m r e f g = elim (cases_order k p) [
   | inl same ↦ (let x : D k ≡ d = ap D same ∙ sym g in
       rw (e, f, lt-ltb k (p + 1) (omega arith), le-ltb k p (omega arith), eq-eqb k p same, x) (both d))
@@ -44,8 +45,10 @@ within k n b h = elim (cases_order k n) [
     none false = refl
 
 -- the mask that the loop has made is the mask of the test
-pub positions_are : (D : ℕ → Bool) (n : ℕ) (m : Mask) → n ≤ 64 → ((k : ℕ) → has m k ≡ (nat_lt k n && D k)) → m ≡ mask_where (λ p. nat_lt p n && D p)
-positions_are D n m h e = same_mask m (mask_where (λ p. nat_lt p n && D p)) (λ k. e k ∙ sym (mask_where_has (λ p. nat_lt p n && D p) k ∙ within k n (D k) h))
+pub positions_are : (D : ℕ → Bool) (n : ℕ) (m : Mask) → n ≤ 64 → ((k : ℕ) → has m k ≡ (nat_lt k n && D k))
+    → m ≡ mask_where (λ p. nat_lt p n && D p)
+positions_are D n m h e = same_mask m (mask_where (λ p. nat_lt p n && D p))
+    (λ k. e k ∙ sym (mask_where_has (λ p. nat_lt p n && D p) k ∙ within k n (D k) h))
 
 always : (b : Bool) → (b && true) ≡ b
 always true = refl
@@ -53,7 +56,9 @@ always false = refl
 
 -- the positions below a number
 pub levels_are : (n : ℕ) (m : Mask) → n ≤ 64 → ((k : ℕ) → has m k ≡ nat_lt k n) → m ≡ mask_where (λ p. nat_lt p n)
-levels_are n m h e = same_mask m (mask_where (λ p. nat_lt p n)) (λ k. e k ∙ sym (mask_where_has (λ p. nat_lt p n) k ∙ ap (λ (b : Bool). nat_lt k 64 && b) (sym (always (nat_lt k n))) ∙ within k n true h ∙ always (nat_lt k n)))
+levels_are n m h e = same_mask m (mask_where (λ p. nat_lt p n))
+    (λ k. e k ∙ sym (mask_where_has (λ p. nat_lt p n) k
+    ∙ ap (λ (b : Bool). nat_lt k 64 && b) (sym (always (nat_lt k n))) ∙ within k n true h ∙ always (nat_lt k n)))
 
 pub get_map : {X Y : Type 0} (f : X → Y) (xs : List X) (i : ℕ) (d : X) (e : Y) → i < length xs → get_or (map f xs) i e ≡ f (get_or xs i d)
 get_map f [] i d e h = absurd (omega arith)

@@ -100,7 +100,8 @@ module _ (grows : Grows) (picks : PicksSoundly) where
   calls_keep q (c ∷ cs) m h = calls_keep (after_call q c) cs m.1 (call_keeps q c m.0 h)
 
 -- ---- each known task stands once
-stands_once : {X : Type 0} (f : X → ℕ) (id : ℕ) (xs : List X) (o : Option X) → find (λ x. f x == id) xs ≡ o → is_some o ≡ true → 1 ≤ occurs id (map f xs)
+stands_once : {X : Type 0} (f : X → ℕ) (id : ℕ) (xs : List X) (o : Option X) → find (λ x. f x == id) xs ≡ o
+    → is_some o ≡ true → 1 ≤ occurs id (map f xs)
 stands_once f id xs None e h = absurd (let z : ⊥ = cc in z)
 stands_once f id xs (Some a) e h =
     let k = found (λ x. f x == id) f xs a e in
@@ -113,16 +114,24 @@ somewhere false false c x y z h f g k = let n = k h in omega arith
 
 known_stands : (q : QueueState) (id : ℕ) → knows q id ≡ true → 1 ≤ stands q.awake q.asleep q.gone id
 known_stands q id h =
-    somewhere (is_some (awake_with id q.awake)) (is_some (task_with id q.asleep)) (is_some (task_with id q.gone)) _ _ _ h (stands_once key id q.awake (awake_with id q.awake) refl)
+    somewhere (is_some (awake_with id q.awake)) (is_some (task_with id q.asleep))
+    (is_some (task_with id q.gone)) _ _ _ h (stands_once key id q.awake (awake_with id q.awake) refl)
     (stands_once name id q.asleep (task_with id q.asleep) refl)
     (stands_once name id q.gone (task_with id q.gone) refl)
 
-once_by : (q : QueueState) (id : ℕ) (b : Bool) → knows q id ≡ b → stands q.awake q.asleep q.gone id ≤ 1 → stands q.awake q.asleep q.gone id ≡ cond b 1 0
+once_by : (q : QueueState) (id : ℕ) (b : Bool) → knows q id ≡ b → stands q.awake q.asleep q.gone id ≤ 1
+    → stands q.awake q.asleep q.gone id ≡ cond b 1 0
 once_by q id true e h = let k = known_stands q id e in omega arith
 once_by q id false e h = unknown_where q id e
 
 is_sound : (q : QueueState) → Keeps q → IsSound q
-is_sound q h = record { once = λ id. once_by q id (knows q id) refl (h.sound.once id); lists = h.sound; awake = h.up; asleep = h.down; gone = h.past }
+is_sound q h = record {
+  once = λ id. once_by q id (knows q id) refl (h.sound.once id);
+  lists = h.sound;
+  awake = h.up;
+  asleep = h.down;
+  gone = h.past;
+}
 
 empty_keeps : (cpu cpus : ℕ) → Keeps (empty_queue cpu cpus)
 empty_keeps cpu cpus = record {
@@ -135,8 +144,11 @@ empty_keeps cpu cpus = record {
 pub empty_sound : (cpu cpus : ℕ) → IsSound (empty_queue cpu cpus)
 empty_sound cpu cpus = is_sound (empty_queue cpu cpus) (empty_keeps cpu cpus)
 
-pub calls_keep_sound : Grows → PicksSoundly → (q : QueueState) → IsSound q → (calls : List Call) → MayAll q calls → IsSound (after_calls q calls)
-calls_keep_sound grows picks q h calls m = is_sound (after_calls q calls) (calls_keep grows picks q calls m (record { sound = h.lists; up = h.awake; down = h.asleep; past = h.gone }))
+pub calls_keep_sound : Grows → PicksSoundly → (q : QueueState) → IsSound q → (calls : List Call) → MayAll q calls
+    → IsSound (after_calls q calls)
+calls_keep_sound grows picks q h calls m =
+    is_sound (after_calls q calls) (calls_keep grows picks q calls m
+    (record { sound = h.lists; up = h.awake; down = h.asleep; past = h.gone }))
 
 -- ---- the clock
 module _ (q : QueueState) where
@@ -146,7 +158,8 @@ module _ (q : QueueState) where
   refused_rises : (at : ℕ) → Refuses (λ r q'. q.clock ≤ q'.clock) q at
   refused_rises at = record { already = rises at; gone = rises at; bad_mask = rises at; not_here = omega arith }
 
-  turn_rises : (shut opened : QueueState) (b : Bool) → q.clock ≤ shut.clock → q.clock ≤ opened.clock → q.clock ≤ (let s : QueueState = cond b shut opened in s.clock)
+  turn_rises : (shut opened : QueueState) (b : Bool) → q.clock ≤ shut.clock → q.clock ≤ opened.clock
+      → q.clock ≤ (let s : QueueState = cond b shut opened in s.clock)
   turn_rises shut opened true h k = h
   turn_rises shut opened false h k = k
 
@@ -157,13 +170,15 @@ module _ (q : QueueState) where
   call_rises (Leave at id to) = leave_by (λ ts q'. q.clock ≤ q'.clock) q at id (rises at) (λ t e. rises at)
   call_rises (Sleep at id) = sleep_by (λ r q'. q.clock ≤ q'.clock) q at id (refused_rises at) (λ a e. rises at)
   call_rises (Exit at id) = exit_by (λ r q'. q.clock ≤ q'.clock) q at id (refused_rises at) (λ a e. rises at) (λ t n e. rises at)
-  call_rises (SetMask at id mask) = mask_by (λ r q'. q.clock ≤ q'.clock) q at id mask (refused_rises at) (λ good. rises at) (λ good. rises at)
+  call_rises (SetMask at id mask) = mask_by (λ r q'. q.clock ≤ q'.clock) q at id mask (refused_rises at)
+      (λ good. rises at) (λ good. rises at)
   call_rises (Renice at id nice) = nice_by (λ r q'. q.clock ≤ q'.clock) q at id nice (refused_rises at) (rises at) (rises at)
   call_rises (Tick at) = rises at
   call_rises (TakeStop at id to) = stop_by (λ ts q'. q.clock ≤ q'.clock) q at id (rises at) (λ a e. rises at)
   call_rises (TakePush at to) = push_by (λ ts q'. q.clock ≤ q'.clock) q at to (rises at) (λ id a f e. rises at)
   call_rises (Take at env) = rises at
-  call_rises (Land at cause moment tasks) = land_by (λ ts q'. q.clock ≤ q'.clock) q at cause moment tasks (rises (max at moment)) (λ t ts e. rises (max at moment))
+  call_rises (Land at cause moment tasks) =
+      land_by (λ ts q'. q.clock ≤ q'.clock) q at cause moment tasks (rises (max at moment)) (λ t ts e. rises (max at moment))
   call_rises (Turn at lane kind version shapes) = turn_rises _ _ (is_some q.open_turn) (rises at) (rises at)
   call_rises (CloseLook at shape outcome imb) = rises at
   call_rises (EndTurn at) = rises at

@@ -33,6 +33,18 @@ AnyTask s t = IsTask t
 pub tasks_last : Grows → Lasts AnyTask IsTask
 tasks_last grows = record {
   leaves = λ s t h. h;
-  ages_awake = λ s t run clock down h. record { numbered = h.numbered; low = h.low; high = h.high; somewhere = h.somewhere; bounded = grows t.signal run clock h.bounded };
-  ages = λ t run clock down h. record { numbered = h.numbered; low = h.low; high = h.high; somewhere = h.somewhere; bounded = grows t.signal run clock h.bounded };
+  ages_awake = λ s t run clock down h. record {
+    numbered = h.numbered;
+    low = h.low;
+    high = h.high;
+    somewhere = h.somewhere;
+    bounded = grows t.signal run clock h.bounded;
+  };
+  ages = λ t run clock down h. record {
+    numbered = h.numbered;
+    low = h.low;
+    high = h.high;
+    somewhere = h.somewhere;
+    bounded = grows t.signal run clock h.bounded;
+  };
 }

@@ -14,7 +14,8 @@ one_differs (t ∷ []) le id = by (eqb t.id id)
     by false = omega arith
 one_differs (t ∷ u ∷ ts) le id = absurd (omega arith)
 
-pub one_unknown : (q : QueueState) (ts : List TaskRecord) (t : TaskRecord) → length ts ≤ 1 → slice_get ts 0 ≡ Some t → knows q t.id ≡ false → All (λ (x : TaskRecord). knows q x.id ≡ false) ts
+pub one_unknown : (q : QueueState) (ts : List TaskRecord) (t : TaskRecord) → length ts ≤ 1 → slice_get ts 0 ≡ Some t
+    → knows q t.id ≡ false → All (λ (x : TaskRecord). knows q x.id ≡ false) ts
 one_unknown q [] t le e h k d lt = absurd (omega arith)
 one_unknown q (x ∷ []) t le e h zero d lt = let z : x ≡ t = cc in rw z h
 one_unknown q (x ∷ []) t le e h (suc k) d lt = absurd (omega arith)

@@ -38,12 +38,14 @@ last_of x ys false = sym (reverse-append [] ys)
 pub filter_reverse : {X : Type 0} (p : X → Bool) (xs : List X) → filter p (reverse xs) ≡ reverse (filter p xs)
 filter_reverse p [] = refl
 filter_reverse p (x ∷ xs) =
-    ap (filter p) (reverse-append (x ∷ []) xs) ∙ filter-append p (reverse xs) (x ∷ []) ∙ ap (λ zs. zs ++ cond (p x) (x ∷ []) []) (filter_reverse p xs)
+    ap (filter p) (reverse-append (x ∷ []) xs) ∙ filter-append p (reverse xs) (x ∷ [])
+    ∙ ap (λ zs. zs ++ cond (p x) (x ∷ []) []) (filter_reverse p xs)
     ∙ last_of x (filter p xs) (p x)
 
 pub map_reverse : {X Y : Type 0} (f : X → Y) (xs : List X) → map f (reverse xs) ≡ reverse (map f xs)
 map_reverse f [] = refl
-map_reverse f (x ∷ xs) = ap (map f) (reverse-append (x ∷ []) xs) ∙ map-append f (reverse xs) (x ∷ []) ∙ ap (λ zs. zs ++ f x ∷ []) (map_reverse f xs) ∙ sym (reverse-append (f x ∷ []) (map f xs))
+map_reverse f (x ∷ xs) = ap (map f) (reverse-append (x ∷ []) xs) ∙ map-append f (reverse xs) (x ∷ [])
+    ∙ ap (λ zs. zs ++ f x ∷ []) (map_reverse f xs) ∙ sym (reverse-append (f x ∷ []) (map f xs))
 
 -- ---- what is found from either end
 passed : {X : Type 0} (y : X) (b : Bool) (o q r : Option X) → cond b (Some y) o ≡ None → (o ≡ None → q ≡ r) → cond b (Some y) q ≡ r
@@ -65,7 +67,8 @@ none_of f id (x ∷ xs) h = elim (cases_Bool (f x == id)) [
   | inr e ↦ rw e (none_of f id xs (omega arith))
 ]
 
-pub find_turned : {X : Type 0} (f : X → ℕ) (id : ℕ) (xs : List X) → occurs id (map f xs) ≤ 1 → find (λ x. f x == id) (reverse xs) ≡ find (λ x. f x == id) xs
+pub find_turned : {X : Type 0} (f : X → ℕ) (id : ℕ) (xs : List X) → occurs id (map f xs) ≤ 1
+    → find (λ x. f x == id) (reverse xs) ≡ find (λ x. f x == id) xs
 find_turned f id [] h = refl
 find_turned f id (x ∷ xs) h = ap (find (λ x. f x == id)) (reverse-append (x ∷ []) xs) ∙ elim (cases_Bool (f x == id)) [
   | inl e ↦ (let k : cond {A = ℕ} (eqb (f x) id) 1 0 ≡ 1 = cond-true {A = ℕ} (eqb (f x) id) 1 0 e in
@@ -89,11 +92,13 @@ pub some_turned : {X : Type 0} (p : X → Bool) (xs : List X) → is_some (posit
 some_turned p xs = some_position p xs ∙ found_any p xs ∙ sym (found_turned p xs)
 
 -- ---- a push at the end is a joining at the front
-pub joined_waiting : (clock : ℕ) (t : TaskRecord) (a : Awake) (xs : List Awake) → list_any (λ x. x.running) xs ≡ true → a ≡ waiting t → reverse (xs ++ a ∷ []) ≡ joined clock t (reverse xs)
+pub joined_waiting : (clock : ℕ) (t : TaskRecord) (a : Awake) (xs : List Awake) → list_any (λ x. x.running) xs ≡ true
+    → a ≡ waiting t → reverse (xs ++ a ∷ []) ≡ joined clock t (reverse xs)
 unfolding joined somebody_runs
 joined_waiting clock t a xs h e = reverse-append xs (a ∷ []) ∙ rw (any_reverse (λ (x : Awake). x.running) xs, h, e) refl
 
-pub joined_picked : (clock : ℕ) (t : TaskRecord) (a : Awake) (xs : List Awake) → list_any (λ x. x.running) xs ≡ false → a ≡ picked clock (waiting t) → reverse (xs ++ a ∷ []) ≡ joined clock t (reverse xs)
+pub joined_picked : (clock : ℕ) (t : TaskRecord) (a : Awake) (xs : List Awake) → list_any (λ x. x.running) xs ≡ false
+    → a ≡ picked clock (waiting t) → reverse (xs ++ a ∷ []) ≡ joined clock t (reverse xs)
 unfolding joined somebody_runs
 joined_picked clock t a xs h e = reverse-append xs (a ∷ []) ∙ rw (any_reverse (λ (x : Awake). x.running) xs, h, e) refl
 
@@ -102,7 +107,8 @@ unfolding pick_back
 nobody_picked clock [] h = refl
 nobody_picked clock (x ∷ xs) h = absurd (omega arith)
 
-pub back_picked : (clock : ℕ) (xs rest : List Awake) (x y : Awake) → 0 < length xs → x ≡ get_or xs 0 x → rest ≡ remove xs 0 → y ≡ picked clock x → reverse (rest ++ y ∷ []) ≡ pick_back clock (reverse xs)
+pub back_picked : (clock : ℕ) (xs rest : List Awake) (x y : Awake) → 0 < length xs → x ≡ get_or xs 0 x
+    → rest ≡ remove xs 0 → y ≡ picked clock x → reverse (rest ++ y ∷ []) ≡ pick_back clock (reverse xs)
 unfolding pick_back
 back_picked clock [] rest x y h e r p = absurd (omega arith)
 back_picked clock (z ∷ zs) rest x y h e r p =

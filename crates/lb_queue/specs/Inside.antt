@@ -13,7 +13,8 @@ abbrev pub HasCounters : Option OpenTurn → Bool → List Counters → Type 0
 HasCounters None counted counters = Unit {0}
 HasCounters (Some t) counted counters = (counted ≡ true) × ((p : ℕ) → has t.positions p ≡ true → p < length counters)
 
-pub record IsInside (cpu cpus : ℕ) (lists : Lists) (counted : Bool) (counters : List Counters) (counters_room : ℕ) (open_turn : Option OpenTurn) : Type 0 where
+pub record IsInside (cpu cpus : ℕ) (lists : Lists) (counted : Bool) (counters : List Counters) (counters_room : ℕ)
+    (open_turn : Option OpenTurn) : Type 0 where
   pub in_machine : cpu < cpus
   pub cpus_fit : cpus ≤ MAX_CPUS
   pub same_cpu : lists.cpu ≡ cpu

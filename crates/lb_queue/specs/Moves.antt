@@ -110,7 +110,8 @@ aged run clock put_down t = record t { signal = advanced t.signal run clock; put
 -- what passes as awake passes as it leaves
 pub record Last (up : StopRequest → TaskRecord → Bool) (down : TaskRecord → Bool) : Type 0 where
   pub leaves : (stop : StopRequest) (t : TaskRecord) → up stop t ≡ true → down t ≡ true
-  pub ages_awake : (stop : StopRequest) (t : TaskRecord) (run : Run) (clock : ℕ) (put_down : Option ℕ) → up stop t ≡ true → up stop (aged run clock put_down t) ≡ true
+  pub ages_awake : (stop : StopRequest) (t : TaskRecord) (run : Run) (clock : ℕ) (put_down : Option ℕ)
+      → up stop t ≡ true → up stop (aged run clock put_down t) ≡ true
   pub ages : (t : TaskRecord) (run : Run) (clock : ℕ) (put_down : Option ℕ) → down t ≡ true → down (aged run clock put_down t) ≡ true
 
 -- each task of the queue passes
@@ -120,7 +121,8 @@ pub record AllPass (up : StopRequest → TaskRecord → Bool) (down : TaskRecord
   pub gone : list_all down q.gone ≡ true
 
 -- a task of that id that passes does so after a change too, if it is awake with its stop request changed
-pub record Allows (up : StopRequest → TaskRecord → Bool) (down : TaskRecord → Bool) (id : ℕ) (asked : StopRequest → StopRequest) (change : TaskRecord → TaskRecord) : Type 0 where
+pub record Allows (up : StopRequest → TaskRecord → Bool) (down : TaskRecord → Bool) (id : ℕ)
+    (asked : StopRequest → StopRequest) (change : TaskRecord → TaskRecord) : Type 0 where
   pub awake : (stop : StopRequest) (t : TaskRecord) → t.id ≡ id → up stop t ≡ true → up (asked stop) (change t) ≡ true
   pub asleep : (t : TaskRecord) → t.id ≡ id → down t ≡ true → down (change t) ≡ true
 

@@ -49,9 +49,24 @@ impl Model for TaskLists {
 
     ghost Value = { Lists };
 
-    ghost view = { λ l. record { cpu = l.cpu; awake = reverse l.awake.items; asleep = l.asleep.items; gone = l.gone.items; room = l.room; booked = l.booked } };
+    ghost view = { λ l. record {
+      cpu = l.cpu;
+      awake = reverse l.awake.items;
+      asleep = l.asleep.items;
+      gone = l.gone.items;
+      room = l.room;
+      booked = l.booked;
+    } };
 
-    ghost invariant = { λ l. AreKept (record { cpu = l.cpu; awake = reverse l.awake.items; asleep = l.asleep.items; gone = l.gone.items; room = l.room; booked = l.booked }) (vec_capacity l.awake) (vec_capacity l.asleep) (vec_capacity l.gone) (vec_capacity l.views) };
+    ghost invariant = { λ l. AreKept (record {
+      cpu = l.cpu;
+      awake = reverse l.awake.items;
+      asleep = l.asleep.items;
+      gone = l.gone.items;
+      room = l.room;
+      booked = l.booked;
+    }) (vec_capacity l.awake) (vec_capacity l.asleep)
+        (vec_capacity l.gone) (vec_capacity l.views) };
 }
 
 impl TaskLists {
@@ -214,7 +229,10 @@ impl TaskLists {
     // The awake task nearest the back that may run at a CPU is taken out.
     pub(crate) fn take_pushed(&mut self, to: u32, clock: u64) -> Option<Task>
         ensures found { result ≡ down_of clock (awake_named (pick_of (map (view_at clock) self.old.awake) to) self.old.awake) }
-        ensures lists { self.new ≡ record self.old { awake = left_of clock (awake_named (pick_of (map (view_at clock) self.old.awake) to) self.old.awake) self.old.awake } }
+        ensures lists { self.new ≡ record self.old {
+          awake = left_of clock
+              (awake_named (pick_of (map (view_at clock) self.old.awake) to) self.old.awake) self.old.awake;
+        } }
         ensures permitted { IfSome result (λ t. has t.mask to ≡ true) }
     {
         look(&mut self.views, &self.awake, clock);
@@ -234,7 +252,8 @@ impl TaskLists {
         ensures order { picked.new.order.items ≡ kept_ids env.now (map (view_at now) self.old.awake) }
         ensures some_pinned { picked.new.some_pinned ≡ some_pinned env.now (map (view_at now) self.old.awake) }
         ensures all_pinned { picked.new.all_pinned ≡ all_pinned env.now (map (view_at now) self.old.awake) }
-        ensures left { picked.new.left ≡ left_before env.now (map (view_at now) self.old.awake) (examined env.now (map (view_at now) self.old.awake)) }
+        ensures left { picked.new.left ≡ left_before env.now (map (view_at now) self.old.awake)
+            (examined env.now (map (view_at now) self.old.awake)) }
         ensures ids_capacity { vec_capacity picked.new.ids ≡ vec_capacity picked.old.ids }
         ensures order_capacity { vec_capacity picked.new.order ≡ vec_capacity picked.old.order }
     {

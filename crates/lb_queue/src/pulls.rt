@@ -37,7 +37,8 @@ pub(crate) fn set_order(awake: &mut Vec<Awake>, order: &[u32])
 
 // Where the last task of an order is, or 0 where there is none.
 fn place_of_last(awake: &[Awake], order: &[u32]) -> usize
-    ensures value { result ≡ unwrap_or (option_and_then (λ id. position (λ a. a.task.id == id) awake.now) (slice_get order.now (length order.now - 1))) 0 }
+    ensures value { result ≡ unwrap_or (option_and_then (λ id. position (λ a. a.task.id == id) awake.now)
+        (slice_get order.now (length order.now - 1))) 0 }
     ensures within { result ≤ length awake.now }
 {
     match order.last() {

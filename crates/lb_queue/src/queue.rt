@@ -57,7 +57,26 @@ impl Model for Queue {
 
     ghost use Rattle.lb_queue.specs.Inside.{IsInside};
 
-    ghost view = { λ q. record { state = record { cpu = q.cpu; cpus = q.cpus; awake = q.lists.awake; asleep = q.lists.asleep; gone = q.lists.gone; active = q.active; tickless = q.tickless; kicked = q.kicked; clock = q.clock; idle_since = q.idle_since; avg_idle = q.avg_idle; version = q.version; counters = if q.counted then Some q.counters.items else None; open_turn = q.open_turn }; booked = q.lists.booked } };
+    ghost view = { λ q. record {
+      state =
+          record {
+            cpu = q.cpu;
+            cpus = q.cpus;
+            awake = q.lists.awake;
+            asleep = q.lists.asleep;
+            gone = q.lists.gone;
+            active = q.active;
+            tickless = q.tickless;
+            kicked = q.kicked;
+            clock = q.clock;
+            idle_since = q.idle_since;
+            avg_idle = q.avg_idle;
+            version = q.version;
+            counters = if q.counted then Some q.counters.items else None;
+            open_turn = q.open_turn;
+          };
+      booked = q.lists.booked;
+    } };
 
     ghost invariant = { λ q. IsInside q.cpu q.cpus q.lists q.counted q.counters.items (vec_capacity q.counters) q.open_turn };
 }

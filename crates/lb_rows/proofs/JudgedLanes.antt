@@ -49,7 +49,8 @@ unfolding
     has members_below members first_cpus only both either without least least_above is_below are_apart mask_where total
     is_first_greatest first_greatest weights weight_of inverses inverse_at decayed advanced_by advanced signal_value counters_after
     refuses task_at left_before refused_at taken refused free ends examined ids_at picked_ids kept_ids average_after
-    is_tickless tickless_cpus idle_count any_marked stats_of is_busier may_be_busiest is_busier_at busiest_of may_be_source has_more source_of
+    is_tickless tickless_cpus idle_count any_marked stats_of is_busier may_be_busiest is_busier_at busiest_of
+    may_be_source has_more source_of
     is_idle_in first_idle balancer_of is_level imbalance_of all_stats domain_average pull_of pull_from_group decision_over decision
     distances_of levels_of span_of cut_span firsts is_kept domains_of
     pick_back somebody_runs joined left_by away value_of view_at views figure wake sleep exit set_mask renice
@@ -64,7 +65,8 @@ unfolding
     has members_below members first_cpus only both either without least least_above is_below are_apart mask_where total
     is_first_greatest first_greatest weights weight_of inverses inverse_at decayed advanced_by advanced signal_value counters_after
     refuses task_at left_before refused_at taken refused free ends examined ids_at picked_ids kept_ids average_after
-    is_tickless tickless_cpus idle_count any_marked stats_of is_busier may_be_busiest is_busier_at busiest_of may_be_source has_more source_of
+    is_tickless tickless_cpus idle_count any_marked stats_of is_busier may_be_busiest is_busier_at busiest_of
+    may_be_source has_more source_of
     is_idle_in first_idle balancer_of is_level imbalance_of all_stats domain_average pull_of pull_from_group decision_over decision
     distances_of levels_of span_of cut_span firsts is_kept domains_of
     pick_back somebody_runs joined left_by away value_of view_at views figure wake sleep exit set_mask renice
@@ -79,7 +81,8 @@ unfolding
     has members_below members first_cpus only both either without least least_above is_below are_apart mask_where total
     is_first_greatest first_greatest weights weight_of inverses inverse_at decayed advanced_by advanced signal_value counters_after
     refuses task_at left_before refused_at taken refused free ends examined ids_at picked_ids kept_ids average_after
-    is_tickless tickless_cpus idle_count any_marked stats_of is_busier may_be_busiest is_busier_at busiest_of may_be_source has_more source_of
+    is_tickless tickless_cpus idle_count any_marked stats_of is_busier may_be_busiest is_busier_at busiest_of
+    may_be_source has_more source_of
     is_idle_in first_idle balancer_of is_level imbalance_of all_stats domain_average pull_of pull_from_group decision_over decision
     distances_of levels_of span_of cut_span firsts is_kept domains_of
     pick_back somebody_runs joined left_by away value_of view_at views figure wake sleep exit set_mask renice
@@ -94,7 +97,8 @@ unfolding
     has members_below members first_cpus only both either without least least_above is_below are_apart mask_where total
     is_first_greatest first_greatest weights weight_of inverses inverse_at decayed advanced_by advanced signal_value counters_after
     refuses task_at left_before refused_at taken refused free ends examined ids_at picked_ids kept_ids average_after
-    is_tickless tickless_cpus idle_count any_marked stats_of is_busier may_be_busiest is_busier_at busiest_of may_be_source has_more source_of
+    is_tickless tickless_cpus idle_count any_marked stats_of is_busier may_be_busiest is_busier_at busiest_of
+    may_be_source has_more source_of
     is_idle_in first_idle balancer_of is_level imbalance_of all_stats domain_average pull_of pull_from_group decision_over decision
     distances_of levels_of span_of cut_span firsts is_kept domains_of
     pick_back somebody_runs joined left_by away value_of view_at views figure wake sleep exit set_mask renice
@@ -109,7 +113,8 @@ unfolding
     has members_below members first_cpus only both either without least least_above is_below are_apart mask_where total
     is_first_greatest first_greatest weights weight_of inverses inverse_at decayed advanced_by advanced signal_value counters_after
     refuses task_at left_before refused_at taken refused free ends examined ids_at picked_ids kept_ids average_after
-    is_tickless tickless_cpus idle_count any_marked stats_of is_busier may_be_busiest is_busier_at busiest_of may_be_source has_more source_of
+    is_tickless tickless_cpus idle_count any_marked stats_of is_busier may_be_busiest is_busier_at busiest_of
+    may_be_source has_more source_of
     is_idle_in first_idle balancer_of is_level imbalance_of all_stats domain_average pull_of pull_from_group decision_over decision
     distances_of levels_of span_of cut_span firsts is_kept domains_of
     pick_back somebody_runs joined left_by away value_of view_at views figure wake sleep exit set_mask renice
@@ -124,7 +129,8 @@ unfolding
     has members_below members first_cpus only both either without least least_above is_below are_apart mask_where total
     is_first_greatest first_greatest weights weight_of inverses inverse_at decayed advanced_by advanced signal_value counters_after
     refuses task_at left_before refused_at taken refused free ends examined ids_at picked_ids kept_ids average_after
-    is_tickless tickless_cpus idle_count any_marked stats_of is_busier may_be_busiest is_busier_at busiest_of may_be_source has_more source_of
+    is_tickless tickless_cpus idle_count any_marked stats_of is_busier may_be_busiest is_busier_at busiest_of
+    may_be_source has_more source_of
     is_idle_in first_idle balancer_of is_level imbalance_of all_stats domain_average pull_of pull_from_group decision_over decision
     distances_of levels_of span_of cut_span firsts is_kept domains_of
     pick_back somebody_runs joined left_by away value_of view_at views figure wake sleep exit set_mask renice
@@ -139,7 +145,8 @@ unfolding
     has members_below members first_cpus only both either without least least_above is_below are_apart mask_where total
     is_first_greatest first_greatest weights weight_of inverses inverse_at decayed advanced_by advanced signal_value counters_after
     refuses task_at left_before refused_at taken refused free ends examined ids_at picked_ids kept_ids average_after
-    is_tickless tickless_cpus idle_count any_marked stats_of is_busier may_be_busiest is_busier_at busiest_of may_be_source has_more source_of
+    is_tickless tickless_cpus idle_count any_marked stats_of is_busier may_be_busiest is_busier_at busiest_of
+    may_be_source has_more source_of
     is_idle_in first_idle balancer_of is_level imbalance_of all_stats domain_average pull_of pull_from_group decision_over decision
     distances_of levels_of span_of cut_span firsts is_kept domains_of
     pick_back somebody_runs joined left_by away value_of view_at views figure wake sleep exit set_mask renice
@@ -154,7 +161,8 @@ unfolding
     has members_below members first_cpus only both either without least least_above is_below are_apart mask_where total
     is_first_greatest first_greatest weights weight_of inverses inverse_at decayed advanced_by advanced signal_value counters_after
     refuses task_at left_before refused_at taken refused free ends examined ids_at picked_ids kept_ids average_after
-    is_tickless tickless_cpus idle_count any_marked stats_of is_busier may_be_busiest is_busier_at busiest_of may_be_source has_more source_of
+    is_tickless tickless_cpus idle_count any_marked stats_of is_busier may_be_busiest is_busier_at busiest_of
+    may_be_source has_more source_of
     is_idle_in first_idle balancer_of is_level imbalance_of all_stats domain_average pull_of pull_from_group decision_over decision
     distances_of levels_of span_of cut_span firsts is_kept domains_of
     pick_back somebody_runs joined left_by away value_of view_at views figure wake sleep exit set_mask renice
@@ -169,7 +177,8 @@ unfolding
     has members_below members first_cpus only both either without least least_above is_below are_apart mask_where total
     is_first_greatest first_greatest weights weight_of inverses inverse_at decayed advanced_by advanced signal_value counters_after
     refuses task_at left_before refused_at taken refused free ends examined ids_at picked_ids kept_ids average_after
-    is_tickless tickless_cpus idle_count any_marked stats_of is_busier may_be_busiest is_busier_at busiest_of may_be_source has_more source_of
+    is_tickless tickless_cpus idle_count any_marked stats_of is_busier may_be_busiest is_busier_at busiest_of
+    may_be_source has_more source_of
     is_idle_in first_idle balancer_of is_level imbalance_of all_stats domain_average pull_of pull_from_group decision_over decision
     distances_of levels_of span_of cut_span firsts is_kept domains_of
     pick_back somebody_runs joined left_by away value_of view_at views figure wake sleep exit set_mask renice
@@ -184,7 +193,8 @@ unfolding
     has members_below members first_cpus only both either without least least_above is_below are_apart mask_where total
     is_first_greatest first_greatest weights weight_of inverses inverse_at decayed advanced_by advanced signal_value counters_after
     refuses task_at left_before refused_at taken refused free ends examined ids_at picked_ids kept_ids average_after
-    is_tickless tickless_cpus idle_count any_marked stats_of is_busier may_be_busiest is_busier_at busiest_of may_be_source has_more source_of
+    is_tickless tickless_cpus idle_count any_marked stats_of is_busier may_be_busiest is_busier_at busiest_of
+    may_be_source has_more source_of
     is_idle_in first_idle balancer_of is_level imbalance_of all_stats domain_average pull_of pull_from_group decision_over decision
     distances_of levels_of span_of cut_span firsts is_kept domains_of
     pick_back somebody_runs joined left_by away value_of view_at views figure wake sleep exit set_mask renice
@@ -199,7 +209,8 @@ unfolding
     has members_below members first_cpus only both either without least least_above is_below are_apart mask_where total
     is_first_greatest first_greatest weights weight_of inverses inverse_at decayed advanced_by advanced signal_value counters_after
     refuses task_at left_before refused_at taken refused free ends examined ids_at picked_ids kept_ids average_after
-    is_tickless tickless_cpus idle_count any_marked stats_of is_busier may_be_busiest is_busier_at busiest_of may_be_source has_more source_of
+    is_tickless tickless_cpus idle_count any_marked stats_of is_busier may_be_busiest is_busier_at busiest_of
+    may_be_source has_more source_of
     is_idle_in first_idle balancer_of is_level imbalance_of all_stats domain_average pull_of pull_from_group decision_over decision
     distances_of levels_of span_of cut_span firsts is_kept domains_of
     pick_back somebody_runs joined left_by away value_of view_at views figure wake sleep exit set_mask renice
@@ -214,7 +225,8 @@ unfolding
     has members_below members first_cpus only both either without least least_above is_below are_apart mask_where total
     is_first_greatest first_greatest weights weight_of inverses inverse_at decayed advanced_by advanced signal_value counters_after
     refuses task_at left_before refused_at taken refused free ends examined ids_at picked_ids kept_ids average_after
-    is_tickless tickless_cpus idle_count any_marked stats_of is_busier may_be_busiest is_busier_at busiest_of may_be_source has_more source_of
+    is_tickless tickless_cpus idle_count any_marked stats_of is_busier may_be_busiest is_busier_at busiest_of
+    may_be_source has_more source_of
     is_idle_in first_idle balancer_of is_level imbalance_of all_stats domain_average pull_of pull_from_group decision_over decision
     distances_of levels_of span_of cut_span firsts is_kept domains_of
     pick_back somebody_runs joined left_by away value_of view_at views figure wake sleep exit set_mask renice
@@ -229,7 +241,8 @@ unfolding
     has members_below members first_cpus only both either without least least_above is_below are_apart mask_where total
     is_first_greatest first_greatest weights weight_of inverses inverse_at decayed advanced_by advanced signal_value counters_after
     refuses task_at left_before refused_at taken refused free ends examined ids_at picked_ids kept_ids average_after
-    is_tickless tickless_cpus idle_count any_marked stats_of is_busier may_be_busiest is_busier_at busiest_of may_be_source has_more source_of
+    is_tickless tickless_cpus idle_count any_marked stats_of is_busier may_be_busiest is_busier_at busiest_of
+    may_be_source has_more source_of
     is_idle_in first_idle balancer_of is_level imbalance_of all_stats domain_average pull_of pull_from_group decision_over decision
     distances_of levels_of span_of cut_span firsts is_kept domains_of
     pick_back somebody_runs joined left_by away value_of view_at views figure wake sleep exit set_mask renice

@@ -48,7 +48,8 @@ unfolding
     has members_below members first_cpus only both either without least least_above is_below are_apart mask_where total
     is_first_greatest first_greatest weights weight_of inverses inverse_at decayed advanced_by advanced signal_value counters_after
     refuses task_at left_before refused_at taken refused free ends examined ids_at picked_ids kept_ids average_after
-    is_tickless tickless_cpus idle_count any_marked stats_of is_busier may_be_busiest is_busier_at busiest_of may_be_source has_more source_of
+    is_tickless tickless_cpus idle_count any_marked stats_of is_busier may_be_busiest is_busier_at busiest_of
+    may_be_source has_more source_of
     is_idle_in first_idle balancer_of is_level imbalance_of all_stats domain_average pull_of pull_from_group decision_over decision
     distances_of levels_of span_of cut_span firsts is_kept domains_of
     pick_back somebody_runs joined left_by away value_of view_at views figure wake sleep exit set_mask renice
@@ -63,7 +64,8 @@ unfolding
     has members_below members first_cpus only both either without least least_above is_below are_apart mask_where total
     is_first_greatest first_greatest weights weight_of inverses inverse_at decayed advanced_by advanced signal_value counters_after
     refuses task_at left_before refused_at taken refused free ends examined ids_at picked_ids kept_ids average_after
-    is_tickless tickless_cpus idle_count any_marked stats_of is_busier may_be_busiest is_busier_at busiest_of may_be_source has_more source_of
+    is_tickless tickless_cpus idle_count any_marked stats_of is_busier may_be_busiest is_busier_at busiest_of
+    may_be_source has_more source_of
     is_idle_in first_idle balancer_of is_level imbalance_of all_stats domain_average pull_of pull_from_group decision_over decision
     distances_of levels_of span_of cut_span firsts is_kept domains_of
     pick_back somebody_runs joined left_by away value_of view_at views figure wake sleep exit set_mask renice
@@ -78,7 +80,8 @@ unfolding
     has members_below members first_cpus only both either without least least_above is_below are_apart mask_where total
     is_first_greatest first_greatest weights weight_of inverses inverse_at decayed advanced_by advanced signal_value counters_after
     refuses task_at left_before refused_at taken refused free ends examined ids_at picked_ids kept_ids average_after
-    is_tickless tickless_cpus idle_count any_marked stats_of is_busier may_be_busiest is_busier_at busiest_of may_be_source has_more source_of
+    is_tickless tickless_cpus idle_count any_marked stats_of is_busier may_be_busiest is_busier_at busiest_of
+    may_be_source has_more source_of
     is_idle_in first_idle balancer_of is_level imbalance_of all_stats domain_average pull_of pull_from_group decision_over decision
     distances_of levels_of span_of cut_span firsts is_kept domains_of
     pick_back somebody_runs joined left_by away value_of view_at views figure wake sleep exit set_mask renice
@@ -93,7 +96,8 @@ unfolding
     has members_below members first_cpus only both either without least least_above is_below are_apart mask_where total
     is_first_greatest first_greatest weights weight_of inverses inverse_at decayed advanced_by advanced signal_value counters_after
     refuses task_at left_before refused_at taken refused free ends examined ids_at picked_ids kept_ids average_after
-    is_tickless tickless_cpus idle_count any_marked stats_of is_busier may_be_busiest is_busier_at busiest_of may_be_source has_more source_of
+    is_tickless tickless_cpus idle_count any_marked stats_of is_busier may_be_busiest is_busier_at busiest_of
+    may_be_source has_more source_of
     is_idle_in first_idle balancer_of is_level imbalance_of all_stats domain_average pull_of pull_from_group decision_over decision
     distances_of levels_of span_of cut_span firsts is_kept domains_of
     pick_back somebody_runs joined left_by away value_of view_at views figure wake sleep exit set_mask renice
@@ -108,7 +112,8 @@ unfolding
     has members_below members first_cpus only both either without least least_above is_below are_apart mask_where total
     is_first_greatest first_greatest weights weight_of inverses inverse_at decayed advanced_by advanced signal_value counters_after
     refuses task_at left_before refused_at taken refused free ends examined ids_at picked_ids kept_ids average_after
-    is_tickless tickless_cpus idle_count any_marked stats_of is_busier may_be_busiest is_busier_at busiest_of may_be_source has_more source_of
+    is_tickless tickless_cpus idle_count any_marked stats_of is_busier may_be_busiest is_busier_at busiest_of
+    may_be_source has_more source_of
     is_idle_in first_idle balancer_of is_level imbalance_of all_stats domain_average pull_of pull_from_group decision_over decision
     distances_of levels_of span_of cut_span firsts is_kept domains_of
     pick_back somebody_runs joined left_by away value_of view_at views figure wake sleep exit set_mask renice

@@ -89,7 +89,8 @@ commands_refused_history = record {
 -- two lanes, two nodes, and a partition that is rebuilt twice
 abbrev pub rebuilt_history : History
 rebuilt_history = record {
-  header = four_cpus 2 (replicate 1 (task (negsuc 4) 0 15) ++ replicate 1 (task (pos 0) 0 15) ++ replicate 1 (task (pos 3) 0 15) ++ replicate 1 (task (pos 3) 0 3));
+  header = four_cpus 2 (replicate 1 (task (negsuc 4) 0 15) ++ replicate 1 (task (pos 0) 0 15) ++ replicate 1
+      (task (pos 3) 0 15) ++ replicate 1 (task (pos 3) 0 3));
   entries =
       by_lane 0 0 (Row 1 0 (Wake 0))
       ∷ at_queue 0 0 1 (Did Done)

@@ -32,11 +32,23 @@ one_cpu lanes tasks = record { cpus = cpu 0 0 0 ∷ []; distances = (10 ∷ []) 
 
 -- two CPUs of one cache
 abbrev pub two_cpus : ℕ → List TaskRow → Header
-two_cpus lanes tasks = record { cpus = cpu 0 0 0 ∷ cpu 1 0 0 ∷ []; distances = (10 ∷ []) ∷ []; parts = cpus 3 ∷ []; lanes = lanes; tasks = tasks }
+two_cpus lanes tasks = record {
+  cpus = cpu 0 0 0 ∷ cpu 1 0 0 ∷ [];
+  distances = (10 ∷ []) ∷ [];
+  parts = cpus 3 ∷ [];
+  lanes = lanes;
+  tasks = tasks;
+}
 
 -- three CPUs of one cache
 abbrev pub three_cpus : ℕ → List TaskRow → Header
-three_cpus lanes tasks = record { cpus = cpu 0 0 0 ∷ cpu 1 0 0 ∷ cpu 2 0 0 ∷ []; distances = (10 ∷ []) ∷ []; parts = cpus 7 ∷ []; lanes = lanes; tasks = tasks }
+three_cpus lanes tasks = record {
+  cpus = cpu 0 0 0 ∷ cpu 1 0 0 ∷ cpu 2 0 0 ∷ [];
+  distances = (10 ∷ []) ∷ [];
+  parts = cpus 7 ∷ [];
+  lanes = lanes;
+  tasks = tasks;
+}
 
 -- four CPUs on two nodes, the first two of one core
 abbrev pub four_cpus : ℕ → List TaskRow → Header

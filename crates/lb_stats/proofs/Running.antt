@@ -43,9 +43,11 @@ or_nothing false = refl
 
 one_more_test : (p : ℕ → Bool) (cpus : List ℕ) (c : ℕ) (s t : Bool) → s ≡ list_any p cpus → t ≡ (s || p c) → t ≡ list_any p (cpus ++ c ∷ [])
 one_more_test p cpus c s t e step =
-    step ∙ ap (λ (b : Bool). b || p c) e ∙ sym (list_any-append p cpus (c ∷ []) ∙ ap (λ (b : Bool). list_any p cpus || b) (or_nothing (p c)))
+    step ∙ ap (λ (b : Bool). b || p c) e
+    ∙ sym (list_any-append p cpus (c ∷ []) ∙ ap (λ (b : Bool). list_any p cpus || b) (or_nothing (p c)))
 
-pub sums_more : (position : ℕ) (figs : List Fig) (cpus : List ℕ) (c : ℕ) (s t : Sums) → IsSumOver position figs cpus s → Adds position (fig_at figs c) s t → IsSumOver position figs (cpus ++ c ∷ []) t
+pub sums_more : (position : ℕ) (figs : List Fig) (cpus : List ℕ) (c : ℕ) (s t : Sums) → IsSumOver position figs cpus s
+    → Adds position (fig_at figs c) s t → IsSumOver position figs (cpus ++ c ∷ []) t
 sums_more position figs cpus c s t so_far adds = record {
   nr = one_more (λ cpu. (fig_at figs cpu).nr) cpus c s.nr t.nr so_far.nr adds.nr;
   load = one_more (λ cpu. (fig_at figs cpu).load) cpus c s.load t.load so_far.load adds.load;
@@ -56,7 +58,8 @@ sums_more position figs cpus c s t so_far adds = record {
 }
 
 -- the CPUs before one of the group, and that one, are no more than all
-pub fits : (f : Fig → ℕ) (figs : List Fig) (group : Mask) (c n : ℕ) → IsAt group c → n ≡ sum_by (λ cpu. f (fig_at figs cpu)) (members_below group c) → n + f (fig_at figs c) ≤ total f figs group
+pub fits : (f : Fig → ℕ) (figs : List Fig) (group : Mask) (c n : ℕ) → IsAt group c
+    → n ≡ sum_by (λ cpu. f (fig_at figs cpu)) (members_below group c) → n + f (fig_at figs c) ≤ total f figs group
 unfolding total
 fits f figs group c n at e = rw e (sum_members_fits (λ cpu. f (fig_at figs cpu)) group c at.there at.in_range)
 
@@ -69,6 +72,14 @@ pub record AreTotals (position : ℕ) (figs : List Fig) (group : Mask) (s : Sums
   pub idle : s.idle ≡ idle_count figs group
   pub marked : s.marked ≡ any_marked position figs group
 
-pub all_summed : (position : ℕ) (figs : List Fig) (group : Mask) (s : Sums) → IsSumOver position figs (members group) s → AreTotals position figs group s
+pub all_summed : (position : ℕ) (figs : List Fig) (group : Mask) (s : Sums)
+    → IsSumOver position figs (members group) s → AreTotals position figs group s
 unfolding total idle_count any_marked
-all_summed position figs group s sums = record { nr = sums.nr; load = sums.load; util = sums.util; runnable = sums.runnable; idle = sums.idle; marked = sums.marked }
+all_summed position figs group s sums = record {
+  nr = sums.nr;
+  load = sums.load;
+  util = sums.util;
+  runnable = sums.runnable;
+  idle = sums.idle;
+  marked = sums.marked;
+}

@@ -49,7 +49,8 @@ decimal_numeral n small =
     rw (ne_eqb (length (decimal n)) 0 (λ e. omega (arith, e, some)), digits_decimal own n small, one_digit n small) refl
 
 -- a text that spells a number is that number in decimal
-pub number_spelled : (least most n : ℕ) (text : List ℕ) → most < 2 ^ 64 → number_within least most text ≡ Some n → (text ≡ decimal n) × (least ≤ n) × (n ≤ most)
+pub number_spelled : (least most n : ℕ) (text : List ℕ) → most < 2 ^ 64 → number_within least most text ≡ Some n
+    → (text ≡ decimal n) × (least ≤ n) × (n ≤ most)
 unfolding number_within
 number_spelled least most n text small h =
     let v = digits_value 10 text in
@@ -68,7 +69,8 @@ number_decimal least most n small lo hi =
     rw (digits_value-decimal own n small, decimal_numeral n small, le-leb least n lo, le-leb n most hi) refl
 
 ten_more : (n j v : ℕ) → n / 10 ^ suc j ≡ v → (n / 10) / 10 ^ j ≡ v
-ten_more n j v e = div-div-eq-div-mul n 10 (10 ^ j) ∙ ap (λ m. n / m) (let p : 10 * 10 ^ j ≡ 10 ^ suc j = omega (arith, pow-suc 10 j) in p) ∙ e
+ten_more n j v e = div-div-eq-div-mul n 10 (10 ^ j)
+    ∙ ap (λ m. n / m) (let p : 10 * 10 ^ j ≡ 10 ^ suc j = omega (arith, pow-suc 10 j) in p) ∙ e
 
 ten_less : (n j : ℕ) → (n / 10 ^ j) / 10 ≡ n / 10 ^ suc j
 ten_less n j = div-div-eq-div-mul n (10 ^ j) 10 ∙ ap (λ m. n / m) (let p : 10 ^ j * 10 ≡ 10 ^ suc j = omega (arith, pow-suc 10 j) in p)
@@ -82,14 +84,17 @@ short f fs r n small e = elim (cases_lt n 10) [
 ]
 
 -- the front of a decimal is the decimal of the number without as many digits
-pub cut_decimal : (rest : List ℕ) (f : ℕ) (fs : List ℕ) (n : ℕ) → n < 2 ^ 64 → (f ∷ fs) ++ rest ≡ decimal n → f ∷ fs ≡ decimal (n / 10 ^ length rest)
+pub cut_decimal : (rest : List ℕ) (f : ℕ) (fs : List ℕ) (n : ℕ) → n < 2 ^ 64 → (f ∷ fs) ++ rest ≡ decimal n
+    → f ∷ fs ≡ decimal (n / 10 ^ length rest)
 cut_decimal [] f fs n small e = sym (append-nil (f ∷ fs)) ∙ e ∙ ap decimal (sym (div-one n))
 cut_decimal (r ∷ rest) f fs n small e =
     let m = n / 10 ^ length rest in
     let m_small : m < 2 ^ 64 = omega arith in
-    let whole : f ∷ (fs ++ r ∷ []) ≡ decimal m = cut_decimal rest f (fs ++ r ∷ []) n small (ap (λ t. f ∷ t) (append_assoc fs (r ∷ []) rest) ∙ e) in
+    let whole : f ∷ (fs ++ r ∷ []) ≡ decimal m =
+    cut_decimal rest f (fs ++ r ∷ []) n small (ap (λ t. f ∷ t) (append_assoc fs (r ∷ []) rest) ∙ e) in
     let ten : 10 ≤ m = short f fs r m m_small whole in
-    (same_from_push (f ∷ fs) (decimal (m / 10)) r (48 + m % 10) (whole ∙ decimal_step m ten m_small)).0 ∙ ap decimal (ten_less n (length rest))
+    (same_from_push (f ∷ fs) (decimal (m / 10)) r (48 + m % 10) (whole ∙ decimal_step m ten m_small)).0
+    ∙ ap decimal (ten_less n (length rest))
 
 big : (n j : ℕ) → 0 < n / 10 ^ suc j → 10 ≤ n
 big n j h = elim (cases_lt n 10) [

@@ -18,7 +18,8 @@ use Rattle.lb_text.proofs.Leading.{some_there}
 use Rattle.lb_text.proofs.Places.{IsPlaced, first_bad_placed}
 
 -- the text that the first part begins with
-pub split_front : (p : ℕ → Bool) (front rest : List ℕ) → All (λ x. p x ≡ false) front → (more : List ℕ) × (others : List (List ℕ)) × (slice_split p (front ++ rest) ≡ (front ++ more) ∷ others)
+pub split_front : (p : ℕ → Bool) (front rest : List ℕ) → All (λ x. p x ≡ false) front
+    → (more : List ℕ) × (others : List (List ℕ)) × (slice_split p (front ++ rest) ≡ (front ++ more) ∷ others)
 split_front p [] rest free = split_some p rest
   where
     first_some : (x : ℕ) (parts : List (List ℕ)) → (more : List ℕ) × (others : List (List ℕ)) × (onto_first x parts ≡ more ∷ others)
@@ -43,7 +44,9 @@ digits_free : (c : ℕ) (text : List ℕ) → is_ascii_digit c ≡ false → all
 digits_free c [] other e = All-nil (λ b. eqb b c ≡ false)
 digits_free c (b ∷ text) other e =
     let p = and_parts (is_ascii_digit b) (all_ascii_digits text) e in
-    All-cons (λ b. eqb b c ≡ false) b text (ne_eqb b c (λ same. both_ways (is_ascii_digit c) other (subst (λ (x : ℕ). is_ascii_digit x ≡ true) same p.0))) (digits_free c text other p.1)
+    All-cons (λ b. eqb b c ≡ false) b text
+    (ne_eqb b c (λ same. both_ways (is_ascii_digit c) other
+    (subst (λ (x : ℕ). is_ascii_digit x ≡ true) same p.0))) (digits_free c text other p.1)
 
 abbrev most_cpu : ℕ
 most_cpu = MAX_CPUS - 1
@@ -58,7 +61,8 @@ number_digits least most text small e =
     let s = number_spelled least most some.0 text small some.1 in
     subst (λ (t : List ℕ). all_ascii_digits t ≡ true) (sym s.0) (decimal_digits some.0 (omega (arith, s.2, small)))
 
-pub number_free : (c least most : ℕ) (text : List ℕ) → is_ascii_digit c ≡ false → most < 2 ^ 64 → is_number least most text ≡ true → All (λ b. eqb b c ≡ false) text
+pub number_free : (c least most : ℕ) (text : List ℕ) → is_ascii_digit c ≡ false → most < 2 ^ 64
+    → is_number least most text ≡ true → All (λ b. eqb b c ≡ false) text
 number_free c least most text other small e = digits_free c text other (number_digits least most text small e)
 
 some_map : {A : Type 0} (f : ℕ → A) (o : Option ℕ) → is_some (option_map f o) ≡ is_some o
@@ -90,40 +94,49 @@ item_first text more free e =
 dash_first : (text more : List ℕ) → NoDash text → is_item (text ++ 45 ∷ more) ≡ true → is_number 0 most_cpu text ≡ true
 unfolding item_of
 dash_first text more free e =
-    first_number text (slice_split (λ b. eqb b 45) more) (ap (λ ps. is_some (run_of_ends ps)) (sym (slice_split_at (λ b. eqb b 45) text 45 more free refl)) ∙ e)
+    first_number text (slice_split (λ b. eqb b 45) more)
+    (ap (λ ps. is_some (run_of_ends ps)) (sym (slice_split_at (λ b. eqb b 45) text 45 more free refl)) ∙ e)
 
 -- the part after the first `-`
-last_number : (first : List ℕ) (a : ℕ) (text : List ℕ) (parts : List (List ℕ)) → number_within 0 most_cpu first ≡ Some a → slice_split (λ b. eqb b 45) text ≡ parts
+last_number : (first : List ℕ) (a : ℕ) (text : List ℕ) (parts : List (List ℕ))
+    → number_within 0 most_cpu first ≡ Some a → slice_split (λ b. eqb b 45) text ≡ parts
     → is_some (run_of_ends (first ∷ parts)) ≡ true → is_number a most_cpu text ≡ true
 last_number first a text [] is e h = let some = split_front (λ b. eqb b 45) [] text (All-nil (λ b. eqb b 45 ≡ false)) in cc (sym e ∙ some.2)
 last_number first a text (last ∷ []) is e h =
     ap (is_number a most_cpu) (one_part 45 text last e) ∙ sym (some_map (λ (n : ℕ). (a, n)) (number_within a most_cpu last)) ∙ (rw is at h)
 last_number first a text (last ∷ more ∷ others) is e h = cc h
 
-pub dash_last : (first : List ℕ) (a : ℕ) (text : List ℕ) → NoDash first → number_within 0 most_cpu first ≡ Some a → is_item (first ++ 45 ∷ text) ≡ true → is_number a most_cpu text ≡ true
+pub dash_last : (first : List ℕ) (a : ℕ) (text : List ℕ) → NoDash first → number_within 0 most_cpu first ≡ Some a
+    → is_item (first ++ 45 ∷ text) ≡ true → is_number a most_cpu text ≡ true
 unfolding item_of
 dash_last first a text free is e =
-    last_number first a text (slice_split (λ b. eqb b 45) text) is refl (ap (λ ps. is_some (run_of_ends ps)) (sym (slice_split_at (λ b. eqb b 45) first 45 text free refl)) ∙ e)
+    last_number first a text (slice_split (λ b. eqb b 45) text) is refl
+    (ap (λ ps. is_some (run_of_ends ps)) (sym (slice_split_at (λ b. eqb b 45) first 45 text free refl)) ∙ e)
 
 -- two numbers with `-` between them
-pub dash_item : (first : List ℕ) (a b : ℕ) (text : List ℕ) → NoDash first → number_within 0 most_cpu first ≡ Some a → number_within a most_cpu text ≡ Some b → item_of (first ++ 45 ∷ text) ≡ Some (a, b)
+pub dash_item : (first : List ℕ) (a b : ℕ) (text : List ℕ) → NoDash first → number_within 0 most_cpu first ≡ Some a
+    → number_within a most_cpu text ≡ Some b → item_of (first ++ 45 ∷ text) ≡ Some (a, b)
 unfolding item_of
 dash_item first a b text free is e =
     let parts : slice_split (λ c. eqb c 45) (first ++ 45 ∷ text) ≡ first ∷ text ∷ [] =
-    slice_split_at (λ c. eqb c 45) first 45 text free refl ∙ ap (λ ps. first ∷ ps) (slice_split_none (λ c. eqb c 45) text (number_free 45 a most_cpu text refl (omega arith) (ap is_some e))) in
+    slice_split_at (λ c. eqb c 45) first 45 text free refl
+    ∙ ap (λ ps. first ∷ ps) (slice_split_none (λ c. eqb c 45) text
+    (number_free 45 a most_cpu text refl (omega arith) (ap is_some e))) in
     ap run_of_ends parts ∙ ap (option_and_then (run_from text)) is ∙ ap (option_map (λ (n : ℕ). (a, n))) e
 
 -- a number alone
 pub lone_item : (text : List ℕ) (a : ℕ) → number_within 0 most_cpu text ≡ Some a → item_of text ≡ Some (a, a)
 unfolding item_of
 lone_item text a e =
-    ap run_of_ends (slice_split_none (λ c. eqb c 45) text (number_free 45 0 most_cpu text refl (omega arith) (ap is_some e))) ∙ ap (option_map (λ (n : ℕ). (n, n))) e
+    ap run_of_ends (slice_split_none (λ c. eqb c 45) text
+    (number_free 45 0 most_cpu text refl (omega arith) (ap is_some e))) ∙ ap (option_map (λ (n : ℕ). (n, n))) e
 
 go_number : (least : ℕ) → least ≤ most_cpu → CanGoOn (is_number least most_cpu) []
 go_number least le = (decimal most_cpu, ap is_some (number_decimal least most_cpu most_cpu (omega arith) le (omega arith)))
 
 -- the part before `-`, or the whole item where it has none
-pub first_placed : (part tail : List ℕ) → NoDash part → ((c : ℕ) (more : List ℕ) → tail ≡ c ∷ more → c ≡ 45) → IsPlaced (is_number 0 most_cpu) is_item [] part tail
+pub first_placed : (part tail : List ℕ) → NoDash part → ((c : ℕ) (more : List ℕ) → tail ≡ c ∷ more → c ≡ 45)
+    → IsPlaced (is_number 0 most_cpu) is_item [] part tail
 first_placed part tail free dash = record {
   begins = (let go = go_number 0 (omega arith) in (go.0, number_item go.0 go.1));
   inward = λ k go. item_first (take k part) go.0 (All-take (λ b. eqb b 45 ≡ false) k part free) go.1;
@@ -135,13 +148,19 @@ after_dash : (first text more : List ℕ) → ((first ++ 45 ∷ []) ++ text) ++ 
 after_dash first text more = append_assoc (first ++ 45 ∷ []) text more ∙ append_assoc first (45 ∷ []) (text ++ more)
 
 -- the part after `-`
-pub last_placed : (first : List ℕ) (a : ℕ) (part : List ℕ) → NoDash first → number_within 0 most_cpu first ≡ Some a → a ≤ most_cpu → IsPlaced (is_number a most_cpu) is_item (first ++ 45 ∷ []) part []
+pub last_placed : (first : List ℕ) (a : ℕ) (part : List ℕ) → NoDash first → number_within 0 most_cpu first ≡ Some a
+    → a ≤ most_cpu → IsPlaced (is_number a most_cpu) is_item (first ++ 45 ∷ []) part []
 last_placed first a part free is le =
     let out : (text : List ℕ) → CanGoOn (is_number a most_cpu) text → CanGoOn is_item ((first ++ 45 ∷ []) ++ text) =
-    λ text go. let some = some_there (number_within a most_cpu (text ++ go.0)) go.1 in (go.0, ap is_item (after_dash first text go.0) ∙ ap is_some (dash_item first a some.0 (text ++ go.0) free is some.1)) in
+    λ text go. let some = some_there (number_within a most_cpu (text ++ go.0)) go.1 in
+    (go.0, ap is_item (after_dash first text go.0) ∙ ap is_some (dash_item first a some.0 (text ++ go.0) free is some.1)) in
     record {
       begins = subst (λ (t : List ℕ). CanGoOn is_item t) (append-nil (first ++ 45 ∷ [])) (out [] (go_number a le));
-      inward = λ k go. (go.0, dash_last first a (take k part ++ go.0) free is (ap is_item (sym (after_dash first (take k part) go.0)) ∙ go.1));
+      inward = λ k go. (
+        go.0,
+        dash_last first a (take k part ++ go.0) free is
+            (ap is_item (sym (after_dash first (take k part) go.0)) ∙ go.1),
+      );
       outward = λ k go. out (take k part) go;
       ends = λ c more e go. cc e;
     }
@@ -155,14 +174,18 @@ ends_free (cpu ∷ []) e = number_free 59 0 most_cpu cpu refl (omega arith) (fir
 ends_free (first ∷ last ∷ []) e =
     let a = some_there (number_within 0 most_cpu first) (first_number first (last ∷ []) e) in
     let some : is_some (run_from last a.0) ≡ true = rw a.1 at e in
-    All-append (λ b. eqb b 59 ≡ false) first (45 ∷ last) (number_free 59 0 most_cpu first refl (omega arith) (first_number first (last ∷ []) e))
-    (All-cons (λ b. eqb b 59 ≡ false) 45 last refl (number_free 59 a.0 most_cpu last refl (omega arith) (sym (some_map (λ (n : ℕ). (a.0, n)) (number_within a.0 most_cpu last)) ∙ some)))
+    All-append (λ b. eqb b 59 ≡ false) first (45 ∷ last)
+    (number_free 59 0 most_cpu first refl (omega arith) (first_number first (last ∷ []) e))
+    (All-cons (λ b. eqb b 59 ≡ false) 45 last refl
+    (number_free 59 a.0 most_cpu last refl (omega arith)
+    (sym (some_map (λ (n : ℕ). (a.0, n)) (number_within a.0 most_cpu last)) ∙ some)))
 ends_free (first ∷ last ∷ more ∷ others) e = cc e
 
 -- no item has `;`
 pub item_free : (text : List ℕ) → is_item text ≡ true → All (λ b. eqb b 59 ≡ false) text
 unfolding item_of
-item_free text e = subst (λ (t : List ℕ). All (λ b. eqb b 59 ≡ false) t) (join_with_byte-slice_split 45 text) (ends_free (slice_split (λ b. eqb b 45) text) e)
+item_free text e = subst (λ (t : List ℕ). All (λ b. eqb b 59 ≡ false) t) (join_with_byte-slice_split 45 text)
+    (ends_free (slice_split (λ b. eqb b 45) text) e)
 
 pub none_from : {A : Type 0} (o : Option A) → (is_some o ≡ true → ⊥) → o ≡ None
 none_from None h = refl
@@ -182,27 +205,39 @@ none_alone : (item : List ℕ) → NoDash item → number_within 0 most_cpu item
 unfolding item_of
 none_alone item free bad = ap run_of_ends (slice_split_none (λ b. eqb b 45) item free) ∙ ap (option_map (λ (n : ℕ). (n, n))) bad
 
-pub bad_alone : (item : List ℕ) (at : ℕ) → NoDash item → number_within 0 most_cpu item ≡ None → IsFirstBad (is_number 0 most_cpu) item at → IsBadItem item at
+pub bad_alone : (item : List ℕ) (at : ℕ) → NoDash item → number_within 0 most_cpu item ≡ None
+    → IsFirstBad (is_number 0 most_cpu) item at → IsBadItem item at
 bad_alone item at free bad b =
-    let placed = first_bad_placed (is_number 0 most_cpu) is_item [] item [] at (first_placed item [] free (λ c more e. cc e)) (false_from (number_within 0 most_cpu item) bad) b in
-    let at_is : 0 + at ≡ at = omega arith in
-    (none_alone item free bad, subst (λ (t : List ℕ). IsFirstBad is_item t at) (append-nil item) (subst (λ (n : ℕ). IsFirstBad is_item (item ++ []) n) at_is placed))
+    let placed = first_bad_placed (is_number 0 most_cpu) is_item [] item [] at
+    (first_placed item [] free (λ c more e. cc e)) (false_from (number_within 0 most_cpu item) bad) b in
+    let at_is : 0 + at ≡ at = omega arith in (
+      none_alone item free bad,
+      subst (λ (t : List ℕ). IsFirstBad is_item t at) (append-nil item)
+          (subst (λ (n : ℕ). IsFirstBad is_item (item ++ []) n) at_is placed),
+    )
 
-pub bad_first : (first last : List ℕ) (at : ℕ) → NoDash first → number_within 0 most_cpu first ≡ None → IsFirstBad (is_number 0 most_cpu) first at → IsBadItem (first ++ 45 ∷ last) at
+pub bad_first : (first last : List ℕ) (at : ℕ) → NoDash first → number_within 0 most_cpu first ≡ None
+    → IsFirstBad (is_number 0 most_cpu) first at → IsBadItem (first ++ 45 ∷ last) at
 bad_first first last at free bad b =
     let dash : (c : ℕ) (more : List ℕ) → (45 ∷ last) ≡ c ∷ more → c ≡ 45 = λ c more e. cc in
-    let placed = first_bad_placed (is_number 0 most_cpu) is_item [] first (45 ∷ last) at (first_placed first (45 ∷ last) free dash) (false_from (number_within 0 most_cpu first) bad) b in
+    let placed = first_bad_placed (is_number 0 most_cpu) is_item [] first (45 ∷ last) at
+    (first_placed first (45 ∷ last) free dash) (false_from (number_within 0 most_cpu first) bad) b in
     let at_is : 0 + at ≡ at = omega arith in (
       none_from (item_of (first ++ 45 ∷ last)) (λ some. not_there (number_within 0 most_cpu first) bad (dash_first first last free some)),
       subst (λ (n : ℕ). IsFirstBad is_item (first ++ 45 ∷ last) n) at_is placed,
     )
 
-pub bad_last : (first last : List ℕ) (a at : ℕ) → NoDash first → number_within 0 most_cpu first ≡ Some a → a ≤ most_cpu → number_within a most_cpu last ≡ None → IsFirstBad (is_number a most_cpu) last at
+pub bad_last : (first last : List ℕ) (a at : ℕ) → NoDash first → number_within 0 most_cpu first ≡ Some a
+    → a ≤ most_cpu → number_within a most_cpu last ≡ None → IsFirstBad (is_number a most_cpu) last at
     → IsBadItem (first ++ 45 ∷ last) (length first + 1 + at)
 bad_last first last a at free is le bad b =
-    let placed = first_bad_placed (is_number a most_cpu) is_item (first ++ 45 ∷ []) last [] at (last_placed first a last free is le) (false_from (number_within a most_cpu last) bad) b in
-    let text_is : (first ++ 45 ∷ []) ++ (last ++ []) ≡ first ++ 45 ∷ last = ap (λ t. (first ++ 45 ∷ []) ++ t) (append-nil last) ∙ append_assoc first (45 ∷ []) last in
+    let placed = first_bad_placed (is_number a most_cpu) is_item (first ++ 45 ∷ []) last [] at
+    (last_placed first a last free is le) (false_from (number_within a most_cpu last) bad) b in
+    let text_is : (first ++ 45 ∷ []) ++ (last ++ []) ≡ first ++ 45 ∷ last =
+    ap (λ t. (first ++ 45 ∷ []) ++ t) (append-nil last) ∙ append_assoc first (45 ∷ []) last in
     let at_is : length (first ++ 45 ∷ []) + at ≡ length first + 1 + at = omega (arith, length-append first (45 ∷ [])) in (
-      none_from (item_of (first ++ 45 ∷ last)) (λ some. not_there (number_within a most_cpu last) bad (dash_last first a last free is some)),
-      subst (λ (t : List ℕ). IsFirstBad is_item t (length first + 1 + at)) text_is (subst (λ (n : ℕ). IsFirstBad is_item ((first ++ 45 ∷ []) ++ (last ++ [])) n) at_is placed),
+      none_from (item_of (first ++ 45 ∷ last))
+          (λ some. not_there (number_within a most_cpu last) bad (dash_last first a last free is some)),
+      subst (λ (t : List ℕ). IsFirstBad is_item t (length first + 1 + at)) text_is
+          (subst (λ (n : ℕ). IsFirstBad is_item ((first ++ 45 ∷ []) ++ (last ++ [])) n) at_is placed),
     )

@@ -43,7 +43,8 @@ cut_some : (text rest : List ℕ) (n : ℕ) → n < 2 ^ 64 → 0 < length text �
 cut_some [] rest n small some whole = absurd (omega (arith, some))
 cut_some (f ∷ fs) rest n small some whole = cut_decimal rest f fs n small whole
 
-pub begins_from : (least most value : ℕ) → most < 2 ^ 64 → value < 2 ^ 64 → CanGoOn (is_number least most) (decimal value) → Begins least most value
+pub begins_from : (least most value : ℕ) → most < 2 ^ 64 → value < 2 ^ 64
+    → CanGoOn (is_number least most) (decimal value) → Begins least most value
 begins_from least most value small fits go =
     let some = some_there (number_within least most (decimal value ++ go.0)) go.1 in
     let s = number_spelled least most some.0 (decimal value ++ go.0) small some.1 in
@@ -59,7 +60,8 @@ begins_from least most value small fits go =
     }
 
 -- such a number is there, since the bounds cut by some number of digits are around the value
-pub leads_there : (least most value j : ℕ) → most < 2 ^ 64 → least ≤ most → 0 < value → least / 10 ^ j ≤ value → value ≤ most / 10 ^ j → CanGoOn (is_number least most) (decimal value)
+pub leads_there : (least most value j : ℕ) → most < 2 ^ 64 → least ≤ most → 0 < value → least / 10 ^ j ≤ value
+    → value ≤ most / 10 ^ j → CanGoOn (is_number least most) (decimal value)
 leads_there least most value j small le some lo hi =
     let k = 10 ^ j in
     let k_pos : 0 < k = ten_pos j in
@@ -94,12 +96,17 @@ leads_only least most value j b below =
 
 -- 0 begins itself alone
 pub zero_leads : (least most : ℕ) → least ≤ most → least ≡ 0 → CanGoOn (is_number least most) (decimal 0)
-zero_leads least most le none = ([], ap (λ t. is_some (number_within least most t)) (append-nil (decimal 0)) ∙ ap is_some (number_decimal least most 0 (omega arith) (omega arith) (omega arith)))
+zero_leads least most le none = (
+  [],
+  ap (λ t. is_some (number_within least most t)) (append-nil (decimal 0))
+      ∙ ap is_some (number_decimal least most 0 (omega arith) (omega arith) (omega arith)),
+)
 
 pub zero_leads_only : (least most : ℕ) → Begins least most 0 → most < 2 ^ 64 → least ≡ 0
 zero_leads_only least most b small = elim (cases_lt 0 b.number) [
   | inl some ↦
-      let first : get_or (decimal b.number) 0 0 ≡ 48 = ap (λ t. get_or t 0 0) (sym b.spelled ∙ ap (λ t. t ++ b.rest) (decimal_digit 0 (omega arith))) in
+      let first : get_or (decimal b.number) 0 0 ≡ 48 =
+      ap (λ t. get_or t 0 0) (sym b.spelled ∙ ap (λ t. t ++ b.rest) (decimal_digit 0 (omega arith))) in
       absurd (omega (arith, first, first_decimal b.number some (omega (arith, b.high))))
   | inr none ↦ omega (arith, b.low)
 ]
@@ -114,12 +121,19 @@ pub record IsCut (least most value low high : ℕ) : Type 0 where
   pub above : (i : ℕ) → i < digits → value < least / 10 ^ i
 
 pub cut_none : (least most value : ℕ) → 0 < value → IsCut least most value least most
-cut_none least most value some = record { some = some; digits = 0; low_cut = sym (div-one least); high_cut = sym (div-one most); above = λ i lt. absurd (omega (arith, lt)) }
+cut_none least most value some = record {
+  some = some;
+  digits = 0;
+  low_cut = sym (div-one least);
+  high_cut = sym (div-one most);
+  above = λ i lt. absurd (omega (arith, lt));
+}
 
 cut_one_more : (n j : ℕ) → n / 10 ^ j / 10 ≡ n / 10 ^ (j + 1)
 cut_one_more n j = div-div-eq-div-mul n (10 ^ j) 10 ∙ ap (λ m. n / m) (sym (pow-add 10 j 1))
 
-pub cut_more_of : (least most value low high : ℕ) → IsCut least most value low high → value < low → IsCut least most value (low / 10) (high / 10)
+pub cut_more_of : (least most value low high : ℕ) → IsCut least most value low high → value < low
+    → IsCut least most value (low / 10) (high / 10)
 cut_more_of least most value low high c lt = record {
   some = c.some;
   digits = c.digits + 1;
@@ -128,7 +142,8 @@ cut_more_of least most value low high c lt = record {
   above = below_more _ _ c.above (rw c.low_cut at lt);
 }
 
-pub cut_leads : (least most value low high : ℕ) → most < 2 ^ 64 → value < 2 ^ 64 → least ≤ most → IsCut least most value low high → low ≤ value
+pub cut_leads : (least most value low high : ℕ) → most < 2 ^ 64 → value < 2 ^ 64 → least ≤ most
+    → IsCut least most value low high → low ≤ value
     → (value ≤ high → CanGoOn (is_number least most) (decimal value)) × (CanGoOn (is_number least most) (decimal value) → value ≤ high)
 cut_leads least most value low high small fits le c under = (
   λ yes. leads_there least most value c.digits small le c.some (rw c.low_cut at under) (rw c.high_cut at yes),
@@ -136,7 +151,8 @@ cut_leads least most value low high small fits le c under = (
 )
 
 -- a digit that a number has after others
-pub digit_after : (least most v b : ℕ) → most < 2 ^ 64 → v < 2 ^ 64 → CanGoOn (is_number least most) (decimal v ++ b ∷ []) → (0 < v) × (48 ≤ b) × (b ≤ 57) × (v * 10 + (b - 48) ≤ most)
+pub digit_after : (least most v b : ℕ) → most < 2 ^ 64 → v < 2 ^ 64
+    → CanGoOn (is_number least most) (decimal v ++ b ∷ []) → (0 < v) × (48 ≤ b) × (b ≤ 57) × (v * 10 + (b - 48) ≤ most)
 digit_after least most v b small fits go =
     let some = some_there (number_within least most ((decimal v ++ b ∷ []) ++ go.0)) go.1 in
     let n = some.0 in
@@ -145,9 +161,16 @@ digit_after least most v b small fits go =
     let m = n / 10 ^ length go.0 in
     let m_small : m < 2 ^ 64 = omega (arith, n_small) in
     let m_most : m ≤ most = omega (arith, s.2) in
-    let m_is : decimal v ++ b ∷ [] ≡ decimal m = cut_some (decimal v ++ b ∷ []) go.0 n n_small (omega (arith, length-append (decimal v) (b ∷ []))) s.0 in
+    let m_is : decimal v ++ b ∷ [] ≡ decimal m =
+    cut_some (decimal v ++ b ∷ []) go.0 n n_small (omega (arith, length-append (decimal v) (b ∷ []))) s.0 in
     let ten : 10 ≤ m = elim (cases_lt m 10) [
-      | inl lt ↦ absurd (omega (arith, ap length m_is ∙ ap length (decimal_digit m lt), length-append (decimal v) (b ∷ []), decimal_nonempty v fits))
+      | inl lt ↦ absurd (omega (
+        arith,
+        ap length m_is
+            ∙ ap length (decimal_digit m lt),
+        length-append (decimal v) (b ∷ []),
+        decimal_nonempty v fits,
+      ))
       | inr ge ↦ ge
     ] in
     let parts = same_from_push (decimal v) (decimal (m / 10)) b (48 + m % 10) (m_is ∙ decimal_step m ten m_small) in
@@ -168,7 +191,14 @@ digit_first least most b small go =
     let m_is : b ∷ [] ≡ decimal m = cut_some (b ∷ []) go.0 n n_small (omega arith) s.0 in
     let one : m < 10 = elim (cases_lt m 10) [
       | inl lt ↦ lt
-      | inr ge ↦ absurd (omega (arith, ap length m_is ∙ ap length (decimal_step m ge m_small), length-append (decimal (m / 10)) ((48 + m % 10) ∷ []), decimal_nonempty (m / 10) (omega (arith, m_small))))
+      | inr ge ↦ absurd (omega (
+        arith,
+        ap length m_is
+            ∙ ap length (decimal_step m ge m_small),
+        length-append (decimal (m / 10))
+            ((48 + m % 10) ∷ []),
+        decimal_nonempty (m / 10) (omega (arith, m_small)),
+      ))
     ] in
     let first : b ≡ 48 + m = ap (λ t. get_or t 0 0) (m_is ∙ decimal_digit m one) in
     (omega (arith, first), omega (arith, first, one), omega (arith, first, m_most))
@@ -194,7 +224,8 @@ digit_is b h = let p = and_parts (leb 48 b) (leb b 57) h in (leb-true 48 b p.0, 
 abbrev pub GoesOn : ℕ → List ℕ → Option ℕ → Type 0
 GoesOn most text o = MatchOption o ((least : ℕ) → CanGoOn (is_number least most) text → ⊥) (λ n. Spelled (Some n) text)
 
-first_goes_on : (most b : ℕ) (t : Bool) → most < 2 ^ 64 → (is_ascii_digit b && leb (b - 48) most) ≡ t → GoesOn most (b ∷ []) (cond t (Some (b - 48)) None)
+first_goes_on : (most b : ℕ) (t : Bool) → most < 2 ^ 64 → (is_ascii_digit b && leb (b - 48) most) ≡ t
+    → GoesOn most (b ∷ []) (cond t (Some (b - 48)) None)
 first_goes_on most b true small e =
     let p = and_parts (is_ascii_digit b) (leb (b - 48) most) e in
     let d = digit_is b p.0 in
@@ -202,9 +233,11 @@ first_goes_on most b true small e =
     (one_digit_is b d.0 d.1, omega (arith, within, small))
 first_goes_on most b false small e = λ least go.
     let d = digit_first least most b small go in
-    both_ways (is_ascii_digit b && leb (b - 48) most) e (and_from (is_ascii_digit b) (leb (b - 48) most) (is_digit b d.0 d.1) (le-leb (b - 48) most d.2))
+    both_ways (is_ascii_digit b && leb (b - 48) most) e
+    (and_from (is_ascii_digit b) (leb (b - 48) most) (is_digit b d.0 d.1) (le-leb (b - 48) most d.2))
 
-more_goes_on : (most v b : ℕ) (t : Bool) → most < 2 ^ 64 → v < 2 ^ 64 → (is_ascii_digit b && not (eqb v 0) && leb (v * 10 + (b - 48)) most) ≡ t
+more_goes_on : (most v b : ℕ) (t : Bool) → most < 2 ^ 64 → v < 2 ^ 64
+    → (is_ascii_digit b && not (eqb v 0) && leb (v * 10 + (b - 48)) most) ≡ t
     → GoesOn most (decimal v ++ b ∷ []) (cond t (Some (v * 10 + (b - 48))) None)
 more_goes_on most v b true small fits e =
     let next = v * 10 + (b - 48) in
@@ -219,10 +252,14 @@ more_goes_on most v b false small fits e = λ least go.
     let d = digit_after least most v b small fits go in
     let some : not (eqb v 0) ≡ true = ap not (ne_eqb v 0 (λ z. omega (arith, z, d.0))) in
     both_ways (is_ascii_digit b && not (eqb v 0) && leb next most) e
-    (and_from (is_ascii_digit b && not (eqb v 0)) (leb next most) (and_from (is_ascii_digit b) (not (eqb v 0)) (is_digit b d.1 d.2) some) (le-leb next most d.3))
+    (and_from (is_ascii_digit b && not (eqb v 0)) (leb next most)
+    (and_from (is_ascii_digit b) (not (eqb v 0)) (is_digit b d.1 d.2) some) (le-leb next most d.3))
 
-pub goes_on_with : (most : ℕ) (so_far : Option ℕ) (text : List ℕ) (b : ℕ) → most < 2 ^ 64 → Spelled so_far text → GoesOn most (text ++ b ∷ []) (number_with most so_far b)
+pub goes_on_with : (most : ℕ) (so_far : Option ℕ) (text : List ℕ) (b : ℕ) → most < 2 ^ 64 → Spelled so_far text
+    → GoesOn most (text ++ b ∷ []) (number_with most so_far b)
 goes_on_with most None text b small s =
-    subst (λ (t : List ℕ). GoesOn most (t ++ b ∷ []) (number_with most None b)) (sym s) (first_goes_on most b (is_ascii_digit b && leb (b - 48) most) small refl)
+    subst (λ (t : List ℕ). GoesOn most (t ++ b ∷ []) (number_with most None b)) (sym s)
+    (first_goes_on most b (is_ascii_digit b && leb (b - 48) most) small refl)
 goes_on_with most (Some v) text b small s =
-    subst (λ (t : List ℕ). GoesOn most (t ++ b ∷ []) (number_with most (Some v) b)) (sym s.0) (more_goes_on most v b (is_ascii_digit b && not (eqb v 0) && leb (v * 10 + (b - 48)) most) small s.1 refl)
+    subst (λ (t : List ℕ). GoesOn most (t ++ b ∷ []) (number_with most (Some v) b)) (sym s.0)
+    (more_goes_on most v b (is_ascii_digit b && not (eqb v 0) && leb (v * 10 + (b - 48)) most) small s.1 refl)

@@ -62,15 +62,20 @@ plain_placed text e = record {
   ends = λ c more e go. cc e;
 }
 
-pub minus_bad : (digits : List ℕ) (at : ℕ) → number_within 1 20 digits ≡ None → IsFirstBad (is_number 1 20) digits at → (nice_of (45 ∷ digits) ≡ None) × IsFirstBad is_nice (45 ∷ digits) (1 + at)
+pub minus_bad : (digits : List ℕ) (at : ℕ) → number_within 1 20 digits ≡ None → IsFirstBad (is_number 1 20) digits at
+    → (nice_of (45 ∷ digits) ≡ None) × IsFirstBad is_nice (45 ∷ digits) (1 + at)
 minus_bad digits at bad b = (
   nice_minus digits ∙ ap (option_map (λ n. neg_ℤ (pos n))) bad,
-  subst (λ (t : List ℕ). IsFirstBad is_nice (45 ∷ t) (1 + at)) (append-nil digits) (first_bad_placed (is_number 1 20) is_nice (45 ∷ []) digits [] at (minus_placed digits) (false_from (number_within 1 20 digits) bad) b),
+  subst (λ (t : List ℕ). IsFirstBad is_nice (45 ∷ t) (1 + at)) (append-nil digits)
+      (first_bad_placed (is_number 1 20) is_nice (45 ∷ []) digits [] at (minus_placed digits)
+      (false_from (number_within 1 20 digits) bad) b),
 )
 
-pub plain_bad : (text : List ℕ) (at : ℕ) → starts_with_minus text ≡ false → number_within 0 19 text ≡ None → IsFirstBad (is_number 0 19) text at → (nice_of text ≡ None) × IsFirstBad is_nice text at
+pub plain_bad : (text : List ℕ) (at : ℕ) → starts_with_minus text ≡ false → number_within 0 19 text ≡ None
+    → IsFirstBad (is_number 0 19) text at → (nice_of text ≡ None) × IsFirstBad is_nice text at
 plain_bad text at e bad b =
-    let placed = first_bad_placed (is_number 0 19) is_nice [] text [] at (plain_placed text e) (false_from (number_within 0 19 text) bad) b in
+    let placed = first_bad_placed (is_number 0 19) is_nice [] text [] at (plain_placed text e)
+    (false_from (number_within 0 19 text) bad) b in
     let at_is : 0 + at ≡ at = omega arith in (
       nice_plain text e ∙ ap (option_map (λ n. pos n)) bad,
       subst (λ (t : List ℕ). IsFirstBad is_nice t at) (append-nil text) (subst (λ (n : ℕ). IsFirstBad is_nice (text ++ []) n) at_is placed),

@@ -28,7 +28,11 @@ use Rattle.lb_text.proofs.Items.{dash_item, lone_item, item_free, number_free}
 use Rattle.lb_text.proofs.RunFacts.{among, among_yes, among_no, StartsFrom, starts}
 
 pub spells_decimal : SpellsDecimal
-spells_decimal least most n text small = (number_spelled least most n text small, λ s. ap (number_within least most) s.0 ∙ number_decimal least most n (omega (arith, s.2, small)) s.1 s.2)
+spells_decimal least most n text small = (
+  number_spelled least most n text small,
+  λ s. ap (number_within least most) s.0
+      ∙ number_decimal least most n (omega (arith, s.2, small)) s.1 s.2,
+)
 
 lone : (k c : ℕ) → (leb c k && leb k c) ≡ eqb k c
 lone k c = grind (arith, nat_tests)
@@ -45,10 +49,13 @@ first_ordered run [] h = h
 first_ordered run (next ∷ runs) h = h.0
 
 -- a CPU is in the runs exactly where it is one of the CPUs
-covers_onto : (k c : ℕ) (runs : List Run) → AreMaximal runs → list_any (run_has k) (onto_run c runs) ≡ (eqb k c || list_any (run_has k) runs)
+covers_onto : (k c : ℕ) (runs : List Run) → AreMaximal runs
+    → list_any (run_has k) (onto_run c runs) ≡ (eqb k c || list_any (run_has k) runs)
 covers_onto k c [] h = ap (λ b. b || false) (lone k c)
 covers_onto k c (run ∷ runs) h = elim (cases_Bool (eqb (c + 1) run.0)) [
-  | inl e ↦ rw e (ap (λ b. b || list_any (run_has k) runs) (joined k c run.0 run.1 (eqb-true (c + 1) run.0 e) (first_ordered run runs h)) ∙ or_assoc (eqb k c) (run_has k run) (list_any (run_has k) runs))
+  | inl e ↦ rw e (ap (λ b. b || list_any (run_has k) runs)
+      (joined k c run.0 run.1 (eqb-true (c + 1) run.0 e) (first_ordered run runs h))
+      ∙ or_assoc (eqb k c) (run_has k run) (list_any (run_has k) runs))
   | inr e ↦ rw e (ap (λ b. b || (run_has k run || list_any (run_has k) runs)) (lone k c))
 ]
 
@@ -91,8 +98,10 @@ runs_among m c (suc w) =
     elim (cases_Bool (has m c)) [
       | inl e ↦ record {
         maximal = rw (among_yes m c w e) (maximal_onto c (runs_of (among m (c + 1) w)) more.maximal (starts m (c + 1) w));
-        ends = rw (among_yes m c w e) (below_onto (c + suc w) c (runs_of (among m (c + 1) w)) (omega arith) (below_same ((c + 1) + w) (c + suc w) (runs_of (among m (c + 1) w)) top more.ends));
-        covers = λ k. rw (among_yes m c w e) (covers_onto k c (runs_of (among m (c + 1) w)) more.maximal ∙ ap (λ b. eqb k c || b) (more.covers k));
+        ends = rw (among_yes m c w e) (below_onto (c + suc w) c (runs_of (among m (c + 1) w)) (omega arith)
+            (below_same ((c + 1) + w) (c + suc w) (runs_of (among m (c + 1) w)) top more.ends));
+        covers = λ k. rw (among_yes m c w e)
+            (covers_onto k c (runs_of (among m (c + 1) w)) more.maximal ∙ ap (λ b. eqb k c || b) (more.covers k));
       }
       | inr e ↦ record {
         maximal = rw (among_no m c w e) more.maximal;
@@ -140,7 +149,8 @@ writes_runs m fits =
     rw (members_among m) (r.maximal, λ k. r.covers k ∙ members_any m k fits)
 
 -- the parts of a text that was joined of them
-split_joined : (part : List ℕ) (parts : List (List ℕ)) → All IsPart (part ∷ parts) → slice_split (λ b. eqb b 59) (join_with_byte 59 (part ∷ parts)) ≡ part ∷ parts
+split_joined : (part : List ℕ) (parts : List (List ℕ)) → All IsPart (part ∷ parts)
+    → slice_split (λ b. eqb b 59) (join_with_byte 59 (part ∷ parts)) ≡ part ∷ parts
 split_joined part [] free = slice_split_none (λ b. eqb b 59) part (All-head IsPart part [] free)
 split_joined part (next ∷ parts) free =
     slice_split_at (λ b. eqb b 59) part 59 (join_with_byte 59 (next ∷ parts)) (All-head IsPart part (next ∷ parts) free) refl
@@ -148,11 +158,13 @@ split_joined part (next ∷ parts) free =
 
 run_item : (run : Run) → run.0 ≤ run.1 → run.1 < MAX_CPUS → item_of (run_text run) ≡ Some run
 run_item run le lt =
-    let first : number_within 0 (MAX_CPUS - 1) (decimal run.0) ≡ Some run.0 = number_decimal 0 (MAX_CPUS - 1) run.0 (omega arith) (omega arith) (omega arith) in
+    let first : number_within 0 (MAX_CPUS - 1) (decimal run.0) ≡ Some run.0 =
+    number_decimal 0 (MAX_CPUS - 1) run.0 (omega arith) (omega arith) (omega arith) in
     elim (cases_Bool (eqb run.0 run.1)) [
       | inl e ↦ rw e (lone_item (decimal run.0) run.0 first ∙ ap (λ b. Some (run.0, b)) (eqb-true run.0 run.1 e))
       | inr e ↦ rw e (
-          dash_item (decimal run.0) run.0 run.1 (decimal run.1) (number_free 45 0 (MAX_CPUS - 1) (decimal run.0) refl (omega arith) (ap is_some first)) first
+          dash_item (decimal run.0) run.0 run.1 (decimal run.1)
+          (number_free 45 0 (MAX_CPUS - 1) (decimal run.0) refl (omega arith) (ap is_some first)) first
           (number_decimal run.0 (MAX_CPUS - 1) run.1 (omega arith) le (omega arith))
           )
     ]
@@ -166,7 +178,12 @@ runs_items (run ∷ runs) h =
 
 text_some : (run : Run) (runs : List Run) → EndBelow MAX_CPUS (run ∷ runs) → 0 < length (join_with_byte 59 (map run_text (run ∷ runs)))
 text_some run [] h = item_some (run_text run) (ap is_some (run_item run h.0 h.1))
-text_some run (next ∷ runs) h = omega (arith, item_some (run_text run) (ap is_some (run_item run h.0 h.1)), length-append (run_text run) (59 ∷ join_with_byte 59 (map run_text (next ∷ runs))))
+text_some run (next ∷ runs) h = omega (
+  arith,
+  item_some (run_text run)
+      (ap is_some (run_item run h.0 h.1)),
+  length-append (run_text run) (59 ∷ join_with_byte 59 (map run_text (next ∷ runs))),
+)
 
 list_none : list_of [] ≡ Some no_cpus
 unfolding list_of
@@ -176,13 +193,15 @@ has_none : (k : ℕ) → has no_cpus k ≡ false
 unfolding has
 has_none k = ap (λ (n : ℕ). eqb n 1) (bit_at-zero k)
 
-back : (m : Mask) (runs : List Run) → m.bits < 2 ^ 64 → EndBelow MAX_CPUS runs → ((k : ℕ) → list_any (run_has k) runs ≡ has m k) → list_of (join_with_byte 59 (map run_text runs)) ≡ Some m
+back : (m : Mask) (runs : List Run) → m.bits < 2 ^ 64 → EndBelow MAX_CPUS runs
+    → ((k : ℕ) → list_any (run_has k) runs ≡ has m k) → list_of (join_with_byte 59 (map run_text runs)) ≡ Some m
 back m [] fits h covers = list_none ∙ ap Some (same_mask no_cpus m (λ k. has_none k ∙ covers k))
 back m (run ∷ runs) fits h covers =
     let items = runs_items (run ∷ runs) h in
     let split = split_joined (run_text run) (map run_text runs) items.1 in
     list_from_items (join_with_byte 59 (map run_text (run ∷ runs))) (run ∷ runs) (text_some run runs h) (ap items_of split ∙ items.0)
-    ∙ ap Some (same_mask (mask_of_runs (run ∷ runs)) m (λ k. mask_where_has (λ cpu. list_any (run_has cpu) (run ∷ runs)) k ∙ in_range m (run ∷ runs) k fits (λ c. sym (covers c))))
+    ∙ ap Some (same_mask (mask_of_runs (run ∷ runs)) m
+    (λ k. mask_where_has (λ cpu. list_any (run_has cpu) (run ∷ runs)) k ∙ in_range m (run ∷ runs) k fits (λ c. sym (covers c))))
 
 text_among : (m : Mask) → runs_text m ≡ join_with_byte 59 (map run_text (runs_of (among m 0 MAX_CPUS)))
 unfolding runs_text members members_below
@@ -210,7 +229,8 @@ where_fits p = bits_small p MAX_CPUS
 
 fits_of : (text : List ℕ) (mask : Mask) (o : Option (List Run)) → option_map mask_of_runs o ≡ Some mask → mask.bits < 2 ^ 64
 fits_of text mask None e = cc e
-fits_of text mask (Some runs) e = let same : mask_of_runs runs ≡ mask = cc in subst (λ (m : Mask). m.bits < 2 ^ 64) same (where_fits (λ cpu. list_any (run_has cpu) runs))
+fits_of text mask (Some runs) e = let same : mask_of_runs runs ≡ mask = cc in
+    subst (λ (m : Mask). m.bits < 2 ^ 64) same (where_fits (λ cpu. list_any (run_has cpu) runs))
 
 pub lists_fit : ListsFit
 unfolding list_of

@@ -25,7 +25,8 @@ among_gap : (m : Mask) (d c n w v : ℕ) → n ≡ c + d → w ≡ d + v → ((k
 among_gap m zero c n w v e f none = let p : c ≡ n = omega arith in let q : w ≡ v = omega arith in rw (p, q) refl
 among_gap m (suc d) c n w v e f none =
     let q : w ≡ suc (d + v) = omega arith in
-    ap (among m c) q ∙ among_no m c (d + v) (none c (omega arith) (omega arith)) ∙ among_gap m d (c + 1) n (d + v) v (omega arith) refl (λ k lo hi. none k (omega arith) hi)
+    ap (among m c) q ∙ among_no m c (d + v) (none c (omega arith) (omega arith))
+    ∙ among_gap m d (c + 1) n (d + v) v (omega arith) refl (λ k lo hi. none k (omega arith) hi)
 
 -- the first run begins at n or after it
 abbrev pub StartsFrom : ℕ → List Run → Type 0
@@ -53,26 +54,34 @@ apart c [] h = refl
 apart c (run ∷ runs) h = rw (ne_eqb (c + 1) run.0 (λ e. omega (arith, e, h))) refl
 
 -- a run ends where the mask lacks the next CPU, or there is none
-run_ends : (m : Mask) (c w : ℕ) → (0 < w → has m (c + 1) ≡ false) → onto_run c (runs_of (among m (c + 1) w)) ≡ (c, c) ∷ runs_of (among m (c + 1) w)
+run_ends : (m : Mask) (c w : ℕ) → (0 < w → has m (c + 1) ≡ false)
+    → onto_run c (runs_of (among m (c + 1) w)) ≡ (c, c) ∷ runs_of (among m (c + 1) w)
 run_ends m c zero none = refl
 run_ends m c (suc w) none =
     let e = none (omega arith) in
-    let s : StartsFrom (c + 2) (runs_of (among m (c + 1) (suc w))) = rw (among_no m (c + 1) w e) (subst (λ (n : ℕ). StartsFrom n (runs_of (among m (c + 1 + 1) w))) (let p : c + 1 + 1 ≡ c + 2 = omega arith in p) (starts m (c + 1 + 1) w)) in
+    let s : StartsFrom (c + 2) (runs_of (among m (c + 1) (suc w))) =
+    rw (among_no m (c + 1) w e) (subst (λ (n : ℕ). StartsFrom n (runs_of (among m (c + 1 + 1) w)))
+    (let p : c + 1 + 1 ≡ c + 2 = omega arith in p) (starts m (c + 1 + 1) w)) in
     apart c (runs_of (among m (c + 1) (suc w))) s
 
 -- the run from c to the CPU d further up
-pub run_is : (m : Mask) (d c w v last : ℕ) → last ≡ c + d → w ≡ suc d + v → ((k : ℕ) → c ≤ k → k ≤ last → has m k ≡ true) → (0 < v → has m (last + 1) ≡ false)
+pub run_is : (m : Mask) (d c w v last : ℕ) → last ≡ c + d → w ≡ suc d + v
+    → ((k : ℕ) → c ≤ k → k ≤ last → has m k ≡ true) → (0 < v → has m (last + 1) ≡ false)
     → runs_of (among m c w) ≡ (c, last) ∷ runs_of (among m (last + 1) v)
 run_is m zero c w v last at e there none =
     let here : last ≡ c = omega arith in
     let width : w ≡ suc v = omega arith in
-    let ends : (n : ℕ) → n ≡ c → (0 < v → has m (n + 1) ≡ false) → onto_run c (runs_of (among m (c + 1) v)) ≡ (c, n) ∷ runs_of (among m (n + 1) v) =
-    λ n same free. subst (λ (x : ℕ). (0 < v → has m (x + 1) ≡ false) → onto_run c (runs_of (among m (c + 1) v)) ≡ (c, x) ∷ runs_of (among m (x + 1) v)) (sym same) (run_ends m c v) free in
+    let ends : (n : ℕ) → n ≡ c → (0 < v → has m (n + 1) ≡ false)
+    → onto_run c (runs_of (among m (c + 1) v)) ≡ (c, n) ∷ runs_of (among m (n + 1) v) =
+    λ n same free. subst (λ (x : ℕ). (0 < v → has m (x + 1) ≡ false)
+    → onto_run c (runs_of (among m (c + 1) v)) ≡ (c, x) ∷ runs_of (among m (x + 1) v)) (sym same) (run_ends m c v) free in
     ap (λ n. runs_of (among m c n)) width ∙ ap runs_of (among_yes m c v (there c (omega arith) (omega arith))) ∙ ends last here none
 run_is m (suc d) c w v last at e there none =
     let width : w ≡ suc (suc d + v) = omega arith in
     let more = run_is m d (c + 1) (suc d + v) v last (omega arith) refl (λ k lo hi. there k (omega arith) hi) none in
-    ap (λ n. runs_of (among m c n)) width ∙ ap runs_of (among_yes m c (suc d + v) (there c (omega arith) (omega arith))) ∙ ap (onto_run c) more ∙ rw (eq-eqb (c + 1) (c + 1) refl) refl
+    ap (λ n. runs_of (among m c n)) width
+    ∙ ap runs_of (among_yes m c (suc d + v) (there c (omega arith) (omega arith))) ∙ ap (onto_run c) more
+    ∙ rw (eq-eqb (c + 1) (c + 1) refl) refl
 
 -- the text of the runs from a CPU on
 abbrev pub text_from : Mask → Option ℕ → List ℕ
@@ -89,11 +98,15 @@ whole_from m = refl
 
 -- the whole text is that from the first CPU on
 pub text_first : (m : Mask) (o : Option ℕ) → MatchOption o (HasNoneFrom m 0) (λ c. IsFirstFrom m 0 c) → text_from m o ≡ runs_text m
-text_first m None none = sym (whole_from m ∙ ap (λ cs. join_with_byte 59 (map run_text (runs_of cs))) (among_gap m MAX_CPUS 0 MAX_CPUS MAX_CPUS 0 refl refl (λ k lo hi. none k lo)))
+text_first m None none = sym (whole_from m
+    ∙ ap (λ cs. join_with_byte 59 (map run_text (runs_of cs)))
+    (among_gap m MAX_CPUS 0 MAX_CPUS MAX_CPUS 0 refl refl (λ k lo hi. none k lo)))
 text_first m (Some c) is =
-    sym (whole_from m ∙ ap (λ cs. join_with_byte 59 (map run_text (runs_of cs))) (among_gap m c 0 c MAX_CPUS (MAX_CPUS - c) (omega arith) (omega (arith, is.in_range)) (λ k lo hi. is.least k lo hi)))
+    sym (whole_from m ∙ ap (λ cs. join_with_byte 59 (map run_text (runs_of cs)))
+    (among_gap m c 0 c MAX_CPUS (MAX_CPUS - c) (omega arith) (omega (arith, is.in_range)) (λ k lo hi. is.least k lo hi)))
 
-join_more : (x : List ℕ) (xs : List Run) → (xs ≡ [] → ⊥) → join_with_byte 59 (x ∷ map run_text xs) ≡ x ++ 59 ∷ join_with_byte 59 (map run_text xs)
+join_more : (x : List ℕ) (xs : List Run) → (xs ≡ [] → ⊥)
+    → join_with_byte 59 (x ∷ map run_text xs) ≡ x ++ 59 ∷ join_with_byte 59 (map run_text xs)
 join_more x [] some = absurd (some refl)
 join_more x (y ∷ xs) some = refl
 
@@ -104,24 +117,36 @@ onto_some c (run ∷ runs) e = elim (cases_Bool (eqb (c + 1) run.0)) [ inl h ↦
 some_from : (m : Mask) (c w : ℕ) → has m c ≡ true → runs_of (among m c (suc w)) ≡ [] → ⊥
 some_from m c w e none = onto_some c (runs_of (among m (c + 1) w)) (sym (ap runs_of (among_yes m c w e)) ∙ none)
 
-rest_from : (m : Mask) (first last w : ℕ) (o : Option ℕ) → w ≡ MAX_CPUS - (last + 1) → last < MAX_CPUS → MatchOption o (HasNoneFrom m (last + 1)) (λ c. IsFirstFrom m (last + 1) c)
-    → join_with_byte 59 (run_text (first, last) ∷ map run_text (runs_of (among m (last + 1) w))) ≡ run_text (first, last) ++ (mark_before o ++ text_from m o)
+rest_from : (m : Mask) (first last w : ℕ) (o : Option ℕ) → w ≡ MAX_CPUS - (last + 1) → last < MAX_CPUS
+    → MatchOption o (HasNoneFrom m (last + 1)) (λ c. IsFirstFrom m (last + 1) c)
+    → join_with_byte 59 (run_text (first, last) ∷ map run_text (runs_of (among m (last + 1) w))) ≡ run_text
+    (first, last) ++ (mark_before o ++ text_from m o)
 rest_from m first last w None e lt none =
-    ap (λ cs. join_with_byte 59 (run_text (first, last) ∷ map run_text (runs_of cs))) (among_gap m w (last + 1) (last + 1 + w) w 0 refl (omega arith) (λ k lo hi. none k lo)) ∙ sym (append-nil (run_text (first, last)))
+    ap (λ cs. join_with_byte 59 (run_text (first, last) ∷ map run_text (runs_of cs)))
+    (among_gap m w (last + 1) (last + 1 + w) w 0 refl (omega arith) (λ k lo hi. none k lo)) ∙ sym (append-nil (run_text (first, last)))
 rest_from m first last w (Some c) e lt is =
     let v = MAX_CPUS - (c + 1) in
     let width : MAX_CPUS - c ≡ suc v = omega (arith, is.in_range) in
-    let gap = among_gap m (c - (last + 1)) (last + 1) c w (MAX_CPUS - c) (omega (arith, is.from)) (omega (arith, is.from, is.in_range)) (λ k lo hi. is.least k lo hi) in
-    let some : runs_of (among m c (MAX_CPUS - c)) ≡ [] → ⊥ = λ none. some_from m c v is.there (sym (ap (λ n. runs_of (among m c n)) width) ∙ none) in
-    ap (λ cs. join_with_byte 59 (run_text (first, last) ∷ map run_text (runs_of cs))) gap ∙ join_more (run_text (first, last)) (runs_of (among m c (MAX_CPUS - c))) some
+    let gap = among_gap m (c - (last + 1)) (last + 1) c w (MAX_CPUS - c) (omega (arith, is.from))
+    (omega (arith, is.from, is.in_range)) (λ k lo hi. is.least k lo hi) in
+    let some : runs_of (among m c (MAX_CPUS - c)) ≡ [] → ⊥ =
+    λ none. some_from m c v is.there (sym (ap (λ n. runs_of (among m c n)) width) ∙ none) in
+    ap (λ cs. join_with_byte 59 (run_text (first, last) ∷ map run_text (runs_of cs))) gap
+    ∙ join_more (run_text (first, last)) (runs_of (among m c (MAX_CPUS - c))) some
 
 -- one run, and what comes after it
-pub text_run : (m : Mask) (first last : ℕ) (o : Option ℕ) → has m first ≡ true → first ≤ last → last < MAX_CPUS → ((k : ℕ) → first < k → k ≤ last → has m k ≡ true) → (last + 1 < MAX_CPUS → has m (last + 1) ≡ true → ⊥)
-    → MatchOption o (HasNoneFrom m (last + 1)) (λ c. IsFirstFrom m (last + 1) c) → text_from m (Some first) ≡ run_text (first, last) ++ (mark_before o ++ text_from m o)
+pub text_run : (m : Mask) (first last : ℕ) (o : Option ℕ) → has m first ≡ true → first ≤ last → last < MAX_CPUS
+    → ((k : ℕ) → first < k → k ≤ last → has m k ≡ true) → (last + 1 < MAX_CPUS → has m (last + 1) ≡ true → ⊥)
+    → MatchOption o (HasNoneFrom m (last + 1)) (λ c. IsFirstFrom m (last + 1) c)
+    → text_from m (Some first) ≡ run_text (first, last) ++ (mark_before o ++ text_from m o)
 text_run m first last o here le lt there ends next =
     let w = MAX_CPUS - (last + 1) in
     let all : (k : ℕ) → first ≤ k → k ≤ last → has m k ≡ true =
-    λ k lo hi. elim (cases_lt first k) [ inl over ↦ there k over hi | inr same ↦ subst (λ (n : ℕ). has m n ≡ true) (let p : first ≡ k = omega arith in p) here ] in
+    λ k lo hi. elim (cases_lt first k) [
+      | inl over ↦ there k over hi
+      | inr same ↦ subst (λ (n : ℕ). has m n ≡ true)
+          (let p : first ≡ k = omega arith in p) here
+    ] in
     let stop : 0 < w → has m (last + 1) ≡ false = λ some. false_from_ne_true (has m (last + 1)) (ends (omega arith)) in
     let run = run_is m (last - first) first (MAX_CPUS - first) w last (omega arith) (omega arith) all stop in
     ap (λ rs. join_with_byte 59 (map run_text rs)) run ∙ rest_from m first last w o refl lt next
@@ -145,11 +170,18 @@ next_is : (m : Mask) (n : ℕ) (o : Option ℕ) → MatchOption o (HasNoneFrom m
 next_is m n None h = tt
 next_is m n (Some c) h = (h.there, h.in_range)
 
-pub put_none : (before : List ℕ) (m : Mask) (o : Option ℕ) → MatchOption o (HasNoneFrom m 0) (λ c. IsFirstFrom m 0 c) → IsPut before m before o
-put_none before m o first = record { front = take_all (length before) before (omega arith); whole = ap (λ t. before ++ t) (text_first m o first); next_there = next_is m 0 o first }
+pub put_none : (before : List ℕ) (m : Mask) (o : Option ℕ) → MatchOption o (HasNoneFrom m 0) (λ c. IsFirstFrom m 0 c)
+    → IsPut before m before o
+put_none before m o first = record {
+  front = take_all (length before) before (omega arith);
+  whole = ap (λ t. before ++ t) (text_first m o first);
+  next_there = next_is m 0 o first;
+}
 
-pub put_more : (before : List ℕ) (m : Mask) (text after : List ℕ) (next o : Option ℕ) (first last : ℕ) → IsPut before m text next → next ≡ Some first → first ≤ last → last < MAX_CPUS
-    → ((k : ℕ) → first < k → k ≤ last → has m k ≡ true) → (last + 1 < MAX_CPUS → has m (last + 1) ≡ true → ⊥) → MatchOption o (HasNoneFrom m (last + 1)) (λ c. IsFirstFrom m (last + 1) c)
+pub put_more : (before : List ℕ) (m : Mask) (text after : List ℕ) (next o : Option ℕ) (first last : ℕ)
+    → IsPut before m text next → next ≡ Some first → first ≤ last → last < MAX_CPUS
+    → ((k : ℕ) → first < k → k ≤ last → has m k ≡ true) → (last + 1 < MAX_CPUS → has m (last + 1) ≡ true → ⊥)
+    → MatchOption o (HasNoneFrom m (last + 1)) (λ c. IsFirstFrom m (last + 1) c)
     → after ≡ (text ++ run_text (first, last)) ++ mark_before o → IsPut before m after o
 put_more before m text after next o first last p e le lt there ends follows is =
     let here = subst (λ (n : Option ℕ). IsNext m n) e p.next_there in
@@ -160,7 +192,9 @@ put_more before m text after next o first last p e le lt there ends follows is =
           ap (take (length before)) (is ∙ append_assoc text (run_text (first, last)) (mark_before o))
           ∙ take-append-le (length before) text (run_text (first, last) ++ mark_before o) long ∙ p.front;
       whole =
-          ap (λ t. t ++ text_from m o) is ∙ append_assoc (text ++ run_text (first, last)) (mark_before o) (text_from m o) ∙ append_assoc text (run_text (first, last)) (mark_before o ++ text_from m o)
+          ap (λ t. t ++ text_from m o) is
+          ∙ append_assoc (text ++ run_text (first, last)) (mark_before o) (text_from m o)
+          ∙ append_assoc text (run_text (first, last)) (mark_before o ++ text_from m o)
           ∙ ap (λ t. text ++ t) (sym run) ∙ ap (λ n. text ++ text_from m n) (sym e) ∙ p.whole;
       next_there = next_is m (last + 1) o follows;
     }

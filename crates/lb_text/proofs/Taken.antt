@@ -36,13 +36,17 @@ joined_first part [] = sym (append-nil part)
 joined_first part (next ∷ parts) = refl
 
 -- a text around one of its parts
-joined_at : (taken : List (List ℕ)) (part : List ℕ) (left : List (List ℕ)) → join_with_byte 59 (taken ++ part ∷ left) ≡ passed taken ++ (part ++ rest_text left)
+joined_at : (taken : List (List ℕ)) (part : List ℕ) (left : List (List ℕ))
+    → join_with_byte 59 (taken ++ part ∷ left) ≡ passed taken ++ (part ++ rest_text left)
 joined_at [] part left = joined_first part left
-joined_at (first ∷ []) part left = ap (λ t. first ++ 59 ∷ t) (joined_first part left) ∙ sym (append_assoc first (59 ∷ []) (part ++ rest_text left))
+joined_at (first ∷ []) part left = ap (λ t. first ++ 59 ∷ t) (joined_first part left)
+    ∙ sym (append_assoc first (59 ∷ []) (part ++ rest_text left))
 joined_at (first ∷ next ∷ taken) part left =
-    ap (λ t. first ++ 59 ∷ t) (joined_at (next ∷ taken) part left) ∙ sym (append_assoc first (59 ∷ passed (next ∷ taken)) (part ++ rest_text left))
+    ap (λ t. first ++ 59 ∷ t) (joined_at (next ∷ taken) part left)
+    ∙ sym (append_assoc first (59 ∷ passed (next ∷ taken)) (part ++ rest_text left))
 
-pub split_passed : (parts : List (List ℕ)) (text : List ℕ) → All IsPart parts → slice_split (λ b. eqb b 59) (passed parts ++ text) ≡ parts ++ slice_split (λ b. eqb b 59) text
+pub split_passed : (parts : List (List ℕ)) (text : List ℕ) → All IsPart parts
+    → slice_split (λ b. eqb b 59) (passed parts ++ text) ≡ parts ++ slice_split (λ b. eqb b 59) text
 split_passed [] text free = refl
 split_passed (part ∷ parts) text free =
     ap (slice_split (λ b. eqb b 59)) (append_assoc part (59 ∷ passed parts) text)
@@ -50,15 +54,20 @@ split_passed (part ∷ parts) text free =
     ∙ ap (λ ps. part ∷ ps) (split_passed parts text (All-tail IsPart part parts free))
 
 onto_parts : (b : ℕ) (parts : List (List ℕ)) → eqb b 59 ≡ false → All IsPart parts → All IsPart (onto_first b parts)
-onto_parts b [] other free = All-cons IsPart (b ∷ []) [] (All-cons (λ c. eqb c 59 ≡ false) b [] other (All-nil (λ c. eqb c 59 ≡ false))) (All-nil IsPart)
-onto_parts b (part ∷ parts) other free = All-cons IsPart (b ∷ part) parts (All-cons (λ c. eqb c 59 ≡ false) b part other (All-head IsPart part parts free)) (All-tail IsPart part parts free)
+onto_parts b [] other free = All-cons IsPart (b ∷ []) []
+    (All-cons (λ c. eqb c 59 ≡ false) b [] other (All-nil (λ c. eqb c 59 ≡ false))) (All-nil IsPart)
+onto_parts b (part ∷ parts) other free =
+    All-cons IsPart (b ∷ part) parts (All-cons (λ c. eqb c 59 ≡ false) b part other (All-head IsPart part parts free))
+    (All-tail IsPart part parts free)
 
 -- no part has the mark
 pub parts_free : (text : List ℕ) → All IsPart (slice_split (λ b. eqb b 59) text)
 parts_free [] = All-cons IsPart [] [] (All-nil (λ c. eqb c 59 ≡ false)) (All-nil IsPart)
 parts_free (b ∷ text) = elim (cases_Bool (eqb b 59)) [
-  | inl e ↦ subst (λ (ps : List (List ℕ)). All IsPart ps) (sym (slice_split-cons_yes (λ c. eqb c 59) b text e)) (All-cons IsPart [] (slice_split (λ c. eqb c 59) text) (All-nil (λ c. eqb c 59 ≡ false)) (parts_free text))
-  | inr e ↦ subst (λ (ps : List (List ℕ)). All IsPart ps) (sym (slice_split-cons_no (λ c. eqb c 59) b text e)) (onto_parts b (slice_split (λ c. eqb c 59) text) e (parts_free text))
+  | inl e ↦ subst (λ (ps : List (List ℕ)). All IsPart ps) (sym (slice_split-cons_yes (λ c. eqb c 59) b text e))
+      (All-cons IsPart [] (slice_split (λ c. eqb c 59) text) (All-nil (λ c. eqb c 59 ≡ false)) (parts_free text))
+  | inr e ↦ subst (λ (ps : List (List ℕ)). All IsPart ps) (sym (slice_split-cons_no (λ c. eqb c 59) b text e))
+      (onto_parts b (slice_split (λ c. eqb c 59) text) e (parts_free text))
 ]
 
 some_map : {A B : Type 0} (f : A → B) (o : Option A) → is_some (option_map f o) ≡ is_some o
@@ -70,28 +79,35 @@ items_last : (xs ys : List (List ℕ)) → is_some (items_of (xs ++ ys)) ≡ tru
 items_last [] ys e = e
 items_last (x ∷ xs) ys e = items_last xs ys (rest_some (item_of x) (items_of (xs ++ ys)) e)
   where
-    rest_some : (o : Option Run) (rest : Option (List Run)) → is_some (option_and_then (λ run. option_map (λ runs. run ∷ runs) rest) o) ≡ true → is_some rest ≡ true
+    rest_some : (o : Option Run) (rest : Option (List Run))
+        → is_some (option_and_then (λ run. option_map (λ runs. run ∷ runs) rest) o) ≡ true → is_some rest ≡ true
     rest_some None rest h = cc h
     rest_some (Some run) rest h = sym (some_map (λ runs. run ∷ runs) rest) ∙ h
 
 items_head : (x : List ℕ) (xs : List (List ℕ)) → is_some (items_of (x ∷ xs)) ≡ true → is_item x ≡ true
 items_head x xs e = head_some (item_of x) (items_of xs) e
   where
-    head_some : (o : Option Run) (rest : Option (List Run)) → is_some (option_and_then (λ run. option_map (λ runs. run ∷ runs) rest) o) ≡ true → is_some o ≡ true
+    head_some : (o : Option Run) (rest : Option (List Run))
+        → is_some (option_and_then (λ run. option_map (λ runs. run ∷ runs) rest) o) ≡ true → is_some o ≡ true
     head_some None rest h = cc h
     head_some (Some run) rest h = refl
 
-pub items_more : (xs : List (List ℕ)) (x : List ℕ) (runs : List Run) (run : Run) → items_of xs ≡ Some runs → item_of x ≡ Some run → items_of (xs ++ x ∷ []) ≡ Some (runs ++ run ∷ [])
+pub items_more : (xs : List (List ℕ)) (x : List ℕ) (runs : List Run) (run : Run) → items_of xs ≡ Some runs
+    → item_of x ≡ Some run → items_of (xs ++ x ∷ []) ≡ Some (runs ++ run ∷ [])
 items_more [] x runs run e h = let none : runs ≡ [] = cc in rw (h, none) refl
-items_more (y ∷ xs) x runs run e h = more_some (item_of y) (items_of xs) (items_of (xs ++ x ∷ [])) runs run (λ rs is. items_more xs x rs run is h) e
+items_more (y ∷ xs) x runs run e h = more_some (item_of y) (items_of xs) (items_of (xs ++ x ∷ [])) runs run
+    (λ rs is. items_more xs x rs run is h) e
   where
-    more_of : (r : Run) (rest rest' : Option (List Run)) (runs : List Run) (run : Run) → ((rs : List Run) → rest ≡ Some rs → rest' ≡ Some (rs ++ run ∷ [])) → option_map (λ rs. r ∷ rs) rest ≡ Some runs
+    more_of : (r : Run) (rest rest' : Option (List Run)) (runs : List Run) (run : Run)
+        → ((rs : List Run) → rest ≡ Some rs → rest' ≡ Some (rs ++ run ∷ [])) → option_map (λ rs. r ∷ rs) rest ≡ Some runs
         → option_map (λ rs. r ∷ rs) rest' ≡ Some (runs ++ run ∷ [])
     more_of r None rest' runs run more h = cc h
     more_of r (Some rs) rest' runs run more h = let is : r ∷ rs ≡ runs = cc in rw (more rs refl, ← is) refl
 
-    more_some : (o : Option Run) (rest rest' : Option (List Run)) (runs : List Run) (run : Run) → ((rs : List Run) → rest ≡ Some rs → rest' ≡ Some (rs ++ run ∷ []))
-        → option_and_then (λ r. option_map (λ rs. r ∷ rs) rest) o ≡ Some runs → option_and_then (λ r. option_map (λ rs. r ∷ rs) rest') o ≡ Some (runs ++ run ∷ [])
+    more_some : (o : Option Run) (rest rest' : Option (List Run)) (runs : List Run) (run : Run)
+        → ((rs : List Run) → rest ≡ Some rs → rest' ≡ Some (rs ++ run ∷ []))
+        → option_and_then (λ r. option_map (λ rs. r ∷ rs) rest) o ≡ Some runs
+        → option_and_then (λ r. option_map (λ rs. r ∷ rs) rest') o ≡ Some (runs ++ run ∷ [])
     more_some None rest rest' runs run more h = cc h
     more_some (Some r) rest rest' runs run more h = more_of r rest rest' runs run more h
 
@@ -101,7 +117,8 @@ list_from [] some = absurd (omega (arith, some))
 list_from (b ∷ text) some = refl
 
 -- the items of a text are a list's
-pub list_from_items : (text : List ℕ) (runs : List Run) → 0 < length text → items_of (slice_split (λ b. eqb b 59) text) ≡ Some runs → list_of text ≡ Some (mask_of_runs runs)
+pub list_from_items : (text : List ℕ) (runs : List Run) → 0 < length text
+    → items_of (slice_split (λ b. eqb b 59) text) ≡ Some runs → list_of text ≡ Some (mask_of_runs runs)
 list_from_items text runs some e = list_from text some ∙ ap (option_map mask_of_runs) e
 
 is_list_from : (text : List ℕ) → 0 < length text → is_list text ≡ is_some (items_of (slice_split (λ b. eqb b 59) text))
@@ -120,11 +137,14 @@ item_some [] e = absurd (no_empty_item e)
 item_some (b ∷ text) e = omega arith
 
 -- the items of a text behind parts that were passed
-items_behind : (parts : List (List ℕ)) (text : List ℕ) → All IsPart parts → 0 < length (passed parts ++ text) → is_list (passed parts ++ text) ≡ is_some (items_of (parts ++ slice_split (λ b. eqb b 59) text))
-items_behind parts text free some = is_list_from (passed parts ++ text) some ∙ ap (λ ps. is_some (items_of ps)) (split_passed parts text free)
+items_behind : (parts : List (List ℕ)) (text : List ℕ) → All IsPart parts → 0 < length (passed parts ++ text)
+    → is_list (passed parts ++ text) ≡ is_some (items_of (parts ++ slice_split (λ b. eqb b 59) text))
+items_behind parts text free some = is_list_from (passed parts ++ text) some
+    ∙ ap (λ ps. is_some (items_of ps)) (split_passed parts text free)
 
 -- a text whose last part goes on to an item goes on to a list
-part_outward : (parts : List (List ℕ)) (text : List ℕ) → All IsPart parts → is_some (items_of parts) ≡ true → CanGoOn is_item text → CanGoOn is_list (passed parts ++ text)
+part_outward : (parts : List (List ℕ)) (text : List ℕ) → All IsPart parts → is_some (items_of parts) ≡ true
+    → CanGoOn is_item text → CanGoOn is_list (passed parts ++ text)
 part_outward parts text free some go =
     let item = text ++ go.0 in
     let runs = some_of (items_of parts) some in
@@ -137,7 +157,8 @@ part_outward parts text free some go =
     )
 
 -- and the other way round
-part_inward : (parts : List (List ℕ)) (text : List ℕ) → All IsPart parts → IsPart text → CanGoOn is_list (passed parts ++ text) → CanGoOn is_item text
+part_inward : (parts : List (List ℕ)) (text : List ℕ) → All IsPart parts → IsPart text
+    → CanGoOn is_list (passed parts ++ text) → CanGoOn is_item text
 part_inward parts text free part go =
     let whole = text ++ go.0 in
     let is : is_list (passed parts ++ whole) ≡ true = ap is_list (sym (append_assoc (passed parts) text go.0)) ∙ go.1 in
@@ -151,16 +172,20 @@ part_inward parts text free part go =
           subst (λ (t : List ℕ). CanGoOn is_item t) (sym nil) go_item
     ]
 
-part_ends : (parts : List (List ℕ)) (part : List ℕ) → All IsPart parts → IsPart part → CanGoOn is_list (passed parts ++ (part ++ 59 ∷ [])) → is_item part ≡ true
+part_ends : (parts : List (List ℕ)) (part : List ℕ) → All IsPart parts → IsPart part
+    → CanGoOn is_list (passed parts ++ (part ++ 59 ∷ [])) → is_item part ≡ true
 part_ends parts part free clean go =
     let whole = part ++ 59 ∷ go.0 in
     let same : (passed parts ++ (part ++ 59 ∷ [])) ++ go.0 ≡ passed parts ++ whole =
     append_assoc (passed parts) (part ++ 59 ∷ []) go.0 ∙ ap (λ t. passed parts ++ t) (append_assoc part (59 ∷ []) go.0) in
     let long : 0 < length (passed parts ++ whole) = omega (arith, length-append (passed parts) whole, length-append part (59 ∷ go.0)) in
-    let last = items_last parts (slice_split (λ b. eqb b 59) whole) (sym (items_behind parts whole free long) ∙ ap is_list (sym same) ∙ go.1) in
-    items_head part (slice_split (λ b. eqb b 59) go.0) (ap (λ ps. is_some (items_of ps)) (sym (slice_split_at (λ b. eqb b 59) part 59 go.0 clean refl)) ∙ last)
+    let last = items_last parts (slice_split (λ b. eqb b 59) whole)
+    (sym (items_behind parts whole free long) ∙ ap is_list (sym same) ∙ go.1) in
+    items_head part (slice_split (λ b. eqb b 59) go.0)
+    (ap (λ ps. is_some (items_of ps)) (sym (slice_split_at (λ b. eqb b 59) part 59 go.0 clean refl)) ∙ last)
 
-pub part_placed : (parts : List (List ℕ)) (part : List ℕ) (others : List (List ℕ)) → All IsPart parts → IsPart part → is_some (items_of parts) ≡ true → IsPlaced is_item is_list (passed parts) part (rest_text others)
+pub part_placed : (parts : List (List ℕ)) (part : List ℕ) (others : List (List ℕ)) → All IsPart parts → IsPart part
+    → is_some (items_of parts) ≡ true → IsPlaced is_item is_list (passed parts) part (rest_text others)
 part_placed parts part others free clean some = record {
   begins = subst (λ (t : List ℕ). CanGoOn is_list t) (append-nil (passed parts)) (part_outward parts [] free some go_item);
   inward = λ k go. part_inward parts (take k part) free (All-take (λ b. eqb b 59 ≡ false) k part clean) go;
@@ -198,11 +223,22 @@ pub record IsReading (text : List ℕ) (left : List (List ℕ)) (start : ℕ) (m
   pub fits : mask.bits < 2 ^ 64
   pub cpus : (k : ℕ) → has mask k ≡ list_any (run_has k) runs
 
-pub reading_none : (text : List ℕ) (mask : Mask) → 0 < length text → mask.bits < 2 ^ 64 → ((k : ℕ) → has mask k ≡ false) → IsReading text (parts_of text) 0 mask
-reading_none text mask some fits none = record { some = some; taken = []; parts = refl; at = refl; runs = []; items = refl; fits = fits; cpus = none }
+pub reading_none : (text : List ℕ) (mask : Mask) → 0 < length text → mask.bits < 2 ^ 64
+    → ((k : ℕ) → has mask k ≡ false) → IsReading text (parts_of text) 0 mask
+reading_none text mask some fits none = record {
+  some = some;
+  taken = [];
+  parts = refl;
+  at = refl;
+  runs = [];
+  items = refl;
+  fits = fits;
+  cpus = none;
+}
 
 -- the text around the next part
-around : (text item : List ℕ) (taken left : List (List ℕ)) → parts_of text ≡ taken ++ item ∷ left → text ≡ passed taken ++ (item ++ rest_text left)
+around : (text item : List ℕ) (taken left : List (List ℕ)) → parts_of text ≡ taken ++ item ∷ left
+    → text ≡ passed taken ++ (item ++ rest_text left)
 around text item taken left e = sym (join_with_byte-slice_split 59 text) ∙ ap (join_with_byte 59) e ∙ joined_at taken item left
 
 first_parts : {A : Type 0} (P : A → Type 0) (xs ys : List A) → All P (xs ++ ys) → All P xs
@@ -214,36 +250,53 @@ next_part P [] x ys h = All-head P x ys h
 next_part P (y ∷ xs) x ys h = next_part P xs x ys (All-tail P y (xs ++ x ∷ ys) h)
 
 -- a bad item makes the list bad
-pub bad_list : (text : List ℕ) (left : List (List ℕ)) (start : ℕ) (mask : Mask) (item : List ℕ) (at : ℕ) → IsReading text (item ∷ left) start mask → IsBadItem item at
+pub bad_list : (text : List ℕ) (left : List (List ℕ)) (start : ℕ) (mask : Mask) (item : List ℕ) (at : ℕ)
+    → IsReading text (item ∷ left) start mask → IsBadItem item at
     → (list_of text ≡ None) × IsFirstBad is_list text (start + at)
 bad_list text left start mask item at r bad =
     let free : All IsPart (r.taken ++ item ∷ left) = subst (λ (ps : List (List ℕ)). All IsPart ps) r.parts (parts_free text) in
-    let placed = part_placed r.taken item left (first_parts IsPart r.taken (item ∷ left) free) (next_part IsPart r.taken item left free) (ap is_some r.items) in
+    let placed = part_placed r.taken item left (first_parts IsPart r.taken (item ∷ left) free)
+    (next_part IsPart r.taken item left free) (ap is_some r.items) in
     let b = first_bad_placed is_item is_list (passed r.taken) item (rest_text left) at placed (ap is_some bad.0) bad.1 in (
       none_from (list_of text) (λ good.
-          let items : is_some (items_of (r.taken ++ item ∷ left)) ≡ true = ap (λ ps. is_some (items_of ps)) (sym r.parts) ∙ sym (is_list_from text r.some) ∙ good in
+          let items : is_some (items_of (r.taken ++ item ∷ left)) ≡ true =
+          ap (λ ps. is_some (items_of ps)) (sym r.parts) ∙ sym (is_list_from text r.some) ∙ good in
           both_ways (is_item item) (ap is_some bad.0) (items_head item left (items_last r.taken (item ∷ left) items))),
-      subst (λ (t : List ℕ). IsFirstBad is_list t (start + at)) (sym (around text item r.taken left r.parts)) (subst (λ (k : ℕ). IsFirstBad is_list (passed r.taken ++ (item ++ rest_text left)) (k + at)) (sym r.at) b),
+      subst (λ (t : List ℕ). IsFirstBad is_list t (start + at)) (sym (around text item r.taken left r.parts))
+          (subst (λ (k : ℕ). IsFirstBad is_list (passed r.taken ++ (item ++ rest_text left)) (k + at)) (sym r.at) b),
     )
 
-pub list_fits : (text : List ℕ) (left : List (List ℕ)) (start : ℕ) (mask : Mask) (item : List ℕ) → IsReading text (item ∷ left) start mask → start + length item ≤ length text
+pub list_fits : (text : List ℕ) (left : List (List ℕ)) (start : ℕ) (mask : Mask) (item : List ℕ)
+    → IsReading text (item ∷ left) start mask → start + length item ≤ length text
 list_fits text left start mask item r =
-    omega (arith, r.at, ap length (around text item r.taken left r.parts), length-append (passed r.taken) (item ++ rest_text left), length-append item (rest_text left))
+    omega (
+      arith,
+      r.at,
+      ap length (around text item r.taken left r.parts),
+      length-append (passed r.taken)
+          (item ++ rest_text left),
+      length-append item (rest_text left),
+    )
 
-pub reading_more : (text : List ℕ) (left : List (List ℕ)) (start a b : ℕ) (mask run after : Mask) (item : List ℕ) → IsReading text (item ∷ left) start mask → item_of item ≡ Some (a, b)
-    → ((k : ℕ) → has run k ≡ run_has k (a, b)) → after.bits < 2 ^ 64 → ((k : ℕ) → has after k ≡ (has mask k || has run k)) → IsReading text left (start + (length item + 1)) after
+pub reading_more : (text : List ℕ) (left : List (List ℕ)) (start a b : ℕ) (mask run after : Mask) (item : List ℕ)
+    → IsReading text (item ∷ left) start mask → item_of item ≡ Some (a, b)
+    → ((k : ℕ) → has run k ≡ run_has k (a, b)) → after.bits < 2 ^ 64
+    → ((k : ℕ) → has after k ≡ (has mask k || has run k)) → IsReading text left (start + (length item + 1)) after
 reading_more text left start a b mask run after item r is run_is fits after_is = record {
   some = r.some;
   taken = r.taken ++ item ∷ [];
   parts = r.parts ∙ sym (append_assoc r.taken (item ∷ []) left);
-  at = (let e = ap length (passed_push r.taken item) in omega (arith, e, r.at, length-append (passed r.taken) (item ++ 59 ∷ []), length-append item (59 ∷ [])));
+  at = (let e = ap length (passed_push r.taken item) in
+      omega (arith, e, r.at, length-append (passed r.taken) (item ++ 59 ∷ []), length-append item (59 ∷ [])));
   runs = r.runs ++ (a, b) ∷ [];
   items = items_more r.taken item r.runs (a, b) r.items is;
   fits = fits;
-  cpus = λ k. after_is k ∙ ap (λ x. x || has run k) (r.cpus k) ∙ ap (λ x. list_any (run_has k) r.runs || x) (run_is k) ∙ sym (any_push (run_has k) r.runs (a, b));
+  cpus = λ k. after_is k ∙ ap (λ x. x || has run k) (r.cpus k) ∙ ap (λ x. list_any (run_has k) r.runs || x) (run_is k)
+      ∙ sym (any_push (run_has k) r.runs (a, b));
 }
 
-pub in_range : (mask : Mask) (runs : List Run) (k : ℕ) → mask.bits < 2 ^ 64 → ((c : ℕ) → has mask c ≡ list_any (run_has c) runs) → (ltb k 64 && list_any (run_has k) runs) ≡ has mask k
+pub in_range : (mask : Mask) (runs : List Run) (k : ℕ) → mask.bits < 2 ^ 64
+    → ((c : ℕ) → has mask c ≡ list_any (run_has c) runs) → (ltb k 64 && list_any (run_has k) runs) ≡ has mask k
 in_range mask runs k fits cpus = elim (cases_lt k 64) [
   | inl lt ↦ rw (lt-ltb k 64 lt) (sym (cpus k))
   | inr ge ↦ rw (le-ltb k 64 ge) (sym (has_above mask k fits ge))
@@ -253,7 +306,8 @@ pub reading_ends : (text : List ℕ) (start : ℕ) (mask : Mask) → IsReading t
 reading_ends text start mask r =
     let items : items_of (parts_of text) ≡ Some r.runs = ap items_of (r.parts ∙ append-nil r.taken) ∙ r.items in
     list_from_items text r.runs r.some items
-    ∙ ap Some (same_mask (mask_of_runs r.runs) mask (λ k. mask_where_has (λ cpu. list_any (run_has cpu) r.runs) k ∙ in_range mask r.runs k r.fits r.cpus))
+    ∙ ap Some (same_mask (mask_of_runs r.runs) mask
+    (λ k. mask_where_has (λ cpu. list_any (run_has cpu) r.runs) k ∙ in_range mask r.runs k r.fits r.cpus))
 
 list_none : list_of [] ≡ Some no_cpus
 unfolding list_of

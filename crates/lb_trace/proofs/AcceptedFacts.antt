@@ -62,18 +62,22 @@ off_line : (n : ℕ) (s : Reading) (o : Result Reading Code) → on_line n o ≡
 off_line n s (Ok t) e = cc
 off_line n s (Err code) e = absurd (cc)
 
-whole_more : (r s : Reading) (line next : List ℕ) (more : List (List ℕ)) (o : Result Reading Code) → line_at r false line ≡ o → length line ≤ MAX_BYTES → IsSound r
-    → ((t : Reading) → IsSound t → lines_from t (next ∷ more) ≡ Ok s → IsWhole s) → (on_line r.line o >>= λ t. lines_from t (next ∷ more)) ≡ Ok s → IsWhole s
+whole_more : (r s : Reading) (line next : List ℕ) (more : List (List ℕ)) (o : Result Reading Code)
+    → line_at r false line ≡ o → length line ≤ MAX_BYTES → IsSound r
+    → ((t : Reading) → IsSound t → lines_from t (next ∷ more) ≡ Ok s → IsWhole s)
+    → (on_line r.line o >>= λ t. lines_from t (next ∷ more)) ≡ Ok s → IsWhole s
 whole_more r s line next more (Err code) at short h rest e = absurd (cc)
 whole_more r s line next more (Ok t) at short h rest e = rest t (sound_line r t line short h at) e
 
-whole_lines : (r s : Reading) (lines : List (List ℕ)) → IsSound r → list_all (λ line. nat_le (length line) MAX_BYTES) lines ≡ true → 0 < length lines → lines_from r lines ≡ Ok s → IsWhole s
+whole_lines : (r s : Reading) (lines : List (List ℕ)) → IsSound r
+    → list_all (λ line. nat_le (length line) MAX_BYTES) lines ≡ true → 0 < length lines → lines_from r lines ≡ Ok s → IsWhole s
 unfolding lines_from
 whole_lines r s [] h short some e = absurd (omega (arith, some))
 whole_lines r s (last ∷ []) h short some e = whole_last r s last h (off_line r.line s _ e)
 whole_lines r s (line ∷ next ∷ more) h short some e =
     let each = and_parts _ _ short in
-    whole_more r s line next more (line_at r false line) refl (leb-true (length line) MAX_BYTES each.0) h (λ t sound. whole_lines t s (next ∷ more) sound each.1 (omega arith)) e
+    whole_more r s line next more (line_at r false line) refl (leb-true (length line) MAX_BYTES each.0) h
+    (λ t sound. whole_lines t s (next ∷ more) sound each.1 (omega arith)) e
 
 -- ---- the trace
 none_is : {X : Type 0} (o : Option X) → is_none o ≡ true → o ≡ None
@@ -94,7 +98,8 @@ all_cpus cpus few =
     let fine = no_fault_from_partition cpus (first_cpus cpus ∷ []) (record { below = and_from _ _ (all_below cpus) refl; apart = refl }) in
     and_from _ _ (and_from _ _ (all_fit cpus few) refl) (ap is_none fine)
 
-lanes_are : (r : Reading) (o : Option ℕ) → is_some o ≡ true → IfSome o (AreLanes r.cpus r.distances) → AreLanes r.cpus r.distances (unwrap_or o 0)
+lanes_are : (r : Reading) (o : Option ℕ) → is_some o ≡ true → IfSome o (AreLanes r.cpus r.distances)
+    → AreLanes r.cpus r.distances (unwrap_or o 0)
 lanes_are r None there are = absurd (cc)
 lanes_are r (Some lanes) there are = are
 
@@ -141,7 +146,8 @@ is_trace r whole =
       ticks = h.rows.ticks;
     }
 
-trace_is : (t : Trace) (o : Result Reading (ℕ × Code)) → ((r : Reading) → o ≡ Ok r → IsWhole r) → (o >>= λ r. Ok (trace_of r)) ≡ Ok t → IsTrace t
+trace_is : (t : Trace) (o : Result Reading (ℕ × Code)) → ((r : Reading) → o ≡ Ok r → IsWhole r)
+    → (o >>= λ r. Ok (trace_of r)) ≡ Ok t → IsTrace t
 trace_is t (Ok r) whole e = let same : trace_of r ≡ t = cc in subst IsTrace same (is_trace r (whole r refl))
 trace_is t (Err p) whole e = absurd (cc)
 
@@ -149,6 +155,9 @@ pub reading_is_trace : (text : List ℕ) (t : Trace) → reading_of text ≡ Ok 
 reading_is_trace text t e = elim (cases_lt MAX_BYTES (length text)) [
   | inl lt ↦ let same = sym e ∙ read_past text lt in absurd (cc)
   | inr le ↦
-      let short = all_also (λ line. nat_le (length line) (length text)) (λ line. nat_le (length line) MAX_BYTES) (lines_of text) (λ line fits. let room = leb-true (length line) (length text) fits in le-leb (length line) MAX_BYTES (omega (arith, room, le))) (short_lines 10 text) in
-      trace_is t (lines_from nothing_read (lines_of text)) (λ r. whole_lines nothing_read r (lines_of text) sound_start short (some_line 10 text)) (sym (read_within text le) ∙ e)
+      let short = all_also (λ line. nat_le (length line) (length text)) (λ line. nat_le (length line) MAX_BYTES)
+      (lines_of text) (λ line fits. let room = leb-true (length line) (length text) fits in
+      le-leb (length line) MAX_BYTES (omega (arith, room, le))) (short_lines 10 text) in
+      trace_is t (lines_from nothing_read (lines_of text))
+      (λ r. whole_lines nothing_read r (lines_of text) sound_start short (some_line 10 text)) (sym (read_within text le) ∙ e)
 ]

@@ -12,7 +12,8 @@ use Rattle.lb_trace.specs.Accepted.{is_distance}
 use Rattle.lb_trace.specs.Sound.{has_size}
 
 -- each row has an entry for each node
-pub sized_at : (nodes : ℕ) (table : List (List ℕ)) → list_all (has_size nodes) table ≡ true → (a : ℕ) → a < length table → length (distances_at table a) ≡ nodes
+pub sized_at : (nodes : ℕ) (table : List (List ℕ)) → list_all (has_size nodes) table ≡ true → (a : ℕ)
+    → a < length table → length (distances_at table a) ≡ nodes
 sized_at nodes [] sizes a lt = absurd (omega (arith, lt))
 sized_at nodes (row ∷ table) sizes zero lt = eqb-true (length row) nodes (and_parts _ _ sizes).0
 sized_at nodes (row ∷ table) sizes (suc a) lt = sized_at nodes table (and_parts _ _ sizes).1 a (omega (arith, lt))
@@ -22,13 +23,16 @@ last_tests : (table earlier : List (List ℕ)) (row : List ℕ) (a : ℕ) → ta
 unfolding is_bad_distance
 last_tests table earlier row a e at =
     let none : List ℕ = [] in
-    let place : a ≡ length earlier = at ∙ (ap (λ (t : List (List ℕ)). length t - 1) e ∙ (ap (λ (n : ℕ). n - 1) (length-append earlier (row ∷ [])) ∙ omega arith)) in
+    let place : a ≡ length earlier = at ∙
+    (ap (λ (t : List (List ℕ)). length t - 1) e ∙ (ap (λ (n : ℕ). n - 1) (length-append earlier (row ∷ [])) ∙ omega arith)) in
     rw (place, e, get_or-append_seam earlier row [] none) refl
 
-pub bad_last : (nodes : ℕ) (table earlier : List (List ℕ)) (row : List ℕ) → list_all (has_size nodes) table ≡ true → 0 < length table → table ≡ earlier ++ row ∷ []
+pub bad_last : (nodes : ℕ) (table earlier : List (List ℕ)) (row : List ℕ) → list_all (has_size nodes) table ≡ true
+    → 0 < length table → table ≡ earlier ++ row ∷ []
     → list_any (is_bad_entry table (length table - 1)) (range_with_len 0 nodes) ≡ is_bad_distance earlier row
 bad_last nodes table earlier row sizes some e =
-    ap (λ (n : ℕ). list_any (is_bad_entry table (length table - 1)) (range_with_len 0 n)) (sym (sized_at nodes table sizes (length table - 1) (omega (arith, some))))
+    ap (λ (n : ℕ). list_any (is_bad_entry table (length table - 1)) (range_with_len 0 n))
+    (sym (sized_at nodes table sizes (length table - 1) (omega (arith, some))))
     ∙ last_tests table earlier row (length table - 1) e refl
 
 -- ---- a row that a line says
@@ -43,7 +47,8 @@ distance_read field e =
       | inr bad ↦ absurd (cc (rw bad at e))
     ]
 
-distances_read : (fields : List (List ℕ)) → list_all (is_number 1 MAX_DISTANCE) fields ≡ true → list_all is_distance (map (λ field. number (number_within 1 MAX_DISTANCE field)) fields) ≡ true
+distances_read : (fields : List (List ℕ)) → list_all (is_number 1 MAX_DISTANCE) fields ≡ true
+    → list_all is_distance (map (λ field. number (number_within 1 MAX_DISTANCE field)) fields) ≡ true
 distances_read [] e = refl
 distances_read (field ∷ fields) e =
     let parts = and_parts _ _ e in and_from _ _ (distance_read field parts.0) (distances_read fields parts.1)
@@ -53,6 +58,7 @@ all_with : {X : Type 0} (p : X → Bool) (xs : List X) (x : X) → list_all p xs
 all_with p [] x all one = and_from _ _ one refl
 all_with p (y ∷ xs) x all one = let parts = and_parts _ _ all in and_from _ _ parts.0 (all_with p xs x parts.1 one)
 
-pub in_range_with : (table : List (List ℕ)) (fields : List (List ℕ)) → list_all (list_all is_distance) table ≡ true → list_all (is_number 1 MAX_DISTANCE) (drop 1 fields) ≡ true
+pub in_range_with : (table : List (List ℕ)) (fields : List (List ℕ)) → list_all (list_all is_distance) table ≡ true
+    → list_all (is_number 1 MAX_DISTANCE) (drop 1 fields) ≡ true
     → list_all (list_all is_distance) (table ++ distances_in fields ∷ []) ≡ true
 in_range_with table fields all good = all_with (list_all is_distance) table (distances_in fields) all (distances_read (drop 1 fields) good)

@@ -27,12 +27,14 @@ abbrev pub all_read : {X : Type 0} → (List ℕ → Option X) → List (List �
 all_read read fs = list_all (λ f. is_some (read f)) fs
 
 -- the fields from a place on, of which those before place i were read
-pub record AreRead {X : Type 0} (read : List ℕ → Option X) (default : X) (fs : List (List ℕ)) (from : ℕ) (i : ℕ) (xs : List X) : Type 0 where
+pub record AreRead {X : Type 0} (read : List ℕ → Option X) (default : X) (fs : List (List ℕ)) (from : ℕ) (i : ℕ)
+    (xs : List X) : Type 0 where
   pub so_far : xs ++ values read default (drop i fs) ≡ values read default (drop from fs)
   pub good : all_read read (drop i fs) ≡ all_read read (drop from fs)
 
 pub one_read : {X : Type 0} (read : List ℕ → Option X) (default : X) (fs : List (List ℕ)) (from i : ℕ) (xs : List X) (x : X)
-    → AreRead read default fs from i xs → option_and_then read (field_at fs i) ≡ Some x → AreRead read default fs from (i + 1) (xs ++ x ∷ [])
+    → AreRead read default fs from i xs → option_and_then read (field_at fs i) ≡ Some x
+    → AreRead read default fs from (i + 1) (xs ++ x ∷ [])
 one_read {X} read default fs from i xs x r e = at (field_at fs i) refl e
   where
     at : (o : Option (List ℕ)) → field_at fs i ≡ o → option_and_then read o ≡ Some x → AreRead read default fs from (i + 1) (xs ++ x ∷ [])
@@ -40,7 +42,10 @@ one_read {X} read default fs from i xs x r e = at (field_at fs i) refl e
     at (Some f) there got =
         let rest = drop_field i fs f there in
         record {
-          so_far = append_assoc xs (x ∷ []) (values read default (drop (i + 1) fs)) ∙ (ap (λ (v : X). xs ++ v ∷ values read default (drop (i + 1) fs)) (sym (ap (λ (o : Option X). unwrap_or o default) got)) ∙ (sym (ap (λ (gs : List (List ℕ)). xs ++ values read default gs) rest) ∙ r.so_far));
+          so_far = append_assoc xs (x ∷ []) (values read default (drop (i + 1) fs))
+              ∙ (ap (λ (v : X). xs ++ v ∷ values read default (drop (i + 1) fs))
+              (sym (ap (λ (o : Option X). unwrap_or o default) got))
+              ∙ (sym (ap (λ (gs : List (List ℕ)). xs ++ values read default gs) rest) ∙ r.so_far));
           good = sym (ap (λ (o : Option X). is_some o && all_read read (drop (i + 1) fs)) got) ∙ (sym (ap (all_read read) rest) ∙ r.good);
         }
 
@@ -50,4 +55,5 @@ pub misread : {X : Type 0} (read : List ℕ → Option X) (default : X) (fs : Li
 misread {X} read default fs from i xs r lt e =
     let there = some_field i fs lt in
     let none : read there.0 ≡ None = sym (ap (option_and_then read) there.1) ∙ e in
-    sym r.good ∙ (ap (all_read read) (drop_field i fs there.0 there.1) ∙ ap (λ (o : Option X). is_some o && all_read read (drop (i + 1) fs)) none)
+    sym r.good ∙ (ap (all_read read) (drop_field i fs there.0 there.1)
+    ∙ ap (λ (o : Option X). is_some o && all_read read (drop (i + 1) fs)) none)

@@ -28,11 +28,15 @@ first_bad lines n code h =
       before = h.before;
     }
 
-lines_refused : (lines : List (List ℕ)) (n : ℕ) (code : Code) (o : Result Reading (ℕ × Code)) → lines_from nothing_read lines ≡ o → (o >>= λ r. Ok (trace_of r)) ≡ Err (n, code) → IsFirstBad lines n code
+lines_refused : (lines : List (List ℕ)) (n : ℕ) (code : Code) (o : Result Reading (ℕ × Code))
+    → lines_from nothing_read lines ≡ o → (o >>= λ r. Ok (trace_of r)) ≡ Err (n, code) → IsFirstBad lines n code
 lines_refused lines n code (Ok s) at e = absurd (cc)
-lines_refused lines n code (Err p) at e = first_bad lines n code (refused_at nothing_read lines n code (at ∙ ap (refused {A = Reading}) (ap (refused_as p) e)))
+lines_refused lines n code (Err p) at e =
+    first_bad lines n code (refused_at nothing_read lines n code (at ∙ ap (refused {A = Reading}) (ap (refused_as p) e)))
 
-lines_accepted : (lines : List (List ℕ)) (t : Trace) (o : Result Reading (ℕ × Code)) → lines_from nothing_read lines ≡ o → (o >>= λ r. Ok (trace_of r)) ≡ Ok t → (k : ℕ) → k < length lines → is_bad (tests_at lines k) ≡ false
+lines_accepted : (lines : List (List ℕ)) (t : Trace) (o : Result Reading (ℕ × Code))
+    → lines_from nothing_read lines ≡ o → (o >>= λ r. Ok (trace_of r)) ≡ Ok t → (k : ℕ) → k < length lines
+    → is_bad (tests_at lines k) ≡ false
 lines_accepted lines t (Err p) at e k lt = absurd (cc)
 lines_accepted lines t (Ok s) at e k lt = ap is_bad (tests_same lines k) ∙ accepted_at nothing_read s lines at k lt
 
@@ -54,8 +58,11 @@ bad_line lines n code h = first_is_bad (tests_at lines h.k) code h.here
 
 one_line : (lines : List (List ℕ)) (n m : ℕ) (a b : Code) → IsFirstBad lines n a → IsFirstBad lines m b → (n ≡ m) × (a ≡ b)
 one_line lines n m a b first second = elim (cases_order first.k second.k) [
-  | inl same ↦ let one = first.number in let two = second.number in
-      (omega (arith, same, one, two), one_first (tests_at lines second.k) a b (subst (λ k. IsFirstCode (tests_at lines k) a) same first.here) second.here)
+  | inl same ↦ let one = first.number in let two = second.number in (
+    omega (arith, same, one, two),
+    one_first (tests_at lines second.k) a b
+        (subst (λ k. IsFirstCode (tests_at lines k) a) same first.here) second.here,
+  )
   | inr other ↦ elim other [
     | inl before ↦ absurd (both_ways _ (second.before first.k before) (bad_line lines n a first))
     | inr after ↦ absurd (both_ways _ (first.before second.k after) (bad_line lines m b second))
@@ -73,7 +80,8 @@ no_refusal text n code (inl long) none = omega (arith, long.0, none.0)
 no_refusal text n code (inr h) none = both_ways _ (none.1 h.1.k h.1.within) (bad_line (lines_of text) n code h.1)
 
 -- ---- the laws
-is_that : (text : List ℕ) (n : ℕ) (code : Code) (o : Result Trace (ℕ × Code)) → reading_of text ≡ o → IsRefusal text n code → o ≡ Err (n, code)
+is_that : (text : List ℕ) (n : ℕ) (code : Code) (o : Result Trace (ℕ × Code)) → reading_of text ≡ o
+    → IsRefusal text n code → o ≡ Err (n, code)
 is_that text n code (Ok t) at h = absurd (no_refusal text n code h (none_bad text t at))
 is_that text n code (Err p) at h =
     let same = one_refusal text p.0 n p.1 code (refusal text p.0 p.1 at) h in

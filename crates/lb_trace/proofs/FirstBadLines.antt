@@ -32,7 +32,8 @@ some_test [] after bad = bad
 some_test ((true, code) ∷ before) after bad = refl
 some_test ((false, code) ∷ before) after bad = some_test before after bad
 
-next_line : (r : Reading) (tests : Tests) (kind : Option LineKind) (fields : List (List ℕ)) → is_bad (tests ++ kind_tests r kind fields) ≡ false → (after_line r kind fields).line ≡ r.line + 1
+next_line : (r : Reading) (tests : Tests) (kind : Option LineKind) (fields : List (List ℕ))
+    → is_bad (tests ++ kind_tests r kind fields) ≡ false → (after_line r kind fields).line ≡ r.line + 1
 unfolding kind_tests
 next_line r tests None fields good = absurd (cc (some_test tests (kind_tests r None fields) refl))
 next_line r tests (Some kind) fields good = refl
@@ -49,7 +50,8 @@ line_next r s line e =
     let h = passes (line_tests r false line) (after_line r (kind_of fields) fields) s e in
     ap (λ (t : Reading). t.line) h.same ∙ next_line r (byte_tests r false line) (kind_of fields) fields h.good
 
-pub line_bad : (r : Reading) (cut : Bool) (line : List ℕ) (code : Code) → line_at r cut line ≡ Err code → IsFirstCode (line_tests r cut line) code
+pub line_bad : (r : Reading) (cut : Bool) (line : List ℕ) (code : Code) → line_at r cut line ≡ Err code
+    → IsFirstCode (line_tests r cut line) code
 unfolding line_at
 line_bad r cut line code e = first_code (line_tests r cut line) _ code e
 
@@ -60,7 +62,8 @@ last_line r last = cond (length last == 0) (ended r) (line_at r true last)
 last_good : (r s : Reading) (last : List ℕ) → last_line r last ≡ Ok s → is_bad (next_tests r (last ∷ [])) ≡ false
 unfolding ended
 last_good r s last =
-    elim (length last == 0) as (λ b. cond b (ended r) (line_at r true last) ≡ Ok s → is_bad (cond b (end_tests r) (line_tests r true last)) ≡ false) [
+    elim (length last == 0) as (λ b. cond b (ended r) (line_at r true last) ≡ Ok s
+    → is_bad (cond b (end_tests r) (line_tests r true last)) ≡ false) [
       | true ↦ λ e. (passes (end_tests r) r s e).good
       | false ↦ λ e. line_good r s true last e
     ]
@@ -68,7 +71,8 @@ last_good r s last =
 last_bad : (r : Reading) (last : List ℕ) (code : Code) → last_line r last ≡ Err code → IsFirstCode (next_tests r (last ∷ [])) code
 unfolding ended
 last_bad r last code =
-    elim (length last == 0) as (λ b. cond b (ended r) (line_at r true last) ≡ Err code → IsFirstCode (cond b (end_tests r) (line_tests r true last)) code) [
+    elim (length last == 0) as (λ b. cond b (ended r) (line_at r true last) ≡ Err code
+    → IsFirstCode (cond b (end_tests r) (line_tests r true last)) code) [
       | true ↦ λ e. first_code (end_tests r) r code e
       | false ↦ λ e. line_bad r true last code e
     ]
@@ -97,14 +101,17 @@ bad_here r lines n m code other some first at e =
       before = λ j lt. absurd (omega (arith, lt));
     }
 
-on_last : (r : Reading) (last : List ℕ) (n : ℕ) (code : Code) (o : Result Reading Code) → last_line r last ≡ o → on_line r.line o ≡ Err (n, code) → IsBadAt r (last ∷ []) n code
+on_last : (r : Reading) (last : List ℕ) (n : ℕ) (code : Code) (o : Result Reading Code) → last_line r last ≡ o
+    → on_line r.line o ≡ Err (n, code) → IsBadAt r (last ∷ []) n code
 on_last r last n code (Ok s) at e = absurd (cc)
 on_last r last n code (Err other) at e = bad_here r (last ∷ []) n r.line code other (omega arith) (last_bad r last other at) refl e
 
-on_more : (r : Reading) (line next : List ℕ) (more : List (List ℕ)) (n : ℕ) (code : Code) (o : Result Reading Code) → line_at r false line ≡ o
+on_more : (r : Reading) (line next : List ℕ) (more : List (List ℕ)) (n : ℕ) (code : Code) (o : Result Reading Code)
+    → line_at r false line ≡ o
     → ((s : Reading) → lines_from s (next ∷ more) ≡ Err (n, code) → IsBadAt s (next ∷ more) n code)
     → (on_line r.line o >>= λ s. lines_from s (next ∷ more)) ≡ Err (n, code) → IsBadAt r (line ∷ next ∷ more) n code
-on_more r line next more n code (Err other) at rest e = bad_here r (line ∷ next ∷ more) n r.line code other (omega arith) (line_bad r false line other at) refl e
+on_more r line next more n code (Err other) at rest e =
+    bad_here r (line ∷ next ∷ more) n r.line code other (omega arith) (line_bad r false line other at) refl e
 on_more r line next more n code (Ok s) at rest e =
     let found = rest s e in
     let up = line_next r s line at in
@@ -119,7 +126,8 @@ on_more r line next more n code (Ok s) at rest e =
     }
   where
     before : (r s : Reading) (line next : List ℕ) (more : List (List ℕ)) (k : ℕ) → line_at r false line ≡ Ok s
-        → ((j : ℕ) → j < k → is_bad (tests_from s (next ∷ more) j) ≡ false) → (j : ℕ) → j < suc k → is_bad (tests_from r (line ∷ next ∷ more) j) ≡ false
+        → ((j : ℕ) → j < k → is_bad (tests_from s (next ∷ more) j) ≡ false) → (j : ℕ) → j < suc k
+        → is_bad (tests_from r (line ∷ next ∷ more) j) ≡ false
     before r s line next more k at rest zero lt = line_good r s false line at
     before r s line next more k at rest (suc j) lt = ap is_bad (later r s line next more j at) ∙ rest j (omega (arith, lt))
 
@@ -127,22 +135,28 @@ pub refused_at : (r : Reading) (lines : List (List ℕ)) (n : ℕ) (code : Code)
 unfolding lines_from
 refused_at r [] n code e = absurd (cc)
 refused_at r (last ∷ []) n code e = on_last r last n code (last_line r last) refl e
-refused_at r (line ∷ next ∷ more) n code e = on_more r line next more n code (line_at r false line) refl (λ s. refused_at s (next ∷ more) n code) e
+refused_at r (line ∷ next ∷ more) n code e =
+    on_more r line next more n code (line_at r false line) refl (λ s. refused_at s (next ∷ more) n code) e
 
-good_last : (r s : Reading) (last : List ℕ) (o : Result Reading Code) → last_line r last ≡ o → on_line r.line o ≡ Ok s → (k : ℕ) → k < 1 → is_bad (tests_from r (last ∷ []) k) ≡ false
+good_last : (r s : Reading) (last : List ℕ) (o : Result Reading Code) → last_line r last ≡ o → on_line r.line o ≡ Ok s
+    → (k : ℕ) → k < 1 → is_bad (tests_from r (last ∷ []) k) ≡ false
 good_last r s last (Err code) at e k lt = absurd (cc)
 good_last r s last (Ok t) at e zero lt = last_good r t last at
 good_last r s last (Ok t) at e (suc k) lt = absurd (omega (arith, lt))
 
 good_more : (r s : Reading) (line next : List ℕ) (more : List (List ℕ)) (o : Result Reading Code) → line_at r false line ≡ o
-    → ((t : Reading) → lines_from t (next ∷ more) ≡ Ok s → (k : ℕ) → k < length (next ∷ more) → is_bad (tests_from t (next ∷ more) k) ≡ false)
-    → (on_line r.line o >>= λ t. lines_from t (next ∷ more)) ≡ Ok s → (k : ℕ) → k < length (line ∷ next ∷ more) → is_bad (tests_from r (line ∷ next ∷ more) k) ≡ false
+    → ((t : Reading) → lines_from t (next ∷ more) ≡ Ok s → (k : ℕ) → k < length (next ∷ more)
+    → is_bad (tests_from t (next ∷ more) k) ≡ false)
+    → (on_line r.line o >>= λ t. lines_from t (next ∷ more)) ≡ Ok s → (k : ℕ) → k < length (line ∷ next ∷ more)
+    → is_bad (tests_from r (line ∷ next ∷ more) k) ≡ false
 good_more r s line next more (Err code) at rest e k lt = absurd (cc)
 good_more r s line next more (Ok t) at rest e zero lt = line_good r t false line at
 good_more r s line next more (Ok t) at rest e (suc k) lt = ap is_bad (later r t line next more k at) ∙ rest t e k (omega (arith, lt))
 
-pub accepted_at : (r s : Reading) (lines : List (List ℕ)) → lines_from r lines ≡ Ok s → (k : ℕ) → k < length lines → is_bad (tests_from r lines k) ≡ false
+pub accepted_at : (r s : Reading) (lines : List (List ℕ)) → lines_from r lines ≡ Ok s → (k : ℕ) → k < length lines
+    → is_bad (tests_from r lines k) ≡ false
 unfolding lines_from
 accepted_at r s [] e k lt = absurd (omega (arith, lt))
 accepted_at r s (last ∷ []) e k lt = good_last r s last (last_line r last) refl e k lt
-accepted_at r s (line ∷ next ∷ more) e k lt = good_more r s line next more (line_at r false line) refl (λ t. accepted_at t s (next ∷ more)) e k lt
+accepted_at r s (line ∷ next ∷ more) e k lt =
+    good_more r s line next more (line_at r false line) refl (λ t. accepted_at t s (next ∷ more)) e k lt

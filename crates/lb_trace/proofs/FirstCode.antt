@@ -23,9 +23,15 @@ first_code ((true, other) ∷ tests) given code e =
     record { before = []; after = tests; place = ap (λ c. (true, c) ∷ tests) (cc); first = refl }
 first_code ((false, other) ∷ tests) given code e =
     let rest = first_code tests given code e in
-    record { before = (false, other) ∷ rest.before; after = rest.after; place = ap (λ ts. (false, other) ∷ ts) rest.place; first = rest.first }
+    record {
+      before = (false, other) ∷ rest.before;
+      after = rest.after;
+      place = ap (λ ts. (false, other) ∷ ts) rest.place;
+      first = rest.first;
+    }
 
-pub gives_first : {A : Type 0} (before after : Tests) (given : A) (code : Code) → is_bad before ≡ false → unless_bad (before ++ (true, code) ∷ after) given ≡ Err code
+pub gives_first : {A : Type 0} (before after : Tests) (given : A) (code : Code) → is_bad before ≡ false
+    → unless_bad (before ++ (true, code) ∷ after) given ≡ Err code
 gives_first [] after given code good = refl
 gives_first ((true, other) ∷ before) after given code good = absurd (cc)
 gives_first ((false, other) ∷ before) after given code good = gives_first before after given code good

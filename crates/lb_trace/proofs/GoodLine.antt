@@ -30,7 +30,8 @@ pub record IsGood (r : Reading) (kind : LineKind) (fields : List (List ℕ)) : T
 pub both_good : (before after : Tests) → is_bad (before ++ after) ≡ false → (is_bad before ≡ false) × (is_bad after ≡ false)
 both_good before after good = or_parts _ _ (sym (list_any-append (λ t. t.0) before after) ∙ good)
 
-pub good_line : (r : Reading) (kind : LineKind) (fields : List (List ℕ)) → is_bad (kind_tests r (Some kind) fields) ≡ false → IsGood r kind fields
+pub good_line : (r : Reading) (kind : LineKind) (fields : List (List ℕ))
+    → is_bad (kind_tests r (Some kind) fields) ≡ false → IsGood r kind fields
 unfolding kind_tests place_tests value_tests
 good_line r kind fields good =
     let place = or_parts _ _ good in

@@ -21,7 +21,8 @@ regrouped true false true d = refl
 regrouped true false false d = refl
 
 -- a mask more
-disjoint_with : (masks : List Mask) (mask : Mask) → are_disjoint (masks ++ mask ∷ []) ≡ (are_disjoint masks && list_all (λ m. are_apart m mask) masks)
+disjoint_with : (masks : List Mask) (mask : Mask)
+    → are_disjoint (masks ++ mask ∷ []) ≡ (are_disjoint masks && list_all (λ m. are_apart m mask) masks)
 disjoint_with [] mask = refl
 disjoint_with (m ∷ masks) mask =
     rw (list_all-append (are_apart m) masks (mask ∷ []), disjoint_with masks mask)
@@ -35,7 +36,8 @@ front_disjoint (m ∷ masks) more e =
     and_from _ _ (and_parts _ _ (sym (list_all-append (are_apart m) masks more) ∙ parts.0)).0 (front_disjoint masks more parts.1)
 
 -- a mask that shares no CPU with any of them shares none with all of them together, and the other way
-lacks : (masks : List Mask) (mask : Mask) (k : ℕ) → k < 64 → list_all (λ m. are_apart m mask) masks ≡ true → list_any (λ m. has m k) masks ≡ true → has mask k ≡ false
+lacks : (masks : List Mask) (mask : Mask) (k : ℕ) → k < 64 → list_all (λ m. are_apart m mask) masks ≡ true
+    → list_any (λ m. has m k) masks ≡ true → has mask k ≡ false
 lacks [] mask k lt apart there = absurd (cc)
 lacks (m ∷ masks) mask k lt apart there =
     let parts = and_parts _ _ apart in
@@ -44,7 +46,9 @@ lacks (m ∷ masks) mask k lt apart there =
       | inr later ↦ lacks masks mask k lt parts.1 later
     ]
 
-each_apart : (masks : List Mask) (seen mask : Mask) → ((k : ℕ) → list_any (λ m. has m k) masks ≡ true → has seen k ≡ true) → are_apart seen mask ≡ true → list_all (λ m. are_apart m mask) masks ≡ true
+each_apart : (masks : List Mask) (seen mask : Mask)
+    → ((k : ℕ) → list_any (λ m. has m k) masks ≡ true → has seen k ≡ true) → are_apart seen mask ≡ true
+    → list_all (λ m. are_apart m mask) masks ≡ true
 each_apart [] seen mask within apart = refl
 each_apart (m ∷ masks) seen mask within apart =
     and_from _ _ (apart_from m mask (λ k lt there. apart_at seen mask apart k lt (within k (or_left _ _ there))))
@@ -60,7 +64,9 @@ one_more masks i seen more lt so_far apart is =
     let push = take_more masks i no_cpus lt in
     record {
       disjoint = rw (push, disjoint_with (take i masks) mask) (and_from _ _ so_far.disjoint each);
-      union = λ k. is k ∙ (rw (so_far.union k) (sym (rw (push, list_any-append (λ (m : Mask). has m k) (take i masks) (mask ∷ [])) (ap (λ (b : Bool). list_any (λ (m : Mask). has m k) (take i masks) || b) (or_false (has mask k))))));
+      union = λ k. is k ∙ (rw (so_far.union k)
+          (sym (rw (push, list_any-append (λ (m : Mask). has m k) (take i masks) (mask ∷ []))
+          (ap (λ (b : Bool). list_any (λ (m : Mask). has m k) (take i masks) || b) (or_false (has mask k))))));
     }
   where
     or_false : (b : Bool) → (b || false) ≡ b
@@ -72,7 +78,9 @@ pub one_shared : (masks : List Mask) (i : ℕ) (seen : Mask) → i < length mask
 one_shared masks i seen lt so_far shares =
     let mask = get_or masks i no_cpus in
     sym (false_from_ne_true _ (λ whole.
-    let front : are_disjoint (take (i + 1) masks) ≡ true = front_disjoint (take (i + 1) masks) (drop (i + 1) masks) (ap are_disjoint (take-append-drop (i + 1) masks) ∙ whole) in
-    let each = (and_parts _ _ (sym (disjoint_with (take i masks) mask) ∙ (ap are_disjoint (sym (take_more masks i no_cpus lt)) ∙ front))).1 in
+    let front : are_disjoint (take (i + 1) masks) ≡ true =
+    front_disjoint (take (i + 1) masks) (drop (i + 1) masks) (ap are_disjoint (take-append-drop (i + 1) masks) ∙ whole) in
+    let each = (and_parts _ _ (sym (disjoint_with (take i masks) mask)
+    ∙ (ap are_disjoint (sym (take_more masks i no_cpus lt)) ∙ front))).1 in
     both_ways (are_apart seen mask) shares
     (apart_from seen mask (λ k lt there. lacks (take i masks) mask k lt each (sym (so_far.union k) ∙ there)))))

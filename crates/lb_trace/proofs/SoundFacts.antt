@@ -44,7 +44,8 @@ sound_version : (r : Reading) (fields : List (List ℕ)) → IsSound r → IsSou
 unfolding trace_of
 sound_version r fields h = record { machine = h.machine; parts = h.parts; lanes = h.lanes; tasks = h.tasks; rows = h.rows }
 
-sound_after : (r : Reading) (kind : LineKind) (fields : List (List ℕ)) → length fields ≤ max_fields → IsSound r → IsGood r kind fields → IsSound (after r kind fields)
+sound_after : (r : Reading) (kind : LineKind) (fields : List (List ℕ)) → length fields ≤ max_fields → IsSound r
+    → IsGood r kind fields → IsSound (after r kind fields)
 sound_after r kinds.Version fields few h good = sound_version r fields h
 sound_after r kinds.Cpu fields few h good = sound_cpu r fields h good
 sound_after r kinds.Dist fields few h good = sound_dist r fields h good
@@ -53,7 +54,8 @@ sound_after r kinds.Lanes fields few h good = sound_lanes r fields h good
 sound_after r kinds.Task fields few h good = sound_task r fields h good
 sound_after r (kinds.Row kind) fields few h good = sound_row r kind fields few h good
 
-sound_kind : (r : Reading) (kind : Option LineKind) (fields : List (List ℕ)) → length fields ≤ max_fields → IsSound r → is_bad (kind_tests r kind fields) ≡ false → IsSound (after_line r kind fields)
+sound_kind : (r : Reading) (kind : Option LineKind) (fields : List (List ℕ)) → length fields ≤ max_fields → IsSound r
+    → is_bad (kind_tests r kind fields) ≡ false → IsSound (after_line r kind fields)
 sound_kind r None fields few h good = h
 sound_kind r (Some kind) fields few h good = sound_after r kind fields few h (good_line r kind fields good)
 

@@ -28,16 +28,19 @@ max_fields = MAX_BYTES + 1
 
 -- ---- partition masks
 pub partition_in : (r : Reading) (i : ℕ) (fields : List (List ℕ)) → i < length fields → length fields ≤ max_fields
-    → has_no_cpu r (masks_from i fields) ≡ false → not (are_disjoint (masks_from i fields)) ≡ false → is_partition (length r.cpus) (masks_from i fields) ≡ true
+    → has_no_cpu r (masks_from i fields) ≡ false → not (are_disjoint (masks_from i fields)) ≡ false
+    → is_partition (length r.cpus) (masks_from i fields) ≡ true
 partition_in r i fields some few below apart =
     let masks = masks_from i fields in
     let long = length-masks_from i fields in
     let fine = no_fault_from_partition (length r.cpus) masks (record { below = not-false _ below; apart = not-false _ apart }) in
     and_from _ _
-    (and_from _ _ (and_from _ _ (le-leb 1 (length masks) (omega (arith, long, some))) (lt-ltb (length masks) (2 ^ 32) (omega (arith, long, few)))) (masks_in i fields))
+    (and_from _ _ (and_from _ _ (le-leb 1 (length masks) (omega (arith, long, some)))
+    (lt-ltb (length masks) (2 ^ 32) (omega (arith, long, few)))) (masks_in i fields))
     (ap is_none fine)
 
-pub sound_parts : (r : Reading) (fields : List (List ℕ)) → length fields ≤ max_fields → IsSound r → IsGood r kinds.Parts fields → IsSound (after r kinds.Parts fields)
+pub sound_parts : (r : Reading) (fields : List (List ℕ)) → length fields ≤ max_fields → IsSound r
+    → IsGood r kinds.Parts fields → IsSound (after r kinds.Parts fields)
 sound_parts r fields few h good =
     let place = and_parts _ _ (and_parts _ _ good.stands).0 in
     let lanes = none_there r.lanes place.1 in
@@ -69,7 +72,8 @@ task_in : (r : Reading) (fields : List (List ℕ)) → IsGood r kinds.Task field
 task_in r fields good =
     let mask = or_parts _ _ good.mask in
     and_from _ _
-    (and_from _ _ (and_from _ _ (and_from _ _ (nice_in 2 fields) (not-false _ (or_parts _ _ good.names).1)) (not_from_false _ mask.0)) (not-false _ mask.1))
+    (and_from _ _ (and_from _ _ (and_from _ _ (nice_in 2 fields) (not-false _ (or_parts _ _ good.names).1))
+    (not_from_false _ mask.0)) (not-false _ mask.1))
     (list_in 4 fields)
 
 pub sound_task : (r : Reading) (fields : List (List ℕ)) → IsSound r → IsGood r kinds.Task fields → IsSound (after r kinds.Task fields)

@@ -17,7 +17,8 @@ all_push p xs x all one = list_all-append p xs (x ∷ []) ∙ and_from _ _ all (
 pub all_none : {X : Type 0} (p : X → Bool) (xs : List X) → xs ≡ [] → list_all p xs ≡ true
 all_none p xs none = ap (list_all p) none
 
-pub all_also : {X : Type 0} (p q : X → Bool) (xs : List X) → ((x : X) → p x ≡ true → q x ≡ true) → list_all p xs ≡ true → list_all q xs ≡ true
+pub all_also : {X : Type 0} (p q : X → Bool) (xs : List X) → ((x : X) → p x ≡ true → q x ≡ true)
+    → list_all p xs ≡ true → list_all q xs ≡ true
 all_also p q [] also all = refl
 all_also p q (x ∷ xs) also all = let parts = and_parts _ _ all in and_from _ _ (also x parts.0) (all_also p q xs also parts.1)
 
@@ -28,10 +29,13 @@ pub stand_push : {X : Type 0} (clashes : List X → X → Bool) (d : X) (xs : Li
 stand_push clashes d xs x each one k lt =
     let longer = length_push xs x in
     elim (cases_eq k (length xs)) [
-      | inl last ↦ ap (λ front. clashes front (get_or (xs ++ x ∷ []) k d)) (take_at xs (x ∷ []) k (sym last)) ∙ ap (clashes xs) (get_or_push xs x d k (sym last)) ∙ one
+      | inl last ↦ ap (λ front. clashes front (get_or (xs ++ x ∷ []) k d)) (take_at xs (x ∷ []) k (sym last))
+          ∙ ap (clashes xs) (get_or_push xs x d k (sym last)) ∙ one
       | inr before ↦
           let within : k < length xs = omega (arith, longer, lt, before) in
-          ap (λ front. clashes front (get_or (xs ++ x ∷ []) k d)) (take-append-le k xs (x ∷ []) (omega (arith, within))) ∙ ap (clashes (take k xs)) (get_or_append_left xs (x ∷ []) d k within) ∙ each k within
+          ap (λ front. clashes front (get_or (xs ++ x ∷ []) k d))
+          (take-append-le k xs (x ∷ []) (omega (arith, within)))
+          ∙ ap (clashes (take k xs)) (get_or_append_left xs (x ∷ []) d k within) ∙ each k within
     ]
 
 -- ---- what may be there
@@ -45,7 +49,9 @@ is_none_if P (Some x) holds never = absurd (never x holds)
 
 -- ---- no tasks and no rows
 pub no_tasks : (cpus : ℕ) (after_lanes : Bool) (tasks : List TaskRow) → tasks ≡ [] → AreTasks cpus after_lanes tasks
-no_tasks cpus after_lanes tasks none = subst (AreTasks cpus after_lanes) (sym none) (record { none = λ _. refl; most = omega arith; all = refl })
+no_tasks cpus after_lanes tasks none = subst (AreTasks cpus after_lanes) (sym none)
+    (record { none = λ _. refl; most = omega arith; all = refl })
 
 pub no_rows : (h : Header) (after_lanes : Bool) (rows : List Row) → rows ≡ [] → AreRows h after_lanes rows
-no_rows h after_lanes rows none = subst (AreRows h after_lanes) (sym none) (record { none = λ _. refl; most = omega arith; all = refl; ticks = refl })
+no_rows h after_lanes rows none = subst (AreRows h after_lanes) (sym none)
+    (record { none = λ _. refl; most = omega arith; all = refl; ticks = refl })

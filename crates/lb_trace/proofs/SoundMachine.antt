@@ -49,7 +49,8 @@ cpu_in r fields good =
     let cache = or_parts _ _ node.0 in
     let core = or_parts _ _ cache.0 in
     and_from _ _
-    (and_from _ _ (at_most (number (core_in fields)) MAX_CORE (number_in 2 0 MAX_CORE fields core.1).1) (at_most (number (cache_in fields)) MAX_CORE (number_in 3 0 MAX_CORE fields cache.1).1))
+    (and_from _ _ (at_most (number (core_in fields)) MAX_CORE (number_in 2 0 MAX_CORE fields core.1).1)
+    (at_most (number (cache_in fields)) MAX_CORE (number_in 3 0 MAX_CORE fields cache.1).1))
     (at_most (number (node_in fields)) 15 (number_in 4 0 15 fields node.1).1)
 
 pub sound_cpu : (r : Reading) (fields : List (List ℕ)) → IsSound r → IsGood r kinds.Cpu fields → IsSound (after r kinds.Cpu fields)
@@ -94,7 +95,8 @@ sound_dist r fields h good =
         cpus = h.machine.cpus;
         cpus_stand = h.machine.cpus_stand;
         most_distances = omega (arith, longer, room);
-        sizes = all_push (has_size (nodes_of r.cpus)) r.distances (distances_in fields) h.machine.sizes (eq-eqb _ _ (omega (arith, size, length-distances_in fields)));
+        sizes = all_push (has_size (nodes_of r.cpus)) r.distances (distances_in fields) h.machine.sizes
+            (eq-eqb _ _ (omega (arith, size, length-distances_in fields)));
         distances = in_range_with r.distances fields h.machine.distances (not-false _ good.numbers);
         rows_stand = stand_push is_bad_distance [] r.distances (distances_in fields) h.machine.rows_stand good.placed;
         nested = λ whole. nested_there _ _ good.nested (eq-eqb _ _ whole);

@@ -22,7 +22,8 @@ use Rattle.lb_trace.proofs.TicksAgree.{Agrees, quiet_agrees, tick_agrees, ticks_
 is_declared : (bad_lane there : Bool) → (bad_lane || not there) ≡ false → there ≡ true
 is_declared bad_lane there good = not-false there (or_parts bad_lane (not there) good).1
 
-command_in : (r : Reading) (kind : RowKind) (fields : List (List ℕ)) → length fields ≤ max_fields → IsGood r (kinds.Row kind) fields → is_command (trace_of r).header (command_of kind fields) ≡ true
+command_in : (r : Reading) (kind : RowKind) (fields : List (List ℕ)) → length fields ≤ max_fields
+    → IsGood r (kinds.Row kind) fields → is_command (trace_of r).header (command_of kind fields) ≡ true
 unfolding trace_of
 command_in r rows.Wake fields few good = is_declared _ _ good.names
 command_in r rows.Sleep fields few good = is_declared _ _ good.names
@@ -30,14 +31,17 @@ command_in r rows.Exit fields few good = is_declared _ _ good.names
 command_in r rows.Mask fields few good = and_from _ _ (is_declared _ _ good.names) (list_in 4 fields)
 command_in r rows.Nice fields few good = and_from _ _ (is_declared _ _ good.names) (nice_in 4 fields)
 command_in r rows.Tick fields few good = is_declared _ _ good.names
-command_in r rows.Rebuild fields few good = partition_in r 3 fields (let some = leb-true 4 _ good.size in omega (arith, some)) few good.cpus good.apart
+command_in r rows.Rebuild fields few good =
+    partition_in r 3 fields (let some = leb-true 4 _ good.size in omega (arith, some)) few good.cpus good.apart
 
-row_in : (r : Reading) (kind : RowKind) (fields : List (List ℕ)) → length fields ≤ max_fields → IsGood r (kinds.Row kind) fields → is_row (trace_of r).header (row_of kind fields) ≡ true
+row_in : (r : Reading) (kind : RowKind) (fields : List (List ℕ)) → length fields ≤ max_fields
+    → IsGood r (kinds.Row kind) fields → is_row (trace_of r).header (row_of kind fields) ≡ true
 unfolding trace_of
 row_in r kind fields few good =
     let numbers = or_parts _ _ (or_parts _ _ good.numbers).0 in
     and_from _ _
-    (and_from _ _ (not-false _ (or_parts _ _ good.names).0) (le-leb (number (moment_in fields)) MAX_MOMENT (number_in 2 0 MAX_MOMENT fields numbers.1).1))
+    (and_from _ _ (not-false _ (or_parts _ _ good.names).0)
+    (le-leb (number (moment_in fields)) MAX_MOMENT (number_in 2 0 MAX_MOMENT fields numbers.1).1))
     (command_in r kind fields few good)
 
 ticks_in : (r : Reading) (kind : RowKind) (fields : List (List ℕ)) → IsGood r (kinds.Row kind) fields → Agrees (row_of kind fields) r.rows
@@ -47,10 +51,12 @@ ticks_in r rows.Sleep fields good = quiet_agrees _ r.rows refl
 ticks_in r rows.Exit fields good = quiet_agrees _ r.rows refl
 ticks_in r rows.Mask fields good = quiet_agrees _ r.rows refl
 ticks_in r rows.Nice fields good = quiet_agrees _ r.rows refl
-ticks_in r rows.Tick fields good = tick_agrees (number (subject_in fields)) (number (moment_in fields)) (number (lane_in fields)) r.rows good.ticks
+ticks_in r rows.Tick fields good = tick_agrees (number (subject_in fields)) (number (moment_in fields))
+    (number (lane_in fields)) r.rows good.ticks
 ticks_in r rows.Rebuild fields good = quiet_agrees _ r.rows refl
 
-pub sound_row : (r : Reading) (kind : RowKind) (fields : List (List ℕ)) → length fields ≤ max_fields → IsSound r → IsGood r (kinds.Row kind) fields → IsSound (after r (kinds.Row kind) fields)
+pub sound_row : (r : Reading) (kind : RowKind) (fields : List (List ℕ)) → length fields ≤ max_fields → IsSound r
+    → IsGood r (kinds.Row kind) fields → IsSound (after r (kinds.Row kind) fields)
 unfolding trace_of
 sound_row r kind fields few h good =
     let longer = length_push r.rows (row_of kind fields) in

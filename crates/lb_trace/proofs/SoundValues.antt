@@ -24,9 +24,11 @@ IsWithin least most n = (least ≤ n) × (n ≤ most)
 
 within_is : (least most : ℕ) (text : List ℕ) → IfSome (number_within least most text) (IsWithin least most)
 unfolding number_within
-within_is least most text = both (is_numeral text) (nat_le least (digits_value 10 text)) (nat_le (digits_value 10 text) most) (λ low high. (leb-true _ _ low, leb-true _ _ high))
+within_is least most text = both (is_numeral text) (nat_le least (digits_value 10 text))
+    (nat_le (digits_value 10 text) most) (λ low high. (leb-true _ _ low, leb-true _ _ high))
   where
-    both : (a b c : Bool) → (b ≡ true → c ≡ true → IsWithin least most (digits_value 10 text)) → IfSome (cond (a && b && c) (Some (digits_value 10 text)) None) (IsWithin least most)
+    both : (a b c : Bool) → (b ≡ true → c ≡ true → IsWithin least most (digits_value 10 text))
+        → IfSome (cond (a && b && c) (Some (digits_value 10 text)) None) (IsWithin least most)
     both true true true h = h refl refl
     both true true false h = tt
     both true false c h = tt
@@ -36,7 +38,8 @@ then_is : {A B : Type 0} (P : B → Type 0) (o : Option A) (f : A → Option B) 
 then_is P None f each = tt
 then_is P (Some a) f each = each a
 
-mapped_is : {A B : Type 0} (P : B → Type 0) (Q : A → Type 0) (o : Option A) (f : A → B) → IfSome o Q → ((a : A) → Q a → P (f a)) → IfSome (option_map f o) P
+mapped_is : {A B : Type 0} (P : B → Type 0) (Q : A → Type 0) (o : Option A) (f : A → B) → IfSome o Q
+    → ((a : A) → Q a → P (f a)) → IfSome (option_map f o) P
 mapped_is P Q None f holds each = tt
 mapped_is P Q (Some a) f holds each = each a holds
 
@@ -45,17 +48,23 @@ number_is least most None there holds = absurd (cc)
 number_is least most (Some n) there holds = holds
 
 -- a number that is there is in its range
-pub number_in : (i least most : ℕ) (fields : List (List ℕ)) → is_none (number_at i least most fields) ≡ false → IsWithin least most (number (number_at i least most fields))
+pub number_in : (i least most : ℕ) (fields : List (List ℕ)) → is_none (number_at i least most fields) ≡ false
+    → IsWithin least most (number (number_at i least most fields))
 unfolding number_at
-number_in i least most fields there = number_is least most _ there (then_is (IsWithin least most) (field_at fields i) (number_within least most) (within_is least most))
+number_in i least most fields there = number_is least most _ there
+    (then_is (IsWithin least most) (field_at fields i) (number_within least most) (within_is least most))
 
 -- ---- nice values
 nice_is : (text : List ℕ) → IfSome (nice_of text) (λ n. is_nice_value n ≡ true)
 unfolding nice_of
 nice_is text =
-    elim (starts_with_minus text) as (λ b. IfSome (cond b (option_map (λ n. neg_ℤ (pos n)) (number_within 1 20 (drop 1 text))) (option_map (λ n. pos n) (number_within 0 19 text))) (λ n. is_nice_value n ≡ true)) [
-      | true ↦ mapped_is (λ n. is_nice_value n ≡ true) (IsWithin 1 20) (number_within 1 20 (drop 1 text)) (λ n. neg_ℤ (pos n)) (within_is 1 20 (drop 1 text)) below
-      | false ↦ mapped_is (λ n. is_nice_value n ≡ true) (IsWithin 0 19) (number_within 0 19 text) (λ n. pos n) (within_is 0 19 text) (λ n h. le-leb n 19 h.1)
+    elim (starts_with_minus text) as (λ b. IfSome
+    (cond b (option_map (λ n. neg_ℤ (pos n)) (number_within 1 20 (drop 1 text)))
+    (option_map (λ n. pos n) (number_within 0 19 text))) (λ n. is_nice_value n ≡ true)) [
+      | true ↦ mapped_is (λ n. is_nice_value n ≡ true) (IsWithin 1 20) (number_within 1 20 (drop 1 text))
+          (λ n. neg_ℤ (pos n)) (within_is 1 20 (drop 1 text)) below
+      | false ↦ mapped_is (λ n. is_nice_value n ≡ true) (IsWithin 0 19) (number_within 0 19 text) (λ n. pos n)
+          (within_is 0 19 text) (λ n h. le-leb n 19 h.1)
     ]
   where
     below : (n : ℕ) → IsWithin 1 20 n → is_nice_value (neg_ℤ (pos n)) ≡ true
@@ -64,7 +73,8 @@ nice_is text =
 
 pub nice_in : (i : ℕ) (fields : List (List ℕ)) → is_nice_value (nice (nice_at i fields)) ≡ true
 unfolding nice_at
-nice_in i fields = or_zero (option_and_then nice_of (field_at fields i)) (then_is (λ n. is_nice_value n ≡ true) (field_at fields i) nice_of nice_is)
+nice_in i fields = or_zero (option_and_then nice_of (field_at fields i))
+    (then_is (λ n. is_nice_value n ≡ true) (field_at fields i) nice_of nice_is)
   where
     or_zero : (o : Option ℤ) → IfSome o (λ n. is_nice_value n ≡ true) → is_nice_value (nice o) ≡ true
     or_zero None holds = refl
@@ -84,7 +94,8 @@ or_none (Some mask) holds = holds
 
 pub list_in : (i : ℕ) (fields : List (List ℕ)) → is_mask (list (list_at i fields)) ≡ true
 unfolding list_at
-list_in i fields = or_none (option_and_then list_of (field_at fields i)) (then_is (λ mask. is_mask mask ≡ true) (field_at fields i) list_of mask_is)
+list_in i fields = or_none (option_and_then list_of (field_at fields i))
+    (then_is (λ mask. is_mask mask ≡ true) (field_at fields i) list_of mask_is)
 
 pub masks_in : (i : ℕ) (fields : List (List ℕ)) → list_all is_mask (masks_from i fields) ≡ true
 masks_in i fields = all (drop i fields)

@@ -16,7 +16,8 @@ use Rattle.lb_trace.proofs.SoundLists.{all_also}
 abbrev pub refused : {A : Type 0} → ℕ × Code → Result A (ℕ × Code)
 refused p = Err p
 
-pub read_within : (text : List ℕ) → length text ≤ MAX_BYTES → reading_of text ≡ (lines_from nothing_read (lines_of text) >>= λ r. Ok (trace_of r))
+pub read_within : (text : List ℕ) → length text ≤ MAX_BYTES
+    → reading_of text ≡ (lines_from nothing_read (lines_of text) >>= λ r. Ok (trace_of r))
 unfolding reading_of
 read_within text le = cond-true _ _ _ (le-leb _ _ le)
 
@@ -27,20 +28,27 @@ read_past text lt = cond-false _ _ _ (lt-leb _ _ lt)
 pub some_line : (mark : ℕ) (text : List ℕ) → 0 < length (parts mark text)
 some_line mark text = omega (arith, length-slice_split (λ byte. byte == mark) text)
 
-onto_short : (byte most : ℕ) (ps : List (List ℕ)) → 0 < most → list_all (λ part. nat_le (length part + 1) most) ps ≡ true → list_all (λ part. nat_le (length part) most) (onto_first byte ps) ≡ true
+onto_short : (byte most : ℕ) (ps : List (List ℕ)) → 0 < most
+    → list_all (λ part. nat_le (length part + 1) most) ps ≡ true → list_all (λ part. nat_le (length part) most) (onto_first byte ps) ≡ true
 onto_short byte most [] some short = and_from _ _ (le-leb 1 most some) refl
 onto_short byte most (p ∷ ps) some short =
     let each = and_parts _ _ short in
     let first = leb-true (length p + 1) most each.0 in
     and_from _ _ (le-leb (length (byte ∷ p)) most (omega (arith, first)))
-    (all_also (λ part. nat_le (length part + 1) most) (λ part. nat_le (length part) most) ps (λ part le. let room = leb-true (length part + 1) most le in le-leb (length part) most (omega (arith, room))) each.1)
+    (all_also (λ part. nat_le (length part + 1) most) (λ part. nat_le (length part) most) ps
+    (λ part le. let room = leb-true (length part + 1) most le in le-leb (length part) most (omega (arith, room))) each.1)
 
 pub short_lines : (mark : ℕ) (text : List ℕ) → list_all (λ part. nat_le (length part) (length text)) (parts mark text) ≡ true
 short_lines mark [] = refl
 short_lines mark (byte ∷ text) =
     let rest : list_all (λ part. nat_le (length part + 1) (length (byte ∷ text))) (parts mark text) ≡ true =
-    all_also (λ part. nat_le (length part) (length text)) _ (parts mark text) (λ part le. let room = leb-true (length part) (length text) le in le-leb (length part + 1) (length (byte ∷ text)) (omega (arith, room))) (short_lines mark text) in
+    all_also (λ part. nat_le (length part) (length text)) _ (parts mark text)
+    (λ part le. let room = leb-true (length part) (length text) le in
+    le-leb (length part + 1) (length (byte ∷ text)) (omega (arith, room))) (short_lines mark text) in
     elim (cases_Bool (byte == mark)) [
-      | inl same ↦ rw same (and_from _ _ (le-leb 0 (length (byte ∷ text)) (omega arith)) (all_also _ (λ part. nat_le (length part) (length (byte ∷ text))) (parts mark text) (λ part le. let room = leb-true (length part + 1) (length (byte ∷ text)) le in le-leb (length part) (length (byte ∷ text)) (omega (arith, room))) rest))
+      | inl same ↦ rw same (and_from _ _ (le-leb 0 (length (byte ∷ text)) (omega arith))
+          (all_also _ (λ part. nat_le (length part) (length (byte ∷ text))) (parts mark text)
+          (λ part le. let room = leb-true (length part + 1) (length (byte ∷ text)) le in
+          le-leb (length part) (length (byte ∷ text)) (omega (arith, room))) rest))
       | inr other ↦ rw other (onto_short byte (length (byte ∷ text)) (parts mark text) (omega arith) rest)
     ]

@@ -17,7 +17,8 @@ pub record Agrees (row : Row) (rows : List Row) : Type 0 where
 pub agrees_none : (row : Row) → Agrees row []
 agrees_none row = record { with_each = refl; by_each = refl }
 
-pub agrees_more : (row other : Row) (rows : List Row) → agree row other ≡ true → agree other row ≡ true → Agrees row rows → Agrees row (other ∷ rows)
+pub agrees_more : (row other : Row) (rows : List Row) → agree row other ≡ true → agree other row ≡ true
+    → Agrees row rows → Agrees row (other ∷ rows)
 agrees_more row other rows one back rest = record { with_each = and_from _ _ one rest.with_each; by_each = and_from _ _ back rest.by_each }
 
 -- ---- a row that is no tick
@@ -55,7 +56,8 @@ not_first (commands.Rebuild parts) other e = refl
 pub quiet_agrees : (row : Row) (rows : List Row) → is_tick row.command ≡ false → Agrees row rows
 quiet_agrees row [] quiet = agrees_none row
 quiet_agrees row (other ∷ rows) quiet =
-    agrees_more row other rows (rw (not_first row.command other.command quiet) refl) (rw (not_both other.command row.command quiet) refl) (quiet_agrees row rows quiet)
+    agrees_more row other rows (rw (not_first row.command other.command quiet) refl)
+    (rw (not_both other.command row.command quiet) refl) (quiet_agrees row rows quiet)
 
 -- ---- a tick of a CPU that no other lane ticked
 not_so : (test lane : Bool) → test ≡ false → (not test || lane) ≡ true
@@ -65,7 +67,8 @@ tick_agree : (cpu lane other : ℕ) (command : Command) → (ticks_cpu cpu comma
     → ((not (ticks_cpu cpu command) || lane == other) ≡ true) × ((not (both_tick command (commands.Tick cpu)) || other == lane) ≡ true)
 tick_agree cpu lane other (commands.Tick ticked) beside = elim (and_cases (ticked == cpu) (not (other == lane)) beside) [
   | inl different ↦ (not_so _ _ different, not_so _ _ (ne_eqb cpu ticked (λ same. eqb-false ticked cpu different (sym same))))
-  | inr not_beside ↦ let same = eqb-true other lane (not-false _ not_beside) in (or_right _ _ (eq-eqb lane other (sym same)), or_right _ _ (eq-eqb other lane same))
+  | inr not_beside ↦ let same = eqb-true other lane (not-false _ not_beside) in
+      (or_right _ _ (eq-eqb lane other (sym same)), or_right _ _ (eq-eqb other lane same))
 ]
 tick_agree cpu lane other (commands.Wake task) beside = (refl, refl)
 tick_agree cpu lane other (commands.Sleep task) beside = (refl, refl)
@@ -74,7 +77,8 @@ tick_agree cpu lane other (commands.SetMask task mask) beside = (refl, refl)
 tick_agree cpu lane other (commands.Nice task nice) beside = (refl, refl)
 tick_agree cpu lane other (commands.Rebuild parts) beside = (refl, refl)
 
-pub tick_agrees : (cpu at lane : ℕ) (rows : List Row) → list_any (ticks_beside cpu lane) rows ≡ false → Agrees (record { lane = lane; at = at; command = commands.Tick cpu }) rows
+pub tick_agrees : (cpu at lane : ℕ) (rows : List Row) → list_any (ticks_beside cpu lane) rows ≡ false
+    → Agrees (record { lane = lane; at = at; command = commands.Tick cpu }) rows
 tick_agrees cpu at lane [] beside = agrees_none _
 tick_agrees cpu at lane (other ∷ rows) beside =
     let parts = or_parts _ _ beside in
@@ -87,9 +91,11 @@ self_agrees row = or_right _ _ (eq-eqb row.lane row.lane refl)
 
 pub ticks_agree_push : (rows : List Row) (row : Row) → ticks_agree rows ≡ true → Agrees row rows → ticks_agree (rows ++ row ∷ []) ≡ true
 ticks_agree_push rows row all one =
-    all_push (λ a. list_all (agree a) (rows ++ row ∷ [])) rows row (each rows all one.by_each) (all_push (agree row) rows row one.with_each (self_agrees row))
+    all_push (λ a. list_all (agree a) (rows ++ row ∷ [])) rows row (each rows all one.by_each)
+    (all_push (agree row) rows row one.with_each (self_agrees row))
   where
-    each : (xs : List Row) → list_all (λ a. list_all (agree a) rows) xs ≡ true → list_all (λ a. agree a row) xs ≡ true → list_all (λ a. list_all (agree a) (rows ++ row ∷ [])) xs ≡ true
+    each : (xs : List Row) → list_all (λ a. list_all (agree a) rows) xs ≡ true → list_all (λ a. agree a row) xs ≡ true
+        → list_all (λ a. list_all (agree a) (rows ++ row ∷ [])) xs ≡ true
     each [] all back = refl
     each (x ∷ xs) all back =
         let alls = and_parts _ _ all in

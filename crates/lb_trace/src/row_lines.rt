@@ -85,10 +85,12 @@ impl Reading {
     #[tactic(auto, unfolding(crate::specs::Tests::value_tests))]
     fn task_row(&self, fields: &ByteRecord) -> Result<(u64, u64, u32), Code>
         requires { length self.now.tasks ≤ MAX_TASKS }
-        ensures good { IfOk result (λ p. (read : Read) → unless_bad (value_tests self.now (kinds.Row rows.Wake) (fields_of fields.now)) read ≡ Ok read) }
+        ensures good { IfOk result (λ p. (read : Read)
+            → unless_bad (value_tests self.now (kinds.Row rows.Wake) (fields_of fields.now)) read ≡ Ok read) }
         ensures values { IfOk result (λ p. (p.0 < 2 ^ 32) × (p.0 ≡ number (lane_in (fields_of fields.now)))
             × (p.1 ≡ number (moment_in (fields_of fields.now))) × (p.2 ≡ number (subject_in (fields_of fields.now)))) }
-        ensures bad { IfErr result (λ code. (read : Read) → unless_bad (value_tests self.now (kinds.Row rows.Wake) (fields_of fields.now)) read ≡ Err code) }
+        ensures bad { IfErr result (λ code. (read : Read)
+            → unless_bad (value_tests self.now (kinds.Row rows.Wake) (fields_of fields.now)) read ≡ Err code) }
     {
         let (lane, at) = lane_and_moment(fields).ok_or(Code::Number)?;
         let task = subject_in(fields).ok_or(Code::Number)?;

@@ -8,5 +8,6 @@ use Rattle.lb_active.proofs.active_pick.Goals as goal
 
 pub returns : goal.returns
 returns c =
-    let found = find_from_yields_List (λ t. has t.mask c.args.to) _ _ c.find.result c.find.ensures.ran (YieldsList-from_rev_slice c.args.list.now cc) (λ x b q k. search (rules, tests)) in
+    let found = find_from_yields_List (λ t. has t.mask c.args.to) _ _ c.find.result c.find.ensures.ran
+    (YieldsList-from_rev_slice c.args.list.now cc) (λ x b q k. search (rules, tests)) in
     search (rules, tests) ∙ ap (option_map (λ t. t.id)) (found ∙ sym (last_passing (λ t. has t.mask c.args.to) c.args.list.now))

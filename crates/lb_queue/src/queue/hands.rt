@@ -140,7 +140,11 @@ fn load_all(lists: &mut TaskLists, ids: &[u32], cpu: u32, clock: u64, hand: &mut
     requires can_go { AllCanGo hand.old.to lists.old.awake ids.now }
     requires room { length hand.old.tasks + length ids.now ≤ hand.old.room }
     ensures lists { lists.new ≡ record lists.old { awake = without_all ids.now lists.old.awake } }
-    ensures hand { hand.new ≡ record hand.old { source = Some cpu; moment = clock; tasks = hand.old.tasks ++ map (set_down clock) (in_order ids.now lists.old.awake) } }
+    ensures hand { hand.new ≡ record hand.old {
+      source = Some cpu;
+      moment = clock;
+      tasks = hand.old.tasks ++ map (set_down clock) (in_order ids.now lists.old.awake);
+    } }
 {
     hand.load_nothing(cpu, clock);
     for id in ids {
@@ -153,7 +157,11 @@ fn load_one(lists: &mut TaskLists, id: u32, cpu: u32, clock: u64, hand: &mut Han
     requires can_go { IsSomeAnd (awake_with id lists.old.awake) (CanGo hand.old.to) }
     requires room { length hand.old.tasks < hand.old.room }
     ensures lists { lists.new ≡ record lists.old { awake = without_awake id lists.old.awake } }
-    ensures hand { hand.new ≡ record hand.old { source = Some cpu; moment = clock; tasks = hand.old.tasks ++ option_to_list (down_of clock (awake_with id lists.old.awake)) } }
+    ensures hand { hand.new ≡ record hand.old {
+      source = Some cpu;
+      moment = clock;
+      tasks = hand.old.tasks ++ option_to_list (down_of clock (awake_with id lists.old.awake));
+    } }
 {
     if let Some(task) = lists.take_awake(id, clock) {
         hand.load(cpu, clock, task);

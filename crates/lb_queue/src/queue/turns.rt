@@ -49,7 +49,8 @@ impl Queue {
     // The positions that are due, by the counters that a turn finds.
     fn due_positions(&self, version: u64, shapes: &[Shape], busy: bool, now: u64) -> Mask
         requires few { length shapes.now ≤ MAX_SHAPES }
-        ensures { result ≡ due_positions (found_by (version == self.now.state.version) self.now.state.counters shapes.now now) busy self.now.state.cpus now }
+        ensures { result ≡ due_positions
+            (found_by (version == self.now.state.version) self.now.state.counters shapes.now now) busy self.now.state.cpus now }
     {
         if version != self.version {
             return due_fresh(shapes, now, busy, self.cpus, now);

@@ -11,4 +11,5 @@ returns-in-None c =
 pub returns-then-beats : goal.returns-then-beats
 returns-then-beats c =
     let held = rw c.in-Some.is at c.requires.so_far in
-    Picks-takes _ _ c.args.i c.in-Some.held (busier_ranking c.args.stats.now) held (sym c.is_candidate.ensures ∙ search rules) (sym c.beats.ensures ∙ c.if-beats.true)
+    Picks-takes _ _ c.args.i c.in-Some.held (busier_ranking c.args.stats.now) held
+    (sym c.is_candidate.ensures ∙ search rules) (sym c.beats.ensures ∙ c.if-beats.true)

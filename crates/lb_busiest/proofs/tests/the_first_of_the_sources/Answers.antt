@@ -10,7 +10,11 @@ four = record { bits = 30 }
 
 below : (cpu : ℕ) → has four cpu ≡ true → cpu < 5
 unfolding has four
-below cpu here = elim (cases_lt cpu 5) [ inl lt ↦ lt | inr above ↦ absurd (both_ways (has four cpu) (bit_set_above 30 5 cpu (lit< tt) above) here) ]
+below cpu here = elim (cases_lt cpu 5) [
+  | inl lt ↦ lt
+  | inr above ↦ absurd
+      (both_ways (has four cpu) (bit_set_above 30 5 cpu (lit< tt) above) here)
+]
 
 pub source-requires : goal.source-requires
 unfolding four

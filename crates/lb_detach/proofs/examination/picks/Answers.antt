@@ -22,7 +22,8 @@ examine-preserved c =
     let took : c.len.result ≡ length c.examine.picked.ids.items = c.len.ensures ∙ c.examine.picked.ids.ok.0 in
     let on : c.is_over.result ≡ false = search rules in
     record {
-      so_far = rw e.examined (HasExamined-more _ _ _ _ _ _ _ _ _ _ _ _ so c.examine-test.true (ends_is _ _ _ _ _ _ _ _ so took ∙ sym c.is_over.ensures ∙ on) refl e.ids e.order e.left e.free);
+      so_far = rw e.examined (HasExamined-more _ _ _ _ _ _ _ _ _ _ _ _ so c.examine-test.true
+          (ends_is _ _ _ _ _ _ _ _ so took ∙ sym c.is_over.ensures ∙ on) refl e.ids e.order e.left e.free);
       ids_room = omega arith;
       order_room = omega arith;
       ids_few = omega arith;
@@ -36,7 +37,9 @@ returns c =
     let so = c.examine.invariant.so_far in
     let stop : c.examine.at.examined < length c.args.list.now → ends c.args.env.now c.args.list.now c.examine.at.examined ≡ true =
     elim c.examine-test.branch [
-      | then-examine-test+else-not-is_over w ↦ λ lt. let over : w.is_over.result ≡ true = search rules in let took : w.len.result ≡ length c.examine.picked.ids.items = w.len.ensures ∙ c.examine.picked.ids.ok.0 in ends_is _ _ _ _ _ _ _ _ so took ∙ sym w.is_over.ensures ∙ over
+      | then-examine-test+else-not-is_over w ↦ λ lt. let over : w.is_over.result ≡ true = search rules in
+          let took : w.len.result ≡ length c.examine.picked.ids.items = w.len.ensures ∙ c.examine.picked.ids.ok.0 in
+          ends_is _ _ _ _ _ _ _ _ so took ∙ sym w.is_over.ensures ∙ over
       | else-examine-test w ↦ λ lt. absurd (omega arith)
     ] in
     let at = examined_is _ _ _ _ _ _ _ so stop in

@@ -8,5 +8,6 @@ abbrev pub invariant-loop-level : goal.invariant-loop-level
 invariant-loop-level l = record {
   position : position_above l.below ≤ l.level;
   rest : domains_in l.machine.cpus l.machine.distances (Some l.part) l.cpu
-      ≡ l.domains ++ domains_from (cut_span l.machine.cpus l.machine.distances l.part) l.cpu (step_span l.machine.cpus l.machine.distances l.part l.level) l.below (drop l.level (levels_of l.machine.distances));
+      ≡ l.domains ++ domains_from (cut_span l.machine.cpus l.machine.distances l.part) l.cpu
+      (step_span l.machine.cpus l.machine.distances l.part l.level) l.below (drop l.level (levels_of l.machine.distances));
 }

@@ -7,10 +7,13 @@ use Rattle.lb_domain.proofs.build.domains_of_all.Goals as goal
 
 pub loop-cpu-preserved : goal.loop-cpu-preserved
 loop-cpu-preserved c =
-    let each : ℕ → List Domain = λ cpu. domains_in c.args.machine.now.cpus c.args.machine.now.distances (slice_index_or c.args.own.now cpu None) cpu in
+    let each : ℕ → List Domain = λ cpu. domains_in c.args.machine.now.cpus c.args.machine.now.distances
+    (slice_index_or c.args.own.now cpu None) cpu in
     grind (arith, map_range_more each c.loop-cpu.cpu)
 
 pub returns : goal.returns
 returns c =
     let all : c.loop-cpu.cpu ≡ length c.args.own.now = omega arith in
-    c.loop-cpu.invariant ∙ ap (λ (n : ℕ). map (λ cpu. domains_in c.args.machine.now.cpus c.args.machine.now.distances (slice_index_or c.args.own.now cpu None) cpu) (range_with_len 0 n)) all
+    c.loop-cpu.invariant ∙ ap (λ (n : ℕ). map
+    (λ cpu. domains_in c.args.machine.now.cpus c.args.machine.now.distances
+    (slice_index_or c.args.own.now cpu None) cpu) (range_with_len 0 n)) all

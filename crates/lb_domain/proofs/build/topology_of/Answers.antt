@@ -32,7 +32,8 @@ domains_of_all-requires-clause-leaders c cpu part in_own is =
     let has_part : slice_index_or (own_parts (length c.args.machine.now.cpus) c.args.parts.now) cpu None ≡ Some part =
     ap (λ (own : List (Option Mask)). slice_index_or own cpu None) (sym (c.as_slice-3.ensures ∙ own_is c)) ∙ is in
     subst (LeadWithin c.args.machine.now.cpus c.args.machine.now.distances part) (sym c.as_slice-4.ensures)
-    (lead_within c.args.machine.now.cpus c.args.machine.now.distances c.args.parts.now c.as_slice-2.result.now c.in_ok-leaders.leaders cpu part
+    (lead_within c.args.machine.now.cpus c.args.machine.now.distances c.args.parts.now c.as_slice-2.result.now
+    c.in_ok-leaders.leaders cpu part
     c.cpus.ensures.few ((c.a_partition_has_no_fault.ensures (length c.args.machine.now.cpus) c.args.parts.now).0 c.requires).apart
     (c.as_slice-2.ensures ∙ own_is c) c.in_ok-leaders.ensures
     (sym (own_part_at (length c.args.machine.now.cpus) c.args.parts.now cpu within) ∙ has_part))
@@ -50,7 +51,8 @@ returns-clause-value c =
 
 pub returns-clause-small : goal.returns-clause-small
 returns-clause-small c =
-    let few : length (levels_of c.args.machine.now.distances) ≤ MAX_LEVELS = omega (arith, c.in_ok-leaders.ensures.few, c.in_ok-leaders.ensures.steps) in
+    let few : length (levels_of c.args.machine.now.distances) ≤ MAX_LEVELS =
+    omega (arith, c.in_ok-leaders.ensures.few, c.in_ok-leaders.ensures.steps) in
     IfOk-weaker c.domains_of_all.result _ _
     (λ all value. subst IsSmall (sym value) (small c.args.machine.now.cpus c.args.machine.now.distances c.args.parts.now few))
     (returns-clause-value c)

@@ -7,5 +7,7 @@ use Rattle.lb_domain.proofs.ring.all_leaders.Given as goal
 abbrev pub invariant-loop-step : goal.invariant-loop-step
 invariant-loop-step l = record {
   steps : length l.all ≡ l.step;
-  lead : (step : ℕ) → step < l.step → (k : ℕ) → has (slice_index_or l.all step no_cpus) k ≡ (ltb k (length l.own) && leads l.machine.cpus l.machine.distances (slice_index_or l.own k None) step k);
+  lead : (step : ℕ) → step < l.step → (k : ℕ)
+      → has (slice_index_or l.all step no_cpus) k ≡
+      (ltb k (length l.own) && leads l.machine.cpus l.machine.distances (slice_index_or l.own k None) step k);
 }

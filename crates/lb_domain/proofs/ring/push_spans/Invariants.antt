@@ -8,7 +8,8 @@ use Rattle.lb_domain.proofs.ring.push_spans.Given as goal
 abbrev pub invariant-loop-next : goal.invariant-loop-next
 invariant-loop-next l = record {
   next : Stands l.leaders l.next;
-  pushed : l.groups ≡ l.initial.groups ++ map (step_span l.machine.cpus l.machine.distances l.part l.step) (members_below l.leaders (passed l.next));
+  pushed : l.groups ≡ l.initial.groups ++ map (step_span l.machine.cpus l.machine.distances l.part l.step)
+      (members_below l.leaders (passed l.next));
 }
 
 abbrev pub decreases-loop-next : goal.decreases-loop-next

@@ -8,7 +8,8 @@ returns c tail stands = elim c.match-read_byte_record.branch [
   | in-Ok w ↦
       let read = c.read_byte_record.ensures in
       let reads = (rw w.in-Ok.is at read.reads) stands.trim stands.ready in
-      let took = takes_line c.args.reader.now c.read_byte_record.new.self w.in-Ok.field-0 _ c.args.line.now tail c.requires.full c.requires.plain stands reads in
+      let took = takes_line c.args.reader.now c.read_byte_record.new.self w.in-Ok.field-0 _ c.args.line.now tail
+      c.requires.full c.requires.plain stands reads in
       rw w.result-is (
         took.0,
         record {

@@ -9,23 +9,30 @@ pub bounds-groups-0 : goal.bounds-groups-0
 bounds-groups-0 c = some_group c.args.groups.now c.args.cpu c.requires.local
 
 pub balances-requires : goal.balances-requires
-balances-requires c = λ k here. c.requires.figures k (group_in_span c.args.shape.now.span c.args.groups.now c.requires.union 0 (some_group c.args.groups.now c.args.cpu c.requires.local) k here)
+balances-requires c = λ k here. c.requires.figures k
+    (group_in_span c.args.shape.now.span c.args.groups.now c.requires.union 0
+    (some_group c.args.groups.now c.args.cpu c.requires.local) k here)
 
 pub stats_of_groups-stats-requires-clause-figures : goal.stats_of_groups-stats-requires-clause-figures
-stats_of_groups-stats-requires-clause-figures c = all_have_figures c.args.figs.now c.args.shape.now.span c.args.excluded c.args.groups.now c.requires.union c.requires.figures
+stats_of_groups-stats-requires-clause-figures c =
+    all_have_figures c.args.figs.now c.args.shape.now.span c.args.excluded c.args.groups.now c.requires.union c.requires.figures
 
 pub busy-requires : goal.busy-requires
-busy-requires c = c.requires.figures c.args.cpu (group_in_span c.args.shape.now.span c.args.groups.now c.requires.union 0 (some_group c.args.groups.now c.args.cpu c.requires.local) c.args.cpu c.requires.local)
+busy-requires c = c.requires.figures c.args.cpu
+    (group_in_span c.args.shape.now.span c.args.groups.now c.requires.union 0
+    (some_group c.args.groups.now c.args.cpu c.requires.local) c.args.cpu c.requires.local)
 
 pub decide_over-requires-clause-some : goal.decide_over-requires-clause-some
 decide_over-requires-clause-some c = some_group c.args.groups.now c.args.cpu c.requires.local
 
 pub decide_over-requires-clause-figures : goal.decide_over-requires-clause-figures
-decide_over-requires-clause-figures c = all_have_figures c.args.figs.now c.args.shape.now.span c.args.excluded c.args.groups.now c.requires.union c.requires.figures
+decide_over-requires-clause-figures c = all_have_figures c.args.figs.now c.args.shape.now.span c.args.excluded
+    c.args.groups.now c.requires.union c.requires.figures
 
 pub decide_over-requires-clause-ranges : goal.decide_over-requires-clause-ranges
 decide_over-requires-clause-ranges c =
-    rw c.stats_of_groups-stats.ensures (all_in_range c.args.shape.now c.args.groups.now c.args.figs.now c.args.excluded (all_have_small_sums c.args.figs.now c.args.excluded c.args.groups.now c.requires.sums))
+    rw c.stats_of_groups-stats.ensures (all_in_range c.args.shape.now c.args.groups.now c.args.figs.now
+    c.args.excluded (all_have_small_sums c.args.figs.now c.args.excluded c.args.groups.now c.requires.sums))
 
 pub decide_over-requires-clause-load : goal.decide_over-requires-clause-load
 decide_over-requires-clause-load c =
@@ -36,10 +43,14 @@ decide_over-requires-clause-some_cap c =
     let local = get_or c.args.groups.now 0 no_cpus in
     let lt = c.balances.ensures.below c.requires.local in
     rw c.stats_of_groups-stats.ensures
-    (first_cap c.args.shape.now c.args.groups.now c.args.figs.now c.args.excluded (some_group c.args.groups.now c.args.cpu c.requires.local) c.args.cpu lt
+    (first_cap c.args.shape.now c.args.groups.now c.args.figs.now c.args.excluded
+    (some_group c.args.groups.now c.args.cpu c.requires.local) c.args.cpu lt
     (left_has local c.args.excluded c.args.cpu (search rules) lt c.requires.local (c.requires.kept c.args.cpu c.requires.local)))
 
 pub decide_over-requires-clause-cap : goal.decide_over-requires-clause-cap
 decide_over-requires-clause-cap c =
-    let few : length (all_stats c.args.shape.now c.args.groups.now c.args.figs.now c.args.excluded) ≤ 64 = omega (arith, length-all_stats c.args.shape.now c.args.groups.now c.args.figs.now c.args.excluded, c.requires.count) in
-    rw c.stats_of_groups-stats.ensures (caps_small _ few (all_in_range c.args.shape.now c.args.groups.now c.args.figs.now c.args.excluded (all_have_small_sums c.args.figs.now c.args.excluded c.args.groups.now c.requires.sums)))
+    let few : length (all_stats c.args.shape.now c.args.groups.now c.args.figs.now c.args.excluded) ≤ 64 =
+    omega (arith, length-all_stats c.args.shape.now c.args.groups.now c.args.figs.now c.args.excluded, c.requires.count) in
+    rw c.stats_of_groups-stats.ensures (caps_small _ few
+    (all_in_range c.args.shape.now c.args.groups.now c.args.figs.now c.args.excluded
+    (all_have_small_sums c.args.figs.now c.args.excluded c.args.groups.now c.requires.sums)))

@@ -16,5 +16,7 @@ loop-i-preserved c =
     let stats = rw c.percent.ensures at c.group_stats.ensures in
     record {
       room = length-set c.loop-i.all c.loop-i.i c.group_stats.result ∙ c.loop-i.invariant.room;
-      so_far = all_stats_more c.args.shape.now c.args.figs.now c.args.excluded c.args.groups.now c.loop-i.all c.loop-i.i g c.without-group.result c.group_stats.result c.loop-i-test.true room read c.without-group.ensures.value stats c.loop-i.invariant.so_far;
+      so_far = all_stats_more c.args.shape.now c.args.figs.now c.args.excluded c.args.groups.now c.loop-i.all
+          c.loop-i.i g c.without-group.result c.group_stats.result c.loop-i-test.true room read
+          c.without-group.ensures.value stats c.loop-i.invariant.so_far;
     }

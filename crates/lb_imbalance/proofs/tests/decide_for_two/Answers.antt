@@ -6,7 +6,8 @@ use Rattle.lb_imbalance.specs.Conditions.{HaveSmallSums}
 use Rattle.lb_imbalance.proofs.TwoGroups.{union_of_two, below, apart}
 use Rattle.lb_imbalance.proofs.tests.decide_for_two.Goals as goal
 
-small : (f g : Fig) → (f.nr < 2 ^ 32) × (f.load < 2 ^ 32) × (f.util < 2 ^ 32) × (f.runnable < 2 ^ 32) → (g.nr < 2 ^ 32) × (g.load < 2 ^ 32) × (g.util < 2 ^ 32) × (g.runnable < 2 ^ 32) →
+small : (f g : Fig) → (f.nr < 2 ^ 32) × (f.load < 2 ^ 32) × (f.util < 2 ^ 32) × (f.runnable < 2 ^ 32)
+    → (g.nr < 2 ^ 32) × (g.load < 2 ^ 32) × (g.util < 2 ^ 32) × (g.runnable < 2 ^ 32) →
     HaveSmallSums (f ∷ g ∷ []) (record { bits = 0 }) (record { bits = 1 } ∷ record { bits = 2 } ∷ [])
 unfolding total members members_below has without
 small f g small_f small_g = record { nr = omega arith; load = omega arith; util = omega arith; runnable = omega arith }

@@ -17,7 +17,8 @@ small : HaveSmallSums (fig 0 0 0 0 ∷ fig 1 100 100 100 ∷ fig 3 2000 800 900 
 unfolding total members members_below has without fig mask
 small = record { nr = lit< tt; load = lit< tt; util = lit< tt; runnable = lit< tt }
 
-small_without : HaveSmallSums (fig 0 0 0 0 ∷ fig 1 100 100 100 ∷ fig 3 2000 800 900 ∷ fig 3 900 700 700 ∷ []) (mask 4) (mask 3 ∷ mask 12 ∷ [])
+small_without : HaveSmallSums (fig 0 0 0 0 ∷ fig 1 100 100 100 ∷ fig 3 2000 800 900 ∷ fig 3 900 700 700 ∷ []) (mask 4)
+    (mask 3 ∷ mask 12 ∷ [])
 unfolding total members members_below has without fig mask
 small_without = record { nr = lit< tt; load = lit< tt; util = lit< tt; runnable = lit< tt }
 

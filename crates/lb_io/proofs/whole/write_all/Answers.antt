@@ -13,6 +13,7 @@ pub loop-done-preserved : goal.loop-done-preserved
 loop-done-preserved g c =
     let most = rw take_rest at c.in_ok-done.ensures.bound.most in record {
       within = omega (arith, most, length-drop c.loop-done.done c.args.bytes.now);
-      wrote = appends_next _ _ _ c.args.bytes.now c.loop-done.done c.in_ok-done.field-0 c.loop-done.invariant.wrote (rw take_rest at c.in_ok-done.ensures.bytes);
+      wrote = appends_next _ _ _ c.args.bytes.now c.loop-done.done c.in_ok-done.field-0 c.loop-done.invariant.wrote
+          (rw take_rest at c.in_ok-done.ensures.bytes);
       counts = c.in_ok-done.ensures.cause.still ∙ c.loop-done.invariant.counts;
     }

@@ -40,7 +40,8 @@ first_not_nested-requires c =
 pub returns-in-Some-first_not_nested : goal.returns-in-Some-first_not_nested
 returns-in-Some-first_not_nested c =
     let nodes = ap (λ (n : ℕ). first_misfit n c.args.distances.now) c.nodes_of.ensures.count in
-    not_nested_first c.args.cpus.now c.args.distances.now (Some c.in-Some-first_not_nested.distance) (sym c.first_clash.ensures ∙ c.in_default.is)
+    not_nested_first c.args.cpus.now c.args.distances.now (Some c.in-Some-first_not_nested.distance)
+    (sym c.first_clash.ensures ∙ c.in_default.is)
     (sym (c.first_misfit.ensures ∙ nodes) ∙ c.in_default-first_misfit.is) (sym c.first_bad_row.ensures ∙ c.in_default-first_bad_row.is)
     (sym c.first_not_nested.ensures ∙ c.in-Some-first_not_nested.is)
 

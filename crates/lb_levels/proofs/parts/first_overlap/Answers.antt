@@ -19,7 +19,8 @@ pub loop-second-preserved : goal.loop-second-preserved
 loop-second-preserved c = record {
   none = below_more _ c.loop-second.second c.loop-second.invariant.none
       (not_sharing c.args.parts.now c.loop-second.second c.loop-second.seen c.loop-second.invariant.union c.if-shares.ensures);
-  union = one_more_seen c.args.parts.now c.loop-second.second c.loop-second.seen c.or-seen.result c.or-seen.ensures.cpus c.loop-second.invariant.union;
+  union = one_more_seen c.args.parts.now c.loop-second.second c.loop-second.seen c.or-seen.result
+      c.or-seen.ensures.cpus c.loop-second.invariant.union;
 }
 
 pub returns : goal.returns

@@ -7,9 +7,11 @@ use Rattle.lb_levels.proofs.parts.first_past.Goals as goal
 pub returns-then-has_past : goal.returns-then-has_past
 unfolding first_past
 returns-then-has_past c =
-    found (λ i. not (is_below (part_at c.args.parts.now i) c.args.cpus)) (length c.args.parts.now) c.loop-part.part (omega arith) c.loop-part.invariant (search rules)
+    found (λ i. not (is_below (part_at c.args.parts.now i) c.args.cpus)) (length c.args.parts.now) c.loop-part.part
+    (omega arith) c.loop-part.invariant (search rules)
 
 pub returns : goal.returns
 unfolding first_past
 returns c =
-    not_found (λ i. not (is_below (part_at c.args.parts.now i) c.args.cpus)) (length c.args.parts.now) (λ k lt. c.loop-part.invariant k (omega (arith, lt)))
+    not_found (λ i. not (is_below (part_at c.args.parts.now i) c.args.cpus)) (length c.args.parts.now)
+    (λ k lt. c.loop-part.invariant k (omega (arith, lt)))

@@ -11,4 +11,5 @@ returns-in-Some c =
 pub returns : goal.returns
 returns c =
     let cpus = ap (λ (n : ℕ). first_past n c.args.parts.now) c.cpus.ensures.count in
-    c.first_overlap.ensures ∙ overlap_second (length c.args.machine.now.cpus) c.args.parts.now (sym (c.first_past.ensures ∙ cpus) ∙ c.in_default.is)
+    c.first_overlap.ensures ∙ overlap_second (length c.args.machine.now.cpus) c.args.parts.now
+    (sym (c.first_past.ensures ∙ cpus) ∙ c.in_default.is)

@@ -7,7 +7,8 @@ use Rattle.lb_levels.proofs.rows.first_bad_row.Goals as goal
 pub returns-then-is_bad_row : goal.returns-then-is_bad_row
 unfolding first_bad_row
 returns-then-is_bad_row c =
-    found (λ a. is_bad_distance (take a c.args.distances.now) (distances_at c.args.distances.now a)) (length c.args.distances.now) c.loop-a.a
+    found (λ a. is_bad_distance (take a c.args.distances.now) (distances_at c.args.distances.now a))
+    (length c.args.distances.now) c.loop-a.a
     (omega arith) c.loop-a.invariant (search rules)
 
 pub returns : goal.returns

@@ -11,5 +11,6 @@ returns-then-is_bad_entry c =
 
 pub returns : goal.returns
 returns c =
-    none_passes (is_bad_entry c.args.distances.now c.args.a) (length c.args.distances.now) (λ k lt. c.loop-b.invariant k (omega (arith, lt)))
+    none_passes (is_bad_entry c.args.distances.now c.args.a) (length c.args.distances.now)
+    (λ k lt. c.loop-b.invariant k (omega (arith, lt)))
     ∙ sym (bad_row_is c.args.distances.now c.args.a c.requires.square c.requires.from)

@@ -14,7 +14,9 @@ loop-d-preserved c =
     let numa : ℕ → LevelName = λ d. Numa d in
     elim c.if-is_far.branch [
       | then-is_far+in_ok-push-4 w ↦
-          let more = ap (map numa) (filter_more (is_far c.args.distances.now) c.loop-d.d (sym c.is_far.ensures ∙ w.if-is_far.true)) ∙ map_push numa (filter (is_far c.args.distances.now) (range_with_len 0 c.loop-d.d)) c.loop-d.d in
+          let more = ap (map numa) (filter_more (is_far c.args.distances.now) c.loop-d.d
+          (sym c.is_far.ensures ∙ w.if-is_far.true))
+          ∙ map_push numa (filter (is_far c.args.distances.now) (range_with_len 0 c.loop-d.d)) c.loop-d.d in
           grind (arith, common_steps, more, w.names-is, w.in_ok-push-4.ensures, c.loop-d.invariant)
       | else-is_far w ↦
           let same = ap (map numa) (filter_same (is_far c.args.distances.now) c.loop-d.d (sym c.is_far.ensures ∙ w.if-is_far.false)) in

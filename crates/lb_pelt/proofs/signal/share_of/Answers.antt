@@ -12,4 +12,5 @@ pub overflow_add-result : goal.overflow_add-result
 overflow_add-result c = let small = decayed_le (1024 - c.args.part) ((c.args.part + c.args.units) / 1024) in search (rules, small)
 
 pub overflow_add-result-else-periods-eq0 : goal.overflow_add-result-else-periods-eq0
-overflow_add-result-else-periods-eq0 c = let small = decayed_le (1024 - c.args.part) ((c.args.part + c.args.units) / 1024) in search (rules, small)
+overflow_add-result-else-periods-eq0 c = let small =
+    decayed_le (1024 - c.args.part) ((c.args.part + c.args.units) / 1024) in search (rules, small)

@@ -3,4 +3,5 @@ use Rattle.lb_queue.proofs.asked.least_asked.Goals as goal
 
 pub loop-a-preserved : goal.loop-a-preserved
 loop-a-preserved c =
-    least_more c.args.owed c.args.awake.now c.loop-a.a-index c.loop-a.least c.least_with-least.result c.a-item.result c.loop-a-test.true c.a-item.is c.least_with-least.ensures c.loop-a.invariant
+    least_more c.args.owed c.args.awake.now c.loop-a.a-index c.loop-a.least c.least_with-least.result c.a-item.result
+    c.loop-a-test.true c.a-item.is c.least_with-least.ensures c.loop-a.invariant

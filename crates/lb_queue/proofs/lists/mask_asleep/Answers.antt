@@ -13,10 +13,14 @@ loop-t-preserved c =
     let before = c.args.tasks.now.items in
     let here : i < length before = let k = c.loop-t-test.true in let l = ap length c.deref_mut-t-items.ensures.value in omega arith in
     ap (λ (xs : List TaskRecord). set xs i c.set_mask.new.self) c.loop-t.invariant
-    ∙ mapped_set f i before c.set_mask.new.self c.t-item.result here (c.set_mask.ensures ∙ ap f (ap (λ (xs : List TaskRecord). get_or xs i c.t-item.result) c.loop-t.invariant ∙ mapped_at f i before c.t-item.result))
+    ∙ mapped_set f i before c.set_mask.new.self c.t-item.result here
+    (c.set_mask.ensures ∙ ap f (ap (λ (xs : List TaskRecord). get_or xs i c.t-item.result) c.loop-t.invariant
+    ∙ mapped_at f i before c.t-item.result))
 
 pub returns-clause-items : goal.returns-clause-items
 returns-clause-items c =
     let before = c.args.tasks.now.items in
-    let far : length before ≤ c.loop-t.t-index = let k = c.loop-t-test.false in let l = ap length c.deref_mut-t-items.ensures.value in omega arith in
-    mapped_done (λ (t : TaskRecord). if t.id == c.args.id then with_mask c.args.mask t else t) before c.loop-t.t-items c.loop-t.t-index _ c.loop-t.invariant far c.args.tasks.now.ok.0
+    let far : length before ≤ c.loop-t.t-index = let k = c.loop-t-test.false in let l =
+    ap length c.deref_mut-t-items.ensures.value in omega arith in
+    mapped_done (λ (t : TaskRecord). if t.id == c.args.id then with_mask c.args.mask t else t) before c.loop-t.t-items
+    c.loop-t.t-index _ c.loop-t.invariant far c.args.tasks.now.ok.0

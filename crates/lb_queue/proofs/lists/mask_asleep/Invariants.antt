@@ -6,4 +6,5 @@ use Rattle.lb_queue.proofs.Mapped.{mapped}
 use Rattle.lb_queue.proofs.lists.mask_asleep.Given as goal
 
 abbrev pub invariant-loop-t : goal.invariant-loop-t
-invariant-loop-t l = l.t-items ≡ mapped (λ (t : TaskRecord). if t.id == l.fn.id then with_mask l.fn.mask t else t) l.t-index l.fn.tasks.items
+invariant-loop-t l = l.t-items ≡ mapped (λ (t : TaskRecord). if t.id == l.fn.id then with_mask l.fn.mask t else t)
+    l.t-index l.fn.tasks.items

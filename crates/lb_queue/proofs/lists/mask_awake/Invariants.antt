@@ -6,4 +6,5 @@ use Rattle.lb_queue.proofs.Mapped.{mapped}
 use Rattle.lb_queue.proofs.lists.mask_awake.Given as goal
 
 abbrev pub invariant-loop-a : goal.invariant-loop-a
-invariant-loop-a l = l.a-items ≡ mapped (λ (a : Awake). if a.task.id == l.fn.id then masked l.fn.cpu l.fn.mask a else a) l.a-index l.fn.awake.items
+invariant-loop-a l = l.a-items ≡ mapped (λ (a : Awake). if a.task.id == l.fn.id then masked l.fn.cpu l.fn.mask a
+    else a) l.a-index l.fn.awake.items

@@ -11,10 +11,13 @@ loop-a-preserved c =
     let before = c.args.awake.now.items in
     let here : i < length before = let k = c.loop-a-test.true in let l = ap length c.deref_mut-a-items.ensures.value in omega arith in
     ap (λ (xs : List Awake). set xs i c.owe.new.self) c.loop-a.invariant
-    ∙ mapped_set owes i before c.owe.new.self c.a-item.result here (c.owe.ensures ∙ ap owes (ap (λ (xs : List Awake). get_or xs i c.a-item.result) c.loop-a.invariant ∙ mapped_at owes i before c.a-item.result))
+    ∙ mapped_set owes i before c.owe.new.self c.a-item.result here
+    (c.owe.ensures ∙ ap owes (ap (λ (xs : List Awake). get_or xs i c.a-item.result) c.loop-a.invariant
+    ∙ mapped_at owes i before c.a-item.result))
 
 pub returns-clause-items : goal.returns-clause-items
 returns-clause-items c =
     let before = c.args.awake.now.items in
-    let far : length before ≤ c.loop-a.a-index = let k = c.loop-a-test.false in let l = ap length c.deref_mut-a-items.ensures.value in omega arith in
+    let far : length before ≤ c.loop-a.a-index = let k = c.loop-a-test.false in let l =
+    ap length c.deref_mut-a-items.ensures.value in omega arith in
     mapped_done owes before c.loop-a.a-items c.loop-a.a-index _ c.loop-a.invariant far c.args.awake.now.ok.0

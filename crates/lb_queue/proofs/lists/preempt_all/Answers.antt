@@ -12,10 +12,13 @@ loop-a-preserved c =
     let before = c.args.awake.now.items in
     let here : i < length before = let k = c.loop-a-test.true in let l = ap length c.deref_mut-a-items.ensures.value in omega arith in
     ap (λ (xs : List Awake). set xs i c.preempt.new.self) c.loop-a.invariant
-    ∙ mapped_set f i before c.preempt.new.self c.a-item.result here (c.preempt.ensures ∙ ap f (ap (λ (xs : List Awake). get_or xs i c.a-item.result) c.loop-a.invariant ∙ mapped_at f i before c.a-item.result))
+    ∙ mapped_set f i before c.preempt.new.self c.a-item.result here
+    (c.preempt.ensures ∙ ap f (ap (λ (xs : List Awake). get_or xs i c.a-item.result) c.loop-a.invariant
+    ∙ mapped_at f i before c.a-item.result))
 
 pub returns-clause-items : goal.returns-clause-items
 returns-clause-items c =
     let before = c.args.awake.now.items in
-    let far : length before ≤ c.loop-a.a-index = let k = c.loop-a-test.false in let l = ap length c.deref_mut-a-items.ensures.value in omega arith in
+    let far : length before ≤ c.loop-a.a-index = let k = c.loop-a-test.false in let l =
+    ap length c.deref_mut-a-items.ensures.value in omega arith in
     mapped_done (preempted c.args.clock) before c.loop-a.a-items c.loop-a.a-index _ c.loop-a.invariant far c.args.awake.now.ok.0

@@ -5,4 +5,6 @@ use Rattle.lb_queue.proofs.pulls.look.Goals as goal
 
 pub returns-clause-items : goal.returns-clause-items
 returns-clause-items c =
-    c.reverse.ensures.items ∙ ap reverse (c.loop-a.invariant.0 ∙ ap (map (view_at c.args.now)) (take_all c.loop-a.a-index c.args.awake.now c.loop-a-test.false)) ∙ sym (map_reverse (view_at c.args.now) c.args.awake.now)
+    c.reverse.ensures.items ∙ ap reverse
+    (c.loop-a.invariant.0 ∙ ap (map (view_at c.args.now))
+    (take_all c.loop-a.a-index c.args.awake.now c.loop-a-test.false)) ∙ sym (map_reverse (view_at c.args.now) c.args.awake.now)

@@ -3,4 +3,5 @@ use Rattle.lb_queue.specs.Values.{view_at}
 use Rattle.lb_queue.proofs.pulls.look.Given as goal
 
 abbrev pub invariant-loop-a : goal.invariant-loop-a
-invariant-loop-a l = (l.views.items ≡ map (view_at l.now) (take l.a-index l.awake)) × (vec_len l.views ≡ l.a-index) × (vec_capacity l.views ≡ vec_capacity l.fn.views)
+invariant-loop-a l = (l.views.items ≡ map (view_at l.now) (take l.a-index l.awake)) × (vec_len l.views ≡ l.a-index)
+    × (vec_capacity l.views ≡ vec_capacity l.fn.views)

@@ -13,7 +13,11 @@ two = record { bits = 6 }
 
 below : (cpu : ℕ) → has two cpu ≡ true → cpu < 3
 unfolding has two
-below cpu here = elim (cases_lt cpu 3) [ inl lt ↦ lt | inr above ↦ absurd (both_ways (has two cpu) (bit_set_above 6 3 cpu (lit< tt) above) here) ]
+below cpu here = elim (cases_lt cpu 3) [
+  | inl lt ↦ lt
+  | inr above ↦ absurd
+      (both_ways (has two cpu) (bit_set_above 6 3 cpu (lit< tt) above) here)
+]
 
 fig : ℕ → ℕ → ℕ → ℕ → ℕ → Fig
 fig nr load util runnable flags = record { n = 0; ticket = 0; nr = nr; load = load; util = util; runnable = runnable; flags = flags }

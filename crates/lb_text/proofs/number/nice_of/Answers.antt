@@ -8,7 +8,8 @@ use Rattle.lb_text.proofs.number.nice_of.Goals as goal
 pub returns-in-Ok-clause-nice : goal.returns-in-Ok-clause-nice
 returns-in-Ok-clause-nice c =
     let r = c.in-Ok.ensures.in_range in
-    ap nice_of c.in-Some.ensures ∙ nice_minus c.in-Some.digits.now ∙ ap (option_map (λ n. neg_ℤ (pos n))) c.in-Ok.ensures.number ∙ ap Some (omega (arith, ints, r))
+    ap nice_of c.in-Some.ensures ∙ nice_minus c.in-Some.digits.now
+    ∙ ap (option_map (λ n. neg_ℤ (pos n))) c.in-Ok.ensures.number ∙ ap Some (omega (arith, ints, r))
 
 pub returns-in-Err-clause-refused : goal.returns-in-Err-clause-refused
 returns-in-Err-clause-refused c =

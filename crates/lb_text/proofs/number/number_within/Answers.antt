@@ -7,7 +7,8 @@ pub returns-in_default-clause-refused : goal.returns-in_default-clause-refused
 returns-in_default-clause-refused c =
     let a = c.args in
     let l = c.loop-at in
-    (read_bad a.least a.most a.text.now l.at l.value (omega arith) l.invariant (c.in_default.ensures (take l.at a.text.now) l.invariant.spelled)).0
+    (read_bad a.least a.most a.text.now l.at l.value (omega arith) l.invariant
+    (c.in_default.ensures (take l.at a.text.now) l.invariant.spelled)).0
 
 pub loop-at-preserved : goal.loop-at-preserved
 loop-at-preserved c =
@@ -20,13 +21,15 @@ pub returns-in-Some-value-clause-number : goal.returns-in-Some-value-clause-numb
 returns-in-Some-value-clause-number c =
     let a = c.args in
     let l = c.loop-at in
-    read_whole a.least a.most a.text.now l.at c.in-Some-value.n l.value (omega arith) (omega arith) (omega arith) c.in-Some-value.is l.invariant (omega arith)
+    read_whole a.least a.most a.text.now l.at c.in-Some-value.n l.value (omega arith) (omega arith)
+    (omega arith) c.in-Some-value.is l.invariant (omega arith)
 
 pub returns-in_default-value-clause-refused : goal.returns-in_default-value-clause-refused
 returns-in_default-value-clause-refused c =
     let a = c.args in
     let l = c.loop-at in
-    read_small a.least a.most a.text.now l.at c.in-Some-value.n l.value (omega arith) (omega arith) c.in-Some-value.is l.invariant (omega arith)
+    read_small a.least a.most a.text.now l.at c.in-Some-value.n l.value (omega arith)
+    (omega arith) c.in-Some-value.is l.invariant (omega arith)
 
 pub returns-in_default-value-2-clause-refused : goal.returns-in_default-value-2-clause-refused
 returns-in_default-value-2-clause-refused c =
@@ -38,5 +41,7 @@ pub returns-in-Some-value-clause-in_range : goal.returns-in-Some-value-clause-in
 returns-in-Some-value-clause-in_range c =
     let a = c.args in
     let l = c.loop-at in
-    let s = number_spelled a.least a.most c.in-Some-value.n a.text.now (omega arith) (read_whole a.least a.most a.text.now l.at c.in-Some-value.n l.value (omega arith) (omega arith) (omega arith) c.in-Some-value.is l.invariant (omega arith)) in
+    let s = number_spelled a.least a.most c.in-Some-value.n a.text.now (omega arith)
+    (read_whole a.least a.most a.text.now l.at c.in-Some-value.n l.value (omega arith) (omega arith)
+    (omega arith) c.in-Some-value.is l.invariant (omega arith)) in
     (s.1, s.2)

@@ -4,4 +4,5 @@ use Rattle.lb_text.proofs.Cut.{onto_front}
 use Rattle.lb_text.proofs.parts.cut_at.Given as goal
 
 abbrev pub invariant-loop-i : goal.invariant-loop-i
-invariant-loop-i l = onto_front (take l.i l.text) (slice_split (λ b. eqb b l.mark) (drop l.i l.text)) ≡ slice_split (λ b. eqb b l.mark) l.text
+invariant-loop-i l = onto_front (take l.i l.text) (slice_split (λ b. eqb b l.mark) (drop l.i l.text)) ≡ slice_split
+    (λ b. eqb b l.mark) l.text

@@ -11,14 +11,18 @@ pub loop-next-preserved-in-Continue-branch-2 : goal.loop-next-preserved-in-Conti
 loop-next-preserved-in-Continue-branch-2 c =
     let e = c.run_end-last.ensures in
     let run = run_text (c.in-Some.first, c.run_end-last.result) in
-    let written = c.in_ok-extend_from_slice.ensures.items ∙ ap (λ t. t ++ 59 ∷ []) c.in_ok-put_run.ensures.ok ∙ ap (λ t. (c.loop-next.to.items ++ run) ++ t) (sym (mark_some c.next_after-next.result (sym c.if-is_some.ensures))) in
-    put_more c.args.to.now.items c.args.mask c.loop-next.to.items c.extend_from_slice.new.self.items c.loop-next.next c.next_after-next.result c.in-Some.first c.run_end-last.result c.loop-next.invariant c.in-Some.is
+    let written = c.in_ok-extend_from_slice.ensures.items ∙ ap (λ t. t ++ 59 ∷ []) c.in_ok-put_run.ensures.ok
+    ∙ ap (λ t. (c.loop-next.to.items ++ run) ++ t) (sym (mark_some c.next_after-next.result (sym c.if-is_some.ensures))) in
+    put_more c.args.to.now.items c.args.mask c.loop-next.to.items c.extend_from_slice.new.self.items c.loop-next.next
+    c.next_after-next.result c.in-Some.first c.run_end-last.result c.loop-next.invariant c.in-Some.is
     e.in_range.0 e.in_range.1 e.there e.ends c.next_after-next.ensures.cpus written
 
 pub loop-next-preserved : goal.loop-next-preserved
 loop-next-preserved c =
     let e = c.run_end-last.ensures in
     let run = run_text (c.in-Some.first, c.run_end-last.result) in
-    let written = c.in_ok-put_run.ensures.ok ∙ sym (append-nil (c.loop-next.to.items ++ run)) ∙ ap (λ t. (c.loop-next.to.items ++ run) ++ t) (sym (mark_none c.next_after-next.result (sym c.if-is_some.ensures))) in
-    put_more c.args.to.now.items c.args.mask c.loop-next.to.items c.put_run.new.to.items c.loop-next.next c.next_after-next.result c.in-Some.first c.run_end-last.result c.loop-next.invariant c.in-Some.is
+    let written = c.in_ok-put_run.ensures.ok ∙ sym (append-nil (c.loop-next.to.items ++ run))
+    ∙ ap (λ t. (c.loop-next.to.items ++ run) ++ t) (sym (mark_none c.next_after-next.result (sym c.if-is_some.ensures))) in
+    put_more c.args.to.now.items c.args.mask c.loop-next.to.items c.put_run.new.to.items c.loop-next.next
+    c.next_after-next.result c.in-Some.first c.run_end-last.result c.loop-next.invariant c.in-Some.is
     e.in_range.0 e.in_range.1 e.there e.ends c.next_after-next.ensures.cpus written

@@ -8,8 +8,11 @@ use Rattle.lb_trace.proofs.fields.distances_in.Goals as goal
 
 pub returns-in_default : goal.returns-in_default
 unfolding number_at
-returns-in_default c = misread (number_within 1 MAX_DISTANCE) 0 (fields_of c.args.fields.now) 1 c.loop-i.i c.loop-i.distances c.loop-i.invariant (search rules) (search rules)
+returns-in_default c = misread (number_within 1 MAX_DISTANCE) 0
+    (fields_of c.args.fields.now) 1 c.loop-i.i c.loop-i.distances c.loop-i.invariant (search rules) (search rules)
 
 pub loop-i-preserved : goal.loop-i-preserved
 unfolding number_at
-loop-i-preserved c = rw c.in_ok-push.ensures.ok (one_read (number_within 1 MAX_DISTANCE) 0 (fields_of c.args.fields.now) 1 c.loop-i.i c.loop-i.distances c.in-Some.distance c.loop-i.invariant (sym c.in-Some.ensures.value))
+loop-i-preserved c = rw c.in_ok-push.ensures.ok
+    (one_read (number_within 1 MAX_DISTANCE) 0 (fields_of c.args.fields.now) 1 c.loop-i.i c.loop-i.distances
+    c.in-Some.distance c.loop-i.invariant (sym c.in-Some.ensures.value))

@@ -8,8 +8,11 @@ use Rattle.lb_trace.proofs.fields.masks_from.Goals as goal
 
 pub returns-in_default : goal.returns-in_default
 unfolding list_at
-returns-in_default c = misread list_of no_cpus (fields_of c.args.fields.now) c.args.from c.loop-i.i c.loop-i.masks c.loop-i.invariant (search rules) (search rules)
+returns-in_default c = misread list_of no_cpus
+    (fields_of c.args.fields.now) c.args.from c.loop-i.i c.loop-i.masks c.loop-i.invariant (search rules) (search rules)
 
 pub loop-i-preserved : goal.loop-i-preserved
 unfolding list_at
-loop-i-preserved c = rw c.in_ok-push.ensures.ok (one_read list_of no_cpus (fields_of c.args.fields.now) c.args.from c.loop-i.i c.loop-i.masks c.in-Some.mask c.loop-i.invariant (sym c.in-Some.ensures))
+loop-i-preserved c = rw c.in_ok-push.ensures.ok
+    (one_read list_of no_cpus (fields_of c.args.fields.now) c.args.from c.loop-i.i c.loop-i.masks c.in-Some.mask
+    c.loop-i.invariant (sym c.in-Some.ensures))

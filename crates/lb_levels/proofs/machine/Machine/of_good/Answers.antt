@@ -8,15 +8,23 @@ use Rattle.lb_levels.proofs.machine.Machine.of_good.Goals as goal
 
 pub levels_of-requires-clause-square : goal.levels_of-requires-clause-square
 levels_of-requires-clause-square c =
-    fits_square (nodes_of c.args.cpus.now) c.args.distances.now (some_nodes c.args.cpus.now c.requires.some) (good c.args.cpus.now c.args.distances.now c.requires.good).fits
+    fits_square (nodes_of c.args.cpus.now) c.args.distances.now (some_nodes c.args.cpus.now c.requires.some)
+    (good c.args.cpus.now c.args.distances.now c.requires.good).fits
 
 pub levels_of-requires-clause-some : goal.levels_of-requires-clause-some
 levels_of-requires-clause-some c =
-    omega (arith, some_nodes c.args.cpus.now c.requires.some, fits_length (nodes_of c.args.cpus.now) c.args.distances.now (some_nodes c.args.cpus.now c.requires.some) (good c.args.cpus.now c.args.distances.now c.requires.good).fits)
+    omega (
+      arith,
+      some_nodes c.args.cpus.now c.requires.some,
+      fits_length
+          (nodes_of c.args.cpus.now) c.args.distances.now (some_nodes c.args.cpus.now c.requires.some)
+          (good c.args.cpus.now c.args.distances.now c.requires.good).fits,
+    )
 
 pub spans_of-requires-clause-square : goal.spans_of-requires-clause-square
 spans_of-requires-clause-square c =
-    fits_square (nodes_of c.args.cpus.now) c.args.distances.now (some_nodes c.args.cpus.now c.requires.some) (good c.args.cpus.now c.args.distances.now c.requires.good).fits
+    fits_square (nodes_of c.args.cpus.now) c.args.distances.now (some_nodes c.args.cpus.now c.requires.some)
+    (good c.args.cpus.now c.args.distances.now c.requires.good).fits
 
 pub spans_of-requires-clause-nodes : goal.spans_of-requires-clause-nodes
 spans_of-requires-clause-nodes c =

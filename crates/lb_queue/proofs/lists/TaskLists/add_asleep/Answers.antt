@@ -9,4 +9,6 @@ pub invariant_of-self : goal.invariant_of-self
 invariant_of-self c =
     let back = sym c.self.view_is in
     let known : IsTask c.args.task = subst IsTask c.record-known.ensures.value c.record-known.ensures.kept in
-    kept_asleep (the_view c.self.inside) _ _ _ _ _ _ c.args.task c.self.invariant known.numbered (subst (λ (l : Lists). IsUnknown l c.args.task.id) back c.requires.unknown) (subst HasRoom back c.requires.room) c.push_reserved.ensures.items c.push_reserved.ensures.capacity
+    kept_asleep (the_view c.self.inside) _ _ _ _ _ _ c.args.task c.self.invariant known.numbered
+    (subst (λ (l : Lists). IsUnknown l c.args.task.id) back c.requires.unknown)
+    (subst HasRoom back c.requires.room) c.push_reserved.ensures.items c.push_reserved.ensures.capacity

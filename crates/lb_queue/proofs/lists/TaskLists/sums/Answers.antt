@@ -43,15 +43,34 @@ pub returns-clause-load : goal.returns-clause-load
 returns-clause-load c =
     let a = c.awake_sums-awake.ensures.load in
     let s = c.asleep_sums-asleep.ensures.load in
-    rw (← c.self.view_is) (rw (a, s, c.deref.ensures.value, c.deref-2.ensures.value, sum_reverse (λ (x : Awake). (awake_value c.args.now x).load) c.self.inside.awake.items) refl)
+    rw (← c.self.view_is) (rw (
+      a,
+      s,
+      c.deref.ensures.value,
+      c.deref-2.ensures.value,
+      sum_reverse
+          (λ (x : Awake). (awake_value c.args.now x).load) c.self.inside.awake.items,
+    ) refl)
 
 pub returns-clause-util : goal.returns-clause-util
 returns-clause-util c =
     let a = c.awake_sums-awake.ensures.util in
     let s = c.asleep_sums-asleep.ensures.util in
-    rw (← c.self.view_is) (rw (a, s, c.deref.ensures.value, c.deref-2.ensures.value, sum_reverse (λ (x : Awake). (awake_value c.args.now x).util) c.self.inside.awake.items) refl)
+    rw (← c.self.view_is) (rw (
+      a,
+      s,
+      c.deref.ensures.value,
+      c.deref-2.ensures.value,
+      sum_reverse
+          (λ (x : Awake). (awake_value c.args.now x).util) c.self.inside.awake.items,
+    ) refl)
 
 pub returns-clause-runnable : goal.returns-clause-runnable
 returns-clause-runnable c =
     let a = c.awake_sums-awake.ensures.runnable in
-    rw (← c.self.view_is) (rw (a, c.deref.ensures.value, sum_reverse (λ (x : Awake). (awake_value c.args.now x).runnable) c.self.inside.awake.items) refl)
+    rw (← c.self.view_is) (rw (
+      a,
+      c.deref.ensures.value,
+      sum_reverse
+          (λ (x : Awake). (awake_value c.args.now x).runnable) c.self.inside.awake.items,
+    ) refl)

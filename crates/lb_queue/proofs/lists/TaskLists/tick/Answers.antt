@@ -13,7 +13,8 @@ rotate-requires c = λ u. once_awake u c.self.inside.awake.items c.self.inside.a
 pub invariant_of-self : goal.invariant_of-self
 invariant_of-self c =
     let l = the_view c.self.inside in
-    let made : reverse c.owe_all.new.awake.items ≡ map owes (rotated c.args.clock l.awake) = ap reverse c.owe_all.ensures.items ∙ sym (map_reverse owes c.rotate.new.awake.items) ∙ ap (map owes) c.rotate.ensures.items in
+    let made : reverse c.owe_all.new.awake.items ≡ map owes (rotated c.args.clock l.awake) =
+    ap reverse c.owe_all.ensures.items ∙ sym (map_reverse owes c.rotate.new.awake.items) ∙ ap (map owes) c.rotate.ensures.items in
     let long : length (reverse c.owe_all.new.awake.items) ≡ length l.awake =
     (let a = length-reverse c.owe_all.new.awake.items in
     let b = length-reverse c.self.inside.awake.items in
@@ -23,7 +24,9 @@ invariant_of-self c =
     let n = c.rotate.ensures.len in
     omega arith) in
     let cap = c.owe_all.ensures.capacity ∙ c.rotate.ensures.capacity in
-    kept_awake l _ _ _ _ _ (reverse c.owe_all.new.awake.items) c.self.invariant (rw made (sound_ticked l.cpu c.args.clock l.awake l.asleep l.gone c.self.invariant.sound)) long cap
+    kept_awake l _ _ _ _ _ (reverse c.owe_all.new.awake.items) c.self.invariant
+    (rw made (sound_ticked l.cpu c.args.clock l.awake l.asleep l.gone c.self.invariant.sound)) long cap
 
 pub returns : goal.returns
-returns c = rw (← c.self.view_is) (rw (ap reverse c.owe_all.ensures.items ∙ sym (map_reverse owes c.rotate.new.awake.items) ∙ ap (map owes) c.rotate.ensures.items) refl)
+returns c = rw (← c.self.view_is) (rw (ap reverse c.owe_all.ensures.items
+    ∙ sym (map_reverse owes c.rotate.new.awake.items) ∙ ap (map owes) c.rotate.ensures.items) refl)

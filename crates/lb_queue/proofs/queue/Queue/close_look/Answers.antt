@@ -12,6 +12,10 @@ returns-in-Some-clause-step c =
     let has_counters = rw c.in-Some.is at c.self.invariant.turn in
     let counted : c.self.inside.counted ≡ true = has_counters.0 in
     let some : q.counters ≡ Some c.self.inside.counters.items = rw counted refl in
-    let made = close_done q c.args.at c.max-self-inside.result c.args.shape.now c.args.outcome c.args.imb c.in-Some.turn c.self.inside.counters.items c.close.new.counters.items c.in-Some.is some c.max-self-inside.ensures c.close.ensures.items in
-    let shown : (if c.self.inside.counted then Some c.close.new.counters.items else None) ≡ Some c.close.new.counters.items = rw counted refl in
-    rw (← c.self.view_is) (ap (λ (o : Option (List Counters)). let s : QueueState = record q { clock = c.max-self-inside.result; counters = o } in s) shown ∙ made)
+    let made = close_done q c.args.at c.max-self-inside.result c.args.shape.now c.args.outcome c.args.imb
+    c.in-Some.turn c.self.inside.counters.items c.close.new.counters.items c.in-Some.is some
+    c.max-self-inside.ensures c.close.ensures.items in
+    let shown : (if c.self.inside.counted then Some c.close.new.counters.items else None) ≡ Some
+    c.close.new.counters.items = rw counted refl in
+    rw (← c.self.view_is) (ap (λ (o : Option (List Counters)). let s : QueueState =
+    record q { clock = c.max-self-inside.result; counters = o } in s) shown ∙ made)

@@ -10,5 +10,6 @@ pub add_asleep-requires-clause-unknown : goal.add_asleep-requires-clause-unknown
 add_asleep-requires-clause-unknown c =
     let not_known = subst (λ (b : BookedQueue). knows b.state c.args.id ≡ false) (sym c.self.view_is) c.requires.unknown in
     let here : IsUnknown c.self.inside.lists c.args.id = unknown_where (the_view c.self.inside).state c.args.id not_known in
-    let there : IsUnknown c.make_room.new.self c.args.id = subst (λ (l : Lists). IsUnknown l c.args.id) (sym c.make_room.ensures.lists) here in
+    let there : IsUnknown c.make_room.new.self c.args.id =
+    subst (λ (l : Lists). IsUnknown l c.args.id) (sym c.make_room.ensures.lists) here in
     subst (λ (t : TaskRecord). IsUnknown c.make_room.new.self t.id) (sym c.new.ensures) there

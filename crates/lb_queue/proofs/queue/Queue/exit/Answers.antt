@@ -7,13 +7,17 @@ use Rattle.lb_queue.proofs.Replies.{exit_done, not_awake, of_lists}
 use Rattle.lb_queue.proofs.queue.Queue.exit.Goals as goal
 
 pub exit_asleep-requires : goal.exit_asleep-requires
-exit_asleep-requires c = ap (λ (l : Lists). awake_with c.args.id l.awake) c.in-None.ensures.same ∙ not_awake c.max-clock.result _ c.in-None.ensures.found
+exit_asleep-requires c = ap (λ (l : Lists). awake_with c.args.id l.awake) c.in-None.ensures.same
+    ∙ not_awake c.max-clock.result _ c.in-None.ensures.found
 
 pub returns-in-Some-clause-step : goal.returns-in-Some-clause-step
 returns-in-Some-clause-step c =
-    rw (← c.self.view_is) (exit_done (the_view c.self.inside).state c.args.at c.args.id c.max-clock.result c.in-Some.task c.idle_from-self-inside.result c.take_awake.new.self c.add_gone.new.self c.self.inside.lists
-    c.max-clock.ensures c.in-Some.ensures.found c.take_awake.ensures.lists c.add_gone.ensures (c.idle_from-self-inside.ensures ∙ rw c.is_idle.ensures refl))
+    rw (← c.self.view_is) (exit_done (the_view c.self.inside).state c.args.at c.args.id c.max-clock.result
+    c.in-Some.task c.idle_from-self-inside.result c.take_awake.new.self c.add_gone.new.self c.self.inside.lists
+    c.max-clock.ensures c.in-Some.ensures.found c.take_awake.ensures.lists c.add_gone.ensures
+    (c.idle_from-self-inside.ensures ∙ rw c.is_idle.ensures refl))
 
 pub returns-in-None-clause-step : goal.returns-in-None-clause-step
 returns-in-None-clause-step c =
-    rw (← c.self.view_is) (c.exit_asleep.ensures.step ∙ ap (λ (l : Lists). exit (of_lists (the_view c.self.inside).state l) c.args.at c.args.id) c.in-None.ensures.same)
+    rw (← c.self.view_is) (c.exit_asleep.ensures.step
+    ∙ ap (λ (l : Lists). exit (of_lists (the_view c.self.inside).state l) c.args.at c.args.id) c.in-None.ensures.same)

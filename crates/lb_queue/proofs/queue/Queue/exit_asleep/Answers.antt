@@ -10,11 +10,15 @@ use Rattle.lb_queue.proofs.queue.Queue.exit_asleep.Goals as goal
 pub returns-in-Some-clause-step : goal.returns-in-Some-clause-step
 returns-in-Some-clause-step c =
     let none = subst (λ (b : BookedQueue). awake_with c.args.id b.state.awake ≡ None) (sym c.self.view_is) c.requires in
-    rw (← c.self.view_is) (exit_asleep_done (the_view c.self.inside).state c.args.at c.args.id c.max-self-inside.result c.in-Some.task c.take_asleep.new.self c.add_gone.new.self c.self.inside.lists
+    rw (← c.self.view_is) (exit_asleep_done
+    (the_view c.self.inside).state c.args.at c.args.id c.max-self-inside.result c.in-Some.task
+    c.take_asleep.new.self c.add_gone.new.self c.self.inside.lists
     c.max-self-inside.ensures none c.in-Some.ensures.found c.take_asleep.ensures.lists c.add_gone.ensures)
 
 pub returns-in-None-clause-step : goal.returns-in-None-clause-step
 returns-in-None-clause-step c =
     let none = subst (λ (b : BookedQueue). awake_with c.args.id b.state.awake ≡ None) (sym c.self.view_is) c.requires in
     let q = (the_view c.self.inside).state in
-    rw (← c.self.view_is) (c.refuse.ensures.step ∙ ap (λ (l : Lists). not_here (of_lists q l) c.args.at (task_with c.args.id l.gone)) c.in-None.ensures.same ∙ exit_unknown q c.args.at c.args.id none (sym c.in-None.ensures.found))
+    rw (← c.self.view_is) (c.refuse.ensures.step
+    ∙ ap (λ (l : Lists). not_here (of_lists q l) c.args.at (task_with c.args.id l.gone)) c.in-None.ensures.same
+    ∙ exit_unknown q c.args.at c.args.id none (sym c.in-None.ensures.found))

@@ -8,14 +8,17 @@ use Rattle.lb_queue.proofs.queue.Queue.leave.Goals as goal
 pub load-requires-clause-permitted : goal.load-requires-clause-permitted
 load-requires-clause-permitted c =
     let away = subst (λ (b : BookedQueue). away b.state c.args.id ≡ Some c.args.hand.now.to) (sym c.self.view_is) c.requires.away in
-    rw c.advanced.ensures.value (leaves_there (the_view c.self.inside).state c.args.id c.in-Some.task c.args.hand.now.to c.in-Some.ensures.found away)
+    rw c.advanced.ensures.value (leaves_there
+    (the_view c.self.inside).state c.args.id c.in-Some.task c.args.hand.now.to c.in-Some.ensures.found away)
 
 pub returns-clause-step : goal.returns-clause-step
 returns-clause-step c =
     let q = (the_view c.self.inside).state in
     let fact = subst (λ (b : BookedQueue). away b.state c.args.id ≡ Some c.args.hand.now.to) (sym c.self.view_is) c.requires.away in
     elim c.match-take_asleep.branch [
-      | in-Some w ↦ rw (← c.self.view_is) (leave_done q c.args.at c.args.id c.max-self-inside.result w.in-Some.task c.take_asleep.new.self c.self.inside.lists c.max-self-inside.ensures w.in-Some.ensures.found c.take_asleep.ensures.lists)
+      | in-Some w ↦ rw (← c.self.view_is)
+          (leave_done q c.args.at c.args.id c.max-self-inside.result w.in-Some.task c.take_asleep.new.self
+          c.self.inside.lists c.max-self-inside.ensures w.in-Some.ensures.found c.take_asleep.ensures.lists)
       | in_default w ↦ absurd (stays_not q c.args.id c.args.hand.now.to fact (sym w.in_default.is ∙ c.take_asleep.ensures.found))
     ]
 
@@ -24,6 +27,8 @@ returns-clause-hand c =
     let q = (the_view c.self.inside).state in
     let fact = subst (λ (b : BookedQueue). away b.state c.args.id ≡ Some c.args.hand.now.to) (sym c.self.view_is) c.requires.away in
     elim c.match-take_asleep.branch [
-      | in-Some w ↦ rw (← c.self.view_is) (w.hand-is ∙ w.load.ensures ∙ leave_hand q c.args.at c.args.id c.max-self-inside.result w.in-Some.task w.advanced.result c.args.hand.now c.max-self-inside.ensures w.in-Some.ensures.found w.advanced.ensures.value)
+      | in-Some w ↦ rw (← c.self.view_is)
+          (w.hand-is ∙ w.load.ensures ∙ leave_hand q c.args.at c.args.id c.max-self-inside.result w.in-Some.task
+          w.advanced.result c.args.hand.now c.max-self-inside.ensures w.in-Some.ensures.found w.advanced.ensures.value)
       | in_default w ↦ absurd (stays_not q c.args.id c.args.hand.now.to fact (sym w.in_default.is ∙ c.take_asleep.ensures.found))
     ]

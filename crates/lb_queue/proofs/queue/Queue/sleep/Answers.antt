@@ -7,13 +7,17 @@ use Rattle.lb_queue.proofs.Replies.{sleep_done, not_awake, of_lists}
 use Rattle.lb_queue.proofs.queue.Queue.sleep.Goals as goal
 
 pub refuse_sleep-requires : goal.refuse_sleep-requires
-refuse_sleep-requires c = ap (λ (l : Lists). awake_with c.args.id l.awake) c.in-None.ensures.same ∙ not_awake c.max-clock.result _ c.in-None.ensures.found
+refuse_sleep-requires c = ap (λ (l : Lists). awake_with c.args.id l.awake) c.in-None.ensures.same
+    ∙ not_awake c.max-clock.result _ c.in-None.ensures.found
 
 pub returns-in-Some-clause-step : goal.returns-in-Some-clause-step
 returns-in-Some-clause-step c =
-    rw (← c.self.view_is) (sleep_done (the_view c.self.inside).state c.args.at c.args.id c.max-clock.result c.in-Some.task c.idle_from-self-inside.result c.take_awake.new.self c.add_asleep.new.self c.self.inside.lists
-    c.max-clock.ensures c.in-Some.ensures.found c.take_awake.ensures.lists c.add_asleep.ensures (c.idle_from-self-inside.ensures ∙ rw c.is_idle.ensures refl))
+    rw (← c.self.view_is) (sleep_done (the_view c.self.inside).state c.args.at c.args.id c.max-clock.result
+    c.in-Some.task c.idle_from-self-inside.result c.take_awake.new.self c.add_asleep.new.self c.self.inside.lists
+    c.max-clock.ensures c.in-Some.ensures.found c.take_awake.ensures.lists c.add_asleep.ensures
+    (c.idle_from-self-inside.ensures ∙ rw c.is_idle.ensures refl))
 
 pub returns-in-None-clause-step : goal.returns-in-None-clause-step
 returns-in-None-clause-step c =
-    rw (← c.self.view_is) (c.refuse_sleep.ensures.step ∙ ap (λ (l : Lists). sleep (of_lists (the_view c.self.inside).state l) c.args.at c.args.id) c.in-None.ensures.same)
+    rw (← c.self.view_is) (c.refuse_sleep.ensures.step
+    ∙ ap (λ (l : Lists). sleep (of_lists (the_view c.self.inside).state l) c.args.at c.args.id) c.in-None.ensures.same)

@@ -13,7 +13,9 @@ load_one-requires-clause-can_go c =
     let i = c.loop-id.id-index in
     let ids = c.args.ids.now in
     let lt : i < length ids = c.loop-id-test.true in
-    taking_next c.args.cpu c.args.clock (take i ids) (get_or ids i 0) c.args.lists.now c.args.hand.now c.loop-id.lists c.loop-id.hand c.loop-id.invariant (once_next ids i c.requires.once lt) (c.requires.can_go i 0 lt)
+    taking_next c.args.cpu c.args.clock (take i ids)
+    (get_or ids i 0) c.args.lists.now c.args.hand.now c.loop-id.lists c.loop-id.hand c.loop-id.invariant
+    (once_next ids i c.requires.once lt) (c.requires.can_go i 0 lt)
 
 pub load_one-requires-clause-room : goal.load_one-requires-clause-room
 load_one-requires-clause-room c =
@@ -21,21 +23,27 @@ load_one-requires-clause-room c =
     let ids = c.args.ids.now in
     let lt : i < length ids = c.loop-id-test.true in
     let l = length-take-le i ids (omega arith) in
-    taking_room c.args.cpu c.args.clock (take i ids) c.args.lists.now c.args.hand.now c.loop-id.lists c.loop-id.hand c.loop-id.invariant (let r = c.requires.room in omega arith)
+    taking_room c.args.cpu c.args.clock (take i ids) c.args.lists.now c.args.hand.now c.loop-id.lists c.loop-id.hand
+    c.loop-id.invariant (let r = c.requires.room in omega arith)
 
 pub loop-id-preserved : goal.loop-id-preserved
 loop-id-preserved c =
     let i = c.loop-id.id-index in
     let ids = c.args.ids.now in
     let lt : i < length ids = c.loop-id-test.true in
-    subst (λ (is : List ℕ). IsTaking c.args.cpu c.args.clock is c.args.lists.now c.args.hand.now c.load_one.new.lists c.load_one.new.hand) (sym (take_more ids i 0 lt))
-    (taking_more c.args.cpu c.args.clock (take i ids) (get_or ids i 0) c.args.lists.now c.args.hand.now c.loop-id.lists c.load_one.new.lists c.loop-id.hand c.load_one.new.hand c.loop-id.invariant (once_next ids i c.requires.once lt) c.load_one.ensures.lists c.load_one.ensures.hand)
+    subst (λ (is : List ℕ). IsTaking c.args.cpu c.args.clock is c.args.lists.now c.args.hand.now c.load_one.new.lists
+    c.load_one.new.hand) (sym (take_more ids i 0 lt))
+    (taking_more c.args.cpu c.args.clock (take i ids)
+    (get_or ids i 0) c.args.lists.now c.args.hand.now c.loop-id.lists c.load_one.new.lists c.loop-id.hand
+    c.load_one.new.hand c.loop-id.invariant (once_next ids i c.requires.once lt) c.load_one.ensures.lists c.load_one.ensures.hand)
 
 pub returns-clause-lists : goal.returns-clause-lists
 returns-clause-lists c =
-    let all = taking_all c.args.cpu c.args.clock c.args.ids.now c.loop-id.id-index c.args.lists.now c.args.hand.now c.loop-id.lists c.loop-id.hand c.loop-id-test.false c.loop-id.invariant in
+    let all = taking_all c.args.cpu c.args.clock c.args.ids.now c.loop-id.id-index c.args.lists.now c.args.hand.now
+    c.loop-id.lists c.loop-id.hand c.loop-id-test.false c.loop-id.invariant in
     all.lists ∙ ap (λ (xs : List Awake). let l : Lists = record c.args.lists.now { awake = xs } in l) all.awake
 
 pub returns-clause-hand : goal.returns-clause-hand
 returns-clause-hand c =
-    (taking_all c.args.cpu c.args.clock c.args.ids.now c.loop-id.id-index c.args.lists.now c.args.hand.now c.loop-id.lists c.loop-id.hand c.loop-id-test.false c.loop-id.invariant).hand_is
+    (taking_all c.args.cpu c.args.clock c.args.ids.now c.loop-id.id-index c.args.lists.now c.args.hand.now
+    c.loop-id.lists c.loop-id.hand c.loop-id-test.false c.loop-id.invariant).hand_is

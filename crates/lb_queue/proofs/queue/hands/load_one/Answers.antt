@@ -5,4 +5,6 @@ use Rattle.lb_queue.proofs.Taking.{waits_out}
 use Rattle.lb_queue.proofs.queue.hands.load_one.Goals as goal
 
 pub returns-in-Some-clause-lists : goal.returns-in-Some-clause-lists
-returns-in-Some-clause-lists c = c.take_awake.ensures.lists ∙ ap (λ (xs : List Awake). let l : Lists = record c.args.lists.now { awake = xs } in l) (waits_out c.args.hand.now.to c.args.clock c.args.id c.args.lists.now.awake c.requires.can_go)
+returns-in-Some-clause-lists c = c.take_awake.ensures.lists
+    ∙ ap (λ (xs : List Awake). let l : Lists = record c.args.lists.now { awake = xs } in l)
+    (waits_out c.args.hand.now.to c.args.clock c.args.id c.args.lists.now.awake c.requires.can_go)

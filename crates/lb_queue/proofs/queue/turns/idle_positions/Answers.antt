@@ -9,4 +9,5 @@ returns-then-idle c =
     let n = idle_levels c.args.avg_idle 0 c.args.shapes.now in
     let few = c.levels.ensures.few in
     let same = c.levels.ensures.value in
-    rw c.if-idle.true (levels_are n c.all.result (omega arith) (λ k. subst (λ (m : ℕ). has c.all.result k ≡ nat_lt k m) same (c.all.ensures.cpus k)))
+    rw c.if-idle.true (levels_are n c.all.result (omega arith)
+    (λ k. subst (λ (m : ℕ). has c.all.result k ≡ nat_lt k m) same (c.all.ensures.cpus k)))

@@ -3,4 +3,6 @@ use Rattle.lb_queue.specs.Turns.{idle_levels}
 use Rattle.lb_queue.proofs.queue.turns.levels.Given as goal
 
 abbrev pub invariant-loop-shape : goal.invariant-loop-shape
-invariant-loop-shape l = (l.level ≡ l.shape-index) × (idle_levels l.avg_idle 0 l.shapes ≡ l.level + idle_levels l.avg_idle l.spent (drop l.shape-index l.shapes)) × (l.spent ≤ 64000 * l.level)
+invariant-loop-shape l = (l.level ≡ l.shape-index)
+    × (idle_levels l.avg_idle 0 l.shapes ≡ l.level + idle_levels l.avg_idle l.spent (drop l.shape-index l.shapes))
+    × (l.spent ≤ 64000 * l.level)

@@ -10,16 +10,26 @@ unfolding value_tests
 returns-in-Version-clause-step c = rw c.in-Version.is refl
 
 pub returns-in-Cpu-clause-ticked : goal.returns-in-Cpu-clause-ticked
-returns-in-Cpu-clause-ticked c = keeps_above kinds.Cpu (fields_of c.args.fields.now) c.args.self.now c.cpu_line.new.self c.args.ticked.now c.cpu_line.result refl c.requires.ticked c.cpu_line.ensures
+returns-in-Cpu-clause-ticked c = keeps_above kinds.Cpu
+    (fields_of c.args.fields.now) c.args.self.now c.cpu_line.new.self c.args.ticked.now c.cpu_line.result
+    refl c.requires.ticked c.cpu_line.ensures
 
 pub returns-in-Dist-clause-ticked : goal.returns-in-Dist-clause-ticked
-returns-in-Dist-clause-ticked c = keeps_above kinds.Dist (fields_of c.args.fields.now) c.args.self.now c.dist_line.new.self c.args.ticked.now c.dist_line.result refl c.requires.ticked c.dist_line.ensures
+returns-in-Dist-clause-ticked c = keeps_above kinds.Dist
+    (fields_of c.args.fields.now) c.args.self.now c.dist_line.new.self c.args.ticked.now c.dist_line.result
+    refl c.requires.ticked c.dist_line.ensures
 
 pub returns-in-Parts-clause-ticked : goal.returns-in-Parts-clause-ticked
-returns-in-Parts-clause-ticked c = keeps_above kinds.Parts (fields_of c.args.fields.now) c.args.self.now c.parts_line.new.self c.args.ticked.now c.parts_line.result refl c.requires.ticked c.parts_line.ensures
+returns-in-Parts-clause-ticked c = keeps_above kinds.Parts
+    (fields_of c.args.fields.now) c.args.self.now c.parts_line.new.self c.args.ticked.now c.parts_line.result
+    refl c.requires.ticked c.parts_line.ensures
 
 pub returns-in-Lanes-clause-ticked : goal.returns-in-Lanes-clause-ticked
-returns-in-Lanes-clause-ticked c = keeps_above kinds.Lanes (fields_of c.args.fields.now) c.args.self.now c.lanes_line.new.self c.args.ticked.now c.lanes_line.result refl c.requires.ticked c.lanes_line.ensures
+returns-in-Lanes-clause-ticked c = keeps_above kinds.Lanes
+    (fields_of c.args.fields.now) c.args.self.now c.lanes_line.new.self c.args.ticked.now c.lanes_line.result
+    refl c.requires.ticked c.lanes_line.ensures
 
 pub returns-in-Task-clause-ticked : goal.returns-in-Task-clause-ticked
-returns-in-Task-clause-ticked c = keeps_above kinds.Task (fields_of c.args.fields.now) c.args.self.now c.task_line.new.self c.args.ticked.now c.task_line.result refl c.requires.ticked c.task_line.ensures
+returns-in-Task-clause-ticked c = keeps_above kinds.Task
+    (fields_of c.args.fields.now) c.args.self.now c.task_line.new.self c.args.ticked.now c.task_line.result
+    refl c.requires.ticked c.task_line.ensures
