@@ -2,7 +2,7 @@
 use Rattle.std.proofs.Common.{◌≡◌, ℕ, zero, suc, List, [], ◌∷◌, ◌++◌, take, Option, Some, None, Ok, sym, ◌∙◌, ap, subst}
 use Rattle.lb_core.specs.declared.entry.Entry.{Entry}
 use Rattle.lb_core.specs.declared.history.History.{History}
-use Rattle.lb_core.specs.Machine.{Machine, start}
+use Rattle.lb_core.specs.Machine.{MachineState, start}
 use Rattle.lb_core.specs.Step.{after}
 use Rattle.lb_core.specs.Legal.{run, MayFollow, IsLegalFront, IsLegalHistory}
 use Rattle.lb_core.specs.Placed.{IsPlaced, PlacedAlways}
@@ -23,7 +23,7 @@ use Rattle.std.specs.Io.KnownBytes.{IsAtEnd}
 use Rattle.lb.specs.declared.words.Work.{Work}
 use Rattle.lb.specs.declared.words.Work.TheVariants.{Step, Topo}
 use Rattle.lb.specs.Words.{work_of}
-use Rattle.lb.specs.Answers.{Side, Call, Took, IsOutput, OfTrace, TookOutput, Answers}
+use Rattle.lb.specs.Answers.{Stream, Invocation, Took, IsOutput, OfTrace, TookOutput, Answers}
 use Rattle.lb.specs.Headline.{IsTheHistory, Headline}
 
 -- the laws that the headline stands on
@@ -36,7 +36,7 @@ pub record Laws : Type 0 where
   pub one : OneSerialHistory
   pub fit : EntriesFit
 
-front_taken : (n : ℕ) (es : List Entry) (m : Machine) → MayFollow es m → MayFollow (take n es) m
+front_taken : (n : ℕ) (es : List Entry) (m : MachineState) → MayFollow es m → MayFollow (take n es) m
 front_taken zero es m legal = tt
 front_taken (suc n) [] m legal = tt
 front_taken (suc n) (e ∷ es) m legal = (legal.0, front_taken n es (after m e) legal.1)
@@ -57,25 +57,25 @@ the_history law t h given s =
     }
 
 -- ---- the headline
-abbrev TheText : Side → Trace → Type 0
+abbrev TheText : Stream → Trace → Type 0
 TheText out t = (h : History) × IsTheHistory t h × Took out (history_text h.header h.entries)
 
-the_text : Laws → (out : Side) (text : List ℕ) (t : Trace) → reading_of text ≡ Ok t
+the_text : Laws → (out : Stream) (text : List ℕ) (t : Trace) → reading_of text ≡ Ok t
     → (answer : List ℕ) × IsOutput Step t answer × Took out answer → TheText out t
 the_text law out text t is (answer, (h, serial, same), took) =
     (h, the_history law t h (law.accepted text t is) serial, subst (λ (bytes : List ℕ). Took out bytes) same took)
 
-of_trace : Laws → (left : Option (List ℕ)) (out : Side)
+of_trace : Laws → (left : Option (List ℕ)) (out : Stream)
     → IfSome left (λ text. (t : Trace) × (reading_of text ≡ Ok t) × ((answer : List ℕ) × IsOutput Step t answer × Took out answer))
     → IfSome left (λ text. (t : Trace) × (reading_of text ≡ Ok t) × TheText out t)
 of_trace law None out h = tt
 of_trace law (Some text) out (t, is, a) = (t, is, the_text law out text t is a)
 
-step_done : Laws → (c : Call) (work : Work) → work ≡ Step → IsAtEnd c.source.after × OfTrace c (TookOutput c work) → Headline c
+step_done : Laws → (c : Invocation) (work : Work) → work ≡ Step → IsAtEnd c.source.after × OfTrace c (TookOutput c work) → Headline c
 step_done law c Step is w = (w.0, of_trace law c.source.before c.out w.1)
 step_done law c Topo is w = absurd (cc)
 
-pub headlined : Laws → (s : Status) (c : Call) (error : Side) → Answers s c error → s ≡ status.Done → work_of c.words ≡ Some Step → Headline c
+pub headlined : Laws → (s : Status) (c : Invocation) (error : Stream) → Answers s c error → s ≡ status.Done → work_of c.words ≡ Some Step → Headline c
 headlined law status.Done c error w is step =
     let same : Some w.0.0 ≡ Some Step = sym w.0.1 ∙ step in
     step_done law c w.0.0 (cc) w.0.2

@@ -6,9 +6,9 @@ use Rattle.lb_trace.specs.declared.trace.Trace.{Trace}
 use Rattle.lb.specs.declared.status.Status.{Status}
 use Rattle.lb.specs.declared.status.Status.TheVariants as status
 use Rattle.lb.specs.declared.words.Work.{Work}
-use Rattle.lb.specs.Answers.{Side, Call, IsUntouched, Works, Told, Tells, Reports, Answers, Completes}
+use Rattle.lb.specs.Answers.{Stream, Invocation, IsUntouched, Works, Told, Tells, Reports, Answers, Completes}
 
-told : (s : Status) (c : Call) (error : Side) → Works s c → Told s error → Answers s c error
+told : (s : Status) (c : Invocation) (error : Stream) → Works s c → Told s error → Answers s c error
 told status.Done c error w t = (w, t)
 told status.ReadFault c error w t = (w, t)
 told status.Usage c error w t = (w, t)
@@ -16,7 +16,7 @@ told (status.Refused line code) c error w t = (w, t)
 told status.WriteFault c error w t = inl (w, t)
 told status.NoMemory c error w t = (w, t)
 
-tells : (was now : Status) (c : Call) (error : Side) → Works was c → Tells was now error → Answers now c error
+tells : (was now : Status) (c : Invocation) (error : Stream) → Works was c → Tells was now error → Answers now c error
 tells was now c error w r =
     elim r [
       | inl p ↦ subst (λ (s : Status). Answers s c error) (sym p.0) (told was c error w p.1)
@@ -24,10 +24,10 @@ tells was now c error w r =
     ]
 
 -- where a trace is refused, nothing was written
-untouched : (s : Status) (c : Call) (line : ℕ) (code : Code) → s ≡ status.Refused line code → Works s c → IsUntouched c.out
+untouched : (s : Status) (c : Invocation) (line : ℕ) (code : Code) → s ≡ status.Refused line code → Works s c → IsUntouched c.out
 untouched s c line code is w = let x : Works (status.Refused line code) c = subst (λ (s : Status). Works s c) is w in x.1
 
-pub reported : (was now : Status) (c : Call) (error : Side) → Works was c → Reports was now error → Answers now c error
+pub reported : (was now : Status) (c : Invocation) (error : Stream) → Works was c → Reports was now error → Answers now c error
 reported was now c error w r =
     elim r [
       | inl p ↦ tells was now c error w p
@@ -39,7 +39,7 @@ refused_or : (left : Option (List ℕ)) (text : List ℕ) (work other : Work) (t
 refused_or None text work other t x is read same bad = cc
 refused_or (Some bytes) text work other t x is read same bad = cc
 
-pub completes : (s : Status) (c : Call) (error : Side) → Answers s c error → Completes s c error
+pub completes : (s : Status) (c : Invocation) (error : Stream) → Answers s c error → Completes s c error
 completes status.Done c error w work text t words left read r1 r2 r3 = inl refl
 completes status.ReadFault c error w work text t words left read r1 r2 r3 = absurd (r1 w.0.0.2)
 completes status.Usage c error w work text t words left read r1 r2 r3 = absurd (cc)

@@ -16,7 +16,7 @@ use Rattle.lb_core.specs.Passes.{PassAt}
 use Rattle.lb_core.specs.Serial.{IsSerialHistory}
 use Rattle.lb_trace.specs.declared.trace.Trace.{Trace}
 use Rattle.lb_record.specs.History.{history_text}
-use Rattle.lb.specs.Answers.{Call, OfTrace, Took}
+use Rattle.lb.specs.Answers.{Invocation, OfTrace, Took}
 
 -- the serial history of a trace
 pub record IsTheHistory (t : Trace) (h : History) : Type 0 where
@@ -38,5 +38,5 @@ pub record IsTheHistory (t : Trace) (h : History) : Type 0 where
   pub passes : (before later : List Entry) (e : Entry) → h.entries ≡ before ++ e ∷ later → PassAt h.header before e later e.what
 
 -- the source was read to its end, and the out sink took the text of the history of its trace
-abbrev pub Headline : Call → Type 0
+abbrev pub Headline : Invocation → Type 0
 Headline c = IsAtEnd c.source.after × OfTrace c (λ t. (h : History) × IsTheHistory t h × Took c.out (history_text h.header h.entries))

@@ -1,7 +1,7 @@
 ghost use Rattle.std.specs.Prelude.{◌≡◌, map, Some, IfOk, string_bytes};
 ghost use Rattle.lb_trace.specs.Accepted.{IsTrace};
 ghost use Rattle.lb.specs.Words.{work_of};
-ghost use Rattle.lb.specs.Answers.{side_of, call_of, IsOutput, Works, Answers, Completes};
+ghost use Rattle.lb.specs.Answers.{stream_of, invocation_of, IsOutput, Works, Answers, Completes};
 ghost use Rattle.lb.specs.Headline.{Headline};
 
 use crate::status::{Status, report};
@@ -36,7 +36,7 @@ fn output_of(alloc: Global, work: Work, trace: &Trace) -> Result<Vec<u8>, NoMemo
 // The work of the words, before its status is reported.
 fn work<S: Source, O: Sink>(alloc: Global, words: &[String], src: &mut S, out: &mut O) -> Status
     ensures { Works result
-        (call_of (map string_bytes words.now) (side_of S.left S.faults src.old src.new) (side_of O.taken O.faults out.old out.new)) }
+        (invocation_of (map string_bytes words.now) (stream_of S.left S.faults src.old src.new) (stream_of O.taken O.faults out.old out.new)) }
 {
     let Some(work) = work_of(words) else {
         return Status::Usage;
@@ -77,13 +77,13 @@ pub fn once<S: Source, O: Sink, E: Sink>(
     err: &mut E,
 ) -> Status
     ensures answers { Answers result
-        (call_of (map string_bytes words.now) (side_of S.left S.faults src.old src.new) (side_of O.taken O.faults out.old out.new))
-        (side_of E.taken E.faults err.old err.new) }
+        (invocation_of (map string_bytes words.now) (stream_of S.left S.faults src.old src.new) (stream_of O.taken O.faults out.old out.new))
+        (stream_of E.taken E.faults err.old err.new) }
     ensures completes { Completes result
-        (call_of (map string_bytes words.now) (side_of S.left S.faults src.old src.new) (side_of O.taken O.faults out.old out.new))
-        (side_of E.taken E.faults err.old err.new) }
+        (invocation_of (map string_bytes words.now) (stream_of S.left S.faults src.old src.new) (stream_of O.taken O.faults out.old out.new))
+        (stream_of E.taken E.faults err.old err.new) }
     ensures headline { result ≡ Status.Done → work_of (map string_bytes words.now) ≡ Some Work.Step → Headline
-        (call_of (map string_bytes words.now) (side_of S.left S.faults src.old src.new) (side_of O.taken O.faults out.old out.new)) }
+        (invocation_of (map string_bytes words.now) (stream_of S.left S.faults src.old src.new) (stream_of O.taken O.faults out.old out.new)) }
 {
     // What the headline rests on. The text that was read is a trace that keeps to its limits; after each
     // legal front every task stands at one place, where it may run unless it is asked to leave; each look

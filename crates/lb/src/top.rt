@@ -1,6 +1,6 @@
 ghost use Rattle.std.specs.Prelude.{◌≡◌, map, Some, string_bytes};
 ghost use Rattle.lb.specs.Words.{work_of};
-ghost use Rattle.lb.specs.Answers.{side_of, call_of, Answers, Completes};
+ghost use Rattle.lb.specs.Answers.{stream_of, invocation_of, Answers, Completes};
 ghost use Rattle.lb.specs.Headline.{Headline};
 
 use crate::once::once;
@@ -22,13 +22,13 @@ pub fn top<R: Threads + Wait + Sync, S: Source, O: Sink, E: Sink, G: Gate>(
     _gate: &G,
 ) -> Status
     ensures answers { Answers result
-        (call_of (map string_bytes words.now) (side_of S.left S.faults src.old src.new) (side_of O.taken O.faults out.old out.new))
-        (side_of E.taken E.faults err.old err.new) }
+        (invocation_of (map string_bytes words.now) (stream_of S.left S.faults src.old src.new) (stream_of O.taken O.faults out.old out.new))
+        (stream_of E.taken E.faults err.old err.new) }
     ensures completes { Completes result
-        (call_of (map string_bytes words.now) (side_of S.left S.faults src.old src.new) (side_of O.taken O.faults out.old out.new))
-        (side_of E.taken E.faults err.old err.new) }
+        (invocation_of (map string_bytes words.now) (stream_of S.left S.faults src.old src.new) (stream_of O.taken O.faults out.old out.new))
+        (stream_of E.taken E.faults err.old err.new) }
     ensures headline { result ≡ Status.Done → work_of (map string_bytes words.now) ≡ Some Work.Step → Headline
-        (call_of (map string_bytes words.now) (side_of S.left S.faults src.old src.new) (side_of O.taken O.faults out.old out.new)) }
+        (invocation_of (map string_bytes words.now) (stream_of S.left S.faults src.old src.new) (stream_of O.taken O.faults out.old out.new)) }
 {
     once(alloc, words, src, out, err)
 }

@@ -21,7 +21,7 @@ use Rattle.lb_core.specs.declared.entry.Entry.{Entry}
 use Rattle.lb_core.specs.Course.{is_all_pinned, source_of, turn_domain, domain_at, looks_again}
 use Rattle.lb_core.specs.QueueAfter.{cause_of, queue_after}
 use Rattle.lb_core.specs.CourseAfter.{lands, drew, cpu_of, course_by, course_after}
-use Rattle.lb_core.specs.Machine.{Machine, no_course, course_at, sight}
+use Rattle.lb_core.specs.Machine.{MachineState, no_course, course_at, sight}
 use Rattle.lb_core.specs.Step.{after}
 use Rattle.lb_core.specs.Legal.{MayBeAdded, run, MayFollow}
 use Rattle.lb_core.specs.LaneEntries.{next_of, until, beyond}
@@ -64,7 +64,7 @@ comes_back o n c c' s t off = subst (λ (x : OutCause). IsBack c (drew o n (land
     by_owner (Lane l) = record { form = refl; taken = off.taken; excluded = left; place = off.place }
     by_owner Publisher = record { form = refl; taken = off.taken; excluded = left; place = off.place }
 
-landing : (m : Machine) (o : Owner) (lane prev : ℕ) (w : What) (c c' : Course) (s : ℕ) (t : Taken)
+landing : (m : MachineState) (o : Owner) (lane prev : ℕ) (w : What) (c c' : Course) (s : ℕ) (t : Taken)
     → course_at m.courses lane ≡ c' → IsOff c c' s t → MayBeAdded m (entry o lane prev w) →
     (c'' : Course) × (course_at (after m (entry o lane prev w)).courses lane ≡ c'') × IsBack c c'' s t
 unfolding after course_after sight
@@ -110,7 +110,7 @@ look_or_close : (b : Bool) (p : ℕ) (look close : What) → looked_at look ≡ 
 look_or_close true p look close h k = h
 look_or_close false p look close h k = k
 
-looks_then : (m : Machine) (o : Entry) (c' : Course) → course_at m.courses o.lane ≡ c' → c'.form ≡ LandedForm
+looks_then : (m : MachineState) (o : Entry) (c' : Course) → course_at m.courses o.lane ≡ c' → c'.form ≡ LandedForm
     → MayBeAdded m o → looked_at o.what ≡ cond (looks_again m.header c') (Some c'.position) None
 looks_then m o c' at form a =
     let k : o.what ≡ what_next LandedForm m c' (queue_next LandedForm m c') (choice_of o.what) =
@@ -128,7 +128,7 @@ none_beyond lane (e ∷ es) h = by_lane (e.lane == lane) h (none_beyond lane es)
     by_lane true h more = absurd (let y : ⊥ = cc in y)
     by_lane false h more = more h
 
-after_landing : (lane : ℕ) (es : List Entry) (m : Machine) (c c' : Course) (s : ℕ) (t : Taken)
+after_landing : (lane : ℕ) (es : List Entry) (m : MachineState) (c c' : Course) (s : ℕ) (t : Taken)
     → course_at m.courses lane ≡ c' → IsBack c c' s t → MayFollow es m → (o : Option Entry) → next_of lane es ≡ o
     → LooksAgain (is_due_again m.header c s t) c.position o
 after_landing lane es m c c' s t at back l None e = tt
@@ -141,7 +141,7 @@ after_landing lane es m c c' s t at back l (Some o) e =
     ∙ ap (λ (x : List Mask × ℕ × ℕ). cond (is_due_again m.header c s t) (Some x.2) None) back.place
 
 -- after a take has left, its landing comes, and then this entry
-pub after_take : (lane : ℕ) (es : List Entry) (m : Machine) (c c' : Course) (s : ℕ) (t : Taken)
+pub after_take : (lane : ℕ) (es : List Entry) (m : MachineState) (c c' : Course) (s : ℕ) (t : Taken)
     → course_at m.courses lane ≡ c' → IsOff c c' s t → MayFollow es m
     → LooksAgain (is_due_again m.header c s t) c.position (next_of lane (beyond lane es))
 unfolding after

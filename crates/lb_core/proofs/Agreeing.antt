@@ -13,14 +13,14 @@ use Rattle.lb_core.specs.declared.entry.What.TheVariants.{Row, Adopt, Look, Scan
 use Rattle.lb_core.specs.declared.entry.Entry.{Entry}
 use Rattle.lb_core.specs.Course.{looks_again}
 use Rattle.lb_core.specs.Stage.{push_is_due}
-use Rattle.lb_core.specs.Machine.{Machine, course_at}
+use Rattle.lb_core.specs.Machine.{MachineState, course_at}
 use Rattle.lb_core.specs.Legal.{MayBeAdded}
 use Rattle.lb_core.specs.Choices.{Agree, ChoicesAreAll}
 use Rattle.lb_core.proofs.Unbroken.{unbroken_elsewhere}
 use Rattle.lb_core.proofs.Placing.{entry}
 use Rattle.lb_core.proofs.Choosing.{Choice, ItsRow, ItsVersion, ItsFigures, Nothing, choice_of, cpu_next, queue_next, owner_next, row_or, what_next, chosen}
 
-prev_is : (m : Machine) (e : Entry) → MayBeAdded m e → e.prev ≡ get_or m.last e.lane 0
+prev_is : (m : MachineState) (e : Entry) → MayBeAdded m e → e.prev ≡ get_or m.last e.lane 0
 prev_is m e h = eqb-true e.prev _ (not-false _ (unbroken_elsewhere m e h Prev))
 
 same_entry : (a b : Entry) → a.owner ≡ b.owner → a.lane ≡ b.lane → a.prev ≡ b.prev → a.what ≡ b.what → a ≡ b
@@ -30,17 +30,17 @@ same_entry a b o l p w = ap4_entry a.owner b.owner a.lane b.lane a.prev b.prev a
     ap4_entry o o' l l' p p' w w' a b c d = rw (a, b, c, d) refl
 
 -- what comes next depends on the state, the lane and the choice alone
-what_of : Machine → ℕ → Choice → What
+what_of : MachineState → ℕ → Choice → What
 what_of m lane choice = let c = course_at m.courses lane in what_next c.form m c (queue_next c.form m c) choice
 
-what_chosen : (m : Machine) (e : Entry) → MayBeAdded m e → e.what ≡ what_of m e.lane (choice_of e.what)
+what_chosen : (m : MachineState) (e : Entry) → MayBeAdded m e → e.what ≡ what_of m e.lane (choice_of e.what)
 unfolding what_of
 what_chosen m e h = (chosen m e h).0
 
-owner_of : Machine → ℕ → What → Owner
+owner_of : MachineState → ℕ → What → Owner
 owner_of m lane w = let c = course_at m.courses lane in owner_next w lane (cpu_next c.form m c)
 
-owner_chosen : (m : Machine) (e : Entry) → MayBeAdded m e → e.owner ≡ owner_of m e.lane e.what
+owner_chosen : (m : MachineState) (e : Entry) → MayBeAdded m e → e.owner ≡ owner_of m e.lane e.what
 unfolding owner_of
 owner_chosen m e h = (chosen m e h).1
 
@@ -77,7 +77,7 @@ row_word (ItsFigures ns) n w h = refl
 row_word Nothing n w h = refl
 
 -- but for rows, the choice decides no kind
-one_word : (f : Form) (m : Machine) (c : Course) (q : QueueState) (a b : Choice) → is_row a ≡ false → is_row b ≡ false
+one_word : (f : Form) (m : MachineState) (c : Course) (q : QueueState) (a b : Choice) → is_row a ≡ false → is_row b ≡ false
     → word (what_next f m c q a) ≡ word (what_next f m c q b)
 one_word Rest m c q a b h k = ap word (row_word a (c.rows + 1) _ h ∙ sym (row_word b (c.rows + 1) _ k))
 one_word Asked m c q a b h k = refl
@@ -94,7 +94,7 @@ one_word ScanDue m c q a b h k = refl
 one_word Kicking m c q a b h k = refl
 one_word Ended m c q a b h k = refl
 
-one_kind : (m : Machine) (lane : ℕ) (a b : Choice) → is_row a ≡ false → is_row b ≡ false → word (what_of m lane a) ≡ word (what_of m lane b)
+one_kind : (m : MachineState) (lane : ℕ) (a b : Choice) → is_row a ≡ false → is_row b ≡ false → word (what_of m lane a) ≡ word (what_of m lane b)
 unfolding what_of
 one_kind m lane a b h k = let c = course_at m.courses lane in one_word c.form m c (queue_next c.form m c) a b h k
 
@@ -128,7 +128,7 @@ is_row_word : (w : What) → is_row (choice_of w) ≡ true → word w ≡ 0
 is_row_word (Row n at command) h = refl
 is_row_word w h = absurd (let y : ⊥ = cc in y)
 
-words_same : (m : Machine) (lane : ℕ) (v w : What) (b : Bool) → is_row (choice_of v) ≡ b → is_row (choice_of w) ≡ b
+words_same : (m : MachineState) (lane : ℕ) (v w : What) (b : Bool) → is_row (choice_of v) ≡ b → is_row (choice_of w) ≡ b
     → v ≡ what_of m lane (choice_of v) → w ≡ what_of m lane (choice_of w) → word v ≡ word w
 words_same m lane v w true h k e f = is_row_word v h ∙ sym (is_row_word w k)
 words_same m lane v w false h k e f = ap word e ∙ one_kind m lane (choice_of v) (choice_of w) h k ∙ sym (ap word f)

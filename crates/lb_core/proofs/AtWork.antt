@@ -18,7 +18,7 @@ use Rattle.lb_core.specs.declared.rule.Rule.TheVariants.{Stage, End as EndRule}
 use Rattle.lb_core.specs.Course.{opening_course}
 use Rattle.lb_core.specs.Stage.{draws}
 use Rattle.lb_core.specs.CourseAfter.{course_after}
-use Rattle.lb_core.specs.Machine.{Machine, no_course, course_at, start, sight}
+use Rattle.lb_core.specs.Machine.{MachineState, no_course, course_at, start, sight}
 use Rattle.lb_core.specs.Elsewhere.{is_rest, all_rest, stage_at_rest}
 use Rattle.lb_core.specs.Step.{closing_after, ended_after, after}
 use Rattle.lb_core.specs.Legal.{MayBeAdded, MayFollow}
@@ -29,7 +29,7 @@ use Rattle.lb_core.proofs.Placing.{form_lets}
 use Rattle.lb_core.proofs.Opening.{past}
 
 -- ---- rest
-abbrev pub rests_at : Machine → ℕ → Bool
+abbrev pub rests_at : MachineState → ℕ → Bool
 rests_at m lane = is_rest (course_at m.courses lane).form
 
 all_at : {X : Type 0} (p : X → Bool) (xs : List X) (d : X) → list_all p xs ≡ true → p d ≡ true → (i : ℕ) → p (get_or xs i d) ≡ true
@@ -37,17 +37,17 @@ all_at p [] d h k i = k
 all_at p (x ∷ xs) d h k zero = (and_parts (p x) _ h).0
 all_at p (x ∷ xs) d h k (suc i) = all_at p xs d ((and_parts (p x) _ h).1) k i
 
-pub rest_each : (m : Machine) → all_rest m ≡ true → (lane : ℕ) → rests_at m lane ≡ true
+pub rest_each : (m : MachineState) → all_rest m ≡ true → (lane : ℕ) → rests_at m lane ≡ true
 rest_each m h lane = all_at (λ c. is_rest c.form) m.courses no_course h refl lane
 
 pub clash : {A : Type 0} (b : Bool) → b ≡ true → b ≡ false → A
 clash b h k = absurd (let y : ⊥ = cc in y)
 
 -- ---- what the rule `stage` and the rule `end` say elsewhere
-pub at_rest_lets : (m : Machine) (e : Entry) → MayBeAdded m e → stage_at_rest (course_at m.courses e.lane).form m e.owner e.what ≡ false
+pub at_rest_lets : (m : MachineState) (e : Entry) → MayBeAdded m e → stage_at_rest (course_at m.courses e.lane).form m e.owner e.what ≡ false
 at_rest_lets m e h = (or_parts _ _ (or_parts _ _ (unbroken_elsewhere m e h Stage)).0).1
 
-pub goes_on : (m : Machine) (e : Entry) → MayBeAdded m e → m.ended ≡ false
+pub goes_on : (m : MachineState) (e : Entry) → MayBeAdded m e → m.ended ≡ false
 goes_on m e h = (or_parts m.ended _ (unbroken_elsewhere m e h EndRule)).0
 
 -- ---- an entry of a lane at rest
@@ -58,11 +58,11 @@ RestRows (Out cause to ids) lane rows = (lane ≡ 0) × (rows ≡ [])
 RestRows (End unserved) lane rows = (lane ≡ 0) × (rows ≡ [])
 RestRows w lane rows = ⊥
 
-pub record AtRest (m : Machine) (w : What) (lane : ℕ) (rows : List TraceRow) : Type 0 where
+pub record AtRest (m : MachineState) (w : What) (lane : ℕ) (rows : List TraceRow) : Type 0 where
   pub all : all_rest m ≡ true
   pub comes : RestRows w lane rows
 
-at_rest : (f : Form) (m : Machine) (h : Header) (c : Course) (q : QueueState) (lane : ℕ) (o : Owner) (w : What)
+at_rest : (f : Form) (m : MachineState) (h : Header) (c : Course) (q : QueueState) (lane : ℕ) (o : Owner) (w : What)
     (rows : List TraceRow) → is_rest f ≡ true → draws f h c q lane w ≡ true → stage_at_rest f m o w ≡ false →
     is_serial m w ≡ true → ((closing_after w f m.closing || ended_after w m.ended) ≡ true → rows ≡ []) → AtRest m w lane rows
 unfolding draws
@@ -74,7 +74,7 @@ at_rest Rest m h c q lane o (End unserved) rows r d s z none =
 at_rest f m h c q lane o w rows r d s z none = absurd (let y : ⊥ = cc in y)
 
 -- a row comes at rest alone, and not once the history is over
-pub row_rests : (f : Form) (m : Machine) (h : Header) (c : Course) (q : QueueState) (lane n at : ℕ) (o : Owner)
+pub row_rests : (f : Form) (m : MachineState) (h : Header) (c : Course) (q : QueueState) (lane n at : ℕ) (o : Owner)
     (command : _) → draws f h c q lane (Row n at command) ≡ true → stage_at_rest f m o (Row n at command) ≡ false
     → (is_rest f ≡ true) × (m.closing ≡ false)
 unfolding draws
@@ -82,11 +82,11 @@ row_rests Rest m h c q lane n at o command d s = (refl, s)
 row_rests f m h c q lane n at o command d s = absurd (let y : ⊥ = cc in y)
 
 -- ---- one lane at work
-pub record OneAtWork (m : Machine) : Type 0 where
+pub record OneAtWork (m : MachineState) : Type 0 where
   pub one : (l k : ℕ) → rests_at m l ≡ false → rests_at m k ≡ false → l ≡ k
 
 -- an entry is drawn by the lane that is at work, if one is
-pub works : (m : Machine) (e : Entry) → MayBeAdded m e → is_serial m e.what ≡ true → OneAtWork m → (l : ℕ)
+pub works : (m : MachineState) (e : Entry) → MayBeAdded m e → is_serial m e.what ≡ true → OneAtWork m → (l : ℕ)
     → rests_at m l ≡ false → e.lane ≡ l
 works m e h z one l k = by_rest (rests_at m e.lane) refl
   where
@@ -95,7 +95,7 @@ works m e h z one l k = by_rest (rests_at m e.lane) refl
         (at_rest _ m _ _ _ e.lane e.owner e.what [] r (form_lets m e h).1 (at_rest_lets m e h) z (λ _. refl)).all l) k
     by_rest false r = one.one e.lane l r k
 
-pub one_kept : (m : Machine) (e : Entry) → MayBeAdded m e → is_serial m e.what ≡ true → OneAtWork m → OneAtWork (after m e)
+pub one_kept : (m : MachineState) (e : Entry) → MayBeAdded m e → is_serial m e.what ≡ true → OneAtWork m → OneAtWork (after m e)
 unfolding after
 one_kept m e h z one = record { one = λ l k a b. drew l a ∙ sym (drew k b) }
   where
@@ -127,7 +127,7 @@ one_starts h = record { one = λ l k a b. clash _ (opening_rests h l) a }
 
 -- ---- once it is over
 -- no row comes any more
-abbrev is_over : Machine → Bool
+abbrev is_over : MachineState → Bool
 is_over m = m.closing || m.ended
 
 closing_stays : (w : What) (f : Form) → closing_after w f true ≡ true
@@ -139,12 +139,12 @@ closes_first : (a b : Bool) → (a || b) ≡ true → b ≡ false → a ≡ true
 closes_first true b h k = refl
 closes_first false b h k = clash b h k
 
-no_row : (w : What) (m : Machine) (c : Course) (h : Header) (q : QueueState) (lane : ℕ) (o : Owner)
+no_row : (w : What) (m : MachineState) (c : Course) (h : Header) (q : QueueState) (lane : ℕ) (o : Owner)
     → draws c.form h c q lane w ≡ true → stage_at_rest c.form m o w ≡ false → m.closing ≡ true → row_of w lane ≡ []
 no_row (Row n at command) m c h q lane o d s k = clash _ k (row_rests c.form m h c q lane n at o command d s).1
 no_row w m c h q lane o d s k = refl
 
-pub none_drawn : (es : List Entry) (m : Machine) → is_over m ≡ true → MayFollow es m → rows_drawn es ≡ []
+pub none_drawn : (es : List Entry) (m : MachineState) → is_over m ≡ true → MayFollow es m → rows_drawn es ≡ []
 unfolding after sight
 none_drawn [] m over h = refl
 none_drawn (e ∷ es) m over h =
@@ -154,13 +154,13 @@ none_drawn (e ∷ es) m over h =
     or_left _ (ended_after e.what m.ended) (ap (closing_after e.what c.form) closing ∙ closing_stays e.what c.form) in
     rw (no_row e.what m c _ _ e.lane e.owner (form_lets m e h.0).1 (at_rest_lets m e h.0) closing) (none_drawn es (after m e) later h.1)
 
-pub comes_at_rest : (m : Machine) (e : Entry) (es : List Entry) → MayBeAdded m e → MayFollow es (after m e)
+pub comes_at_rest : (m : MachineState) (e : Entry) (es : List Entry) → MayBeAdded m e → MayFollow es (after m e)
     → is_serial m e.what ≡ true → rests_at m e.lane ≡ true → AtRest m e.what e.lane (rows_drawn es)
 unfolding after sight
 comes_at_rest m e es h l z r = at_rest (course_at m.courses e.lane).form m _ _ _ e.lane e.owner e.what
     (rows_drawn es) r (form_lets m e h).1 (at_rest_lets m e h) z (λ over. none_drawn es (after m e) over l)
 
 -- nothing follows the end
-pub nothing_follows : (es : List Entry) (m : Machine) → m.ended ≡ true → MayFollow es m → es ≡ []
+pub nothing_follows : (es : List Entry) (m : MachineState) → m.ended ≡ true → MayFollow es m → es ≡ []
 nothing_follows [] m ended h = refl
 nothing_follows (e ∷ es) m ended h = clash _ ended (goes_on m e h.0)

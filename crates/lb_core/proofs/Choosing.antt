@@ -28,13 +28,13 @@ use Rattle.lb_core.specs.declared.entry.What.{What}
 use Rattle.lb_core.specs.declared.entry.What.TheVariants.{Row, Adopt, Look, Scan, End, Did, Out, Landed, Turn, Shut, Close, Ask, Kick, Over, Pub}
 use Rattle.lb_core.specs.declared.entry.Entry.{Entry}
 use Rattle.lb_core.specs.Same.{same_numbers, same_kind}
-use Rattle.lb_core.specs.Course.{ticked_cpu, is_tick, is_wake, is_rebuild, task_of, kind_of, turn_domain, is_pull, looks_again, outcome_of}
+use Rattle.lb_core.specs.Course.{ticked_cpu, is_tick, is_wake, is_rebuild, task_of, turn_kind, turn_domain, is_pull, looks_again, outcome_of}
 use Rattle.lb_core.specs.Sight.{Sight, by_cpu, tickless_in}
 use Rattle.lb_core.specs.Stage.{push_is_due, target_of, is_settled, draws, queue_due, is_queue, is_owner, stage_allows, waits_for_push, waits_for_stop}
 use Rattle.lb_core.specs.Leaving.{Leaving, wake_to, wake_out, leaving, out_by}
 use Rattle.lb_core.specs.Rules.{breaks_row, leaves_instead, breaks_reply, figures_due, breaks_figure, breaks_decision, is_other_out, breaks_pick, breaks_flight, word_of, positions_due, closed_counters, breaks_counters}
 use Rattle.lb_core.specs.QueueAfter.{answer_to}
-use Rattle.lb_core.specs.Machine.{Machine, queue_at, course_at, place_at, owned_queue, owned_count, figures_named, masks_for, figs_for, sight}
+use Rattle.lb_core.specs.Machine.{MachineState, queue_at, course_at, place_at, owned_queue, owned_count, figures_named, masks_for, figs_for, sight}
 use Rattle.lb_core.specs.Elsewhere.{first_pending, is_first_pending, all_rest, stage_at_rest, stage_of_use, is_at, task_elsewhere, answered_elsewhere, owed_elsewhere, unserved, end_is_wrong}
 use Rattle.lb_core.specs.Legal.{MayBeAdded}
 use Rattle.lb_core.proofs.Equality.{mask_is, lane_is, queue_is, publisher_is, kind_is, ask_is, cause_is, word_is, decision_is, number_is, numbers_same, reply_is}
@@ -61,19 +61,19 @@ cpu_of_place (AsleepAt cpu) = cpu
 cpu_of_place (GoneAt cpu) = cpu
 cpu_of_place (HandOf lane) = 0
 
-pub task_cpu : Option ℕ → Machine → ℕ
+pub task_cpu : Option ℕ → MachineState → ℕ
 task_cpu None m = 0
 task_cpu (Some t) m = cpu_of_place (place_at m t)
 
-abbrev pub cpu_else : Form → Machine → Course → ℕ
+abbrev pub cpu_else : Form → MachineState → Course → ℕ
 cpu_else Rest m c = unwrap_or (first_pending m) 0
 cpu_else f m c = task_cpu (task_of c.command) m
 
 -- the CPU whose queue draws next
-abbrev pub cpu_next : Form → Machine → Course → ℕ
+abbrev pub cpu_next : Form → MachineState → Course → ℕ
 cpu_next f m c = unwrap_or (queue_due f c) (cpu_else f m c)
 
-abbrev pub queue_next : Form → Machine → Course → QueueState
+abbrev pub queue_next : Form → MachineState → Course → QueueState
 queue_next f m c = queue_at m.queues (cpu_next f m c)
 
 abbrev pub owner_next : What → ℕ → ℕ → Owner
@@ -102,22 +102,22 @@ named_by (k ∷ ks) (n ∷ ns) = record { cpu = k; n = n } ∷ named_by ks ns
 named_by ks ns = []
 
 -- what a step reads, without what is named
-abbrev pub bare : Machine → Course → QueueState → Sight
+abbrev pub bare : MachineState → Course → QueueState → Sight
 bare m c q = record { header = m.header; course = c; queue = q; count = 0; masks = []; figs = [] }
 
-abbrev pub look_of : Form → Machine → Course → List ℕ → What
+abbrev pub look_of : Form → MachineState → Course → List ℕ → What
 look_of f m c ns =
     let names : List FigName = named_by (members (figures_due f (bare m c (queue_next f m c)))) ns in
     Look c.position c.excluded names
     (decision (turn_domain m.header c).shape (turn_domain m.header c).groups
-    (by_cpu (figures_named m.figures names)) c.cpu (kind_of c) c.excluded)
+    (by_cpu (figures_named m.figures names)) c.cpu (turn_kind c) c.excluded)
 
-abbrev pub scan_of : Form → Machine → Course → List ℕ → What
+abbrev pub scan_of : Form → MachineState → Course → List ℕ → What
 scan_of f m c ns =
     let names : List FigName = named_by (members (figures_due f (bare m c (queue_next f m c)))) ns in
     Scan names (least (tickless_in (figures_named m.figures names)))
 
-abbrev pub close_of : Machine → Course → QueueState → What
+abbrev pub close_of : MachineState → Course → QueueState → What
 close_of m c q =
     let s : Sight = bare m c q in
     Close c.position (word_of (outcome_of m.header c)) (closed_counters s).interval (closed_counters s).failures
@@ -126,7 +126,7 @@ abbrev pub row_or : Choice → ℕ → What → What
 row_or (ItsRow at command) n w = Row n at command
 row_or other n w = w
 
-abbrev pub what_next : Form → Machine → Course → QueueState → Choice → What
+abbrev pub what_next : Form → MachineState → Course → QueueState → Choice → What
 what_next Rest m c q chosen = row_or chosen (c.rows + 1)
     (cond (is_some (first_pending m)) (out_of (out_by Rest m.header c q)) (End (unserved m)))
 what_next Asked m c q chosen =
@@ -135,7 +135,7 @@ what_next Asked m c q chosen =
 what_next Flight m c q chosen = Landed (ids c.hand)
 what_next Serving m c q chosen = cond (has_owed q || push_is_due c q) (out_of (out_by Serving m.header c q))
     (Adopt (version_of chosen) TickTurn (unwrap_or (ticked_cpu c.command) 0))
-what_next Due m c q chosen = Adopt (version_of chosen) (kind_of c) c.cpu
+what_next Due m c q chosen = Adopt (version_of chosen) (turn_kind c) c.cpu
 what_next Used m c q chosen = cond (is_some q.open_turn) Shut (Turn (positions_due (bare m c q)))
 what_next Position m c q chosen = look_of Position m c (numbers_of chosen)
 what_next Looked m c q chosen = cond (is_pull c.decision) (out_of (out_by Looked m.header c q)) (close_of m c q)
@@ -146,12 +146,12 @@ what_next ScanDue m c q chosen = scan_of ScanDue m c (numbers_of chosen)
 what_next Kicking m c q chosen = Kick (kick q c.at).0
 what_next Ended m c q chosen = Over
 
-record IsNext (f : Form) (m : Machine) (lane : ℕ) (c : Course) (o : Owner) (w : What) : Type 0 where
+record IsNext (f : Form) (m : MachineState) (lane : ℕ) (c : Course) (o : Owner) (w : What) : Type 0 where
   owner : o ≡ owner_next w lane (cpu_next f m c)
   what : w ≡ what_next f m c (queue_next f m c) (choice_of w)
 
 -- ---- what is known of an entry that may be added
-abbrev sight_of : Machine → Course → Owner → What → Sight
+abbrev sight_of : MachineState → Course → Owner → What → Sight
 sight_of m c o w =
     record { header = m.header; course = c; queue = owned_queue o m; count = owned_count o m; masks = masks_for w m; figs = figs_for w m }
 
@@ -164,7 +164,7 @@ abbrev pick_wrong : Form → Sight → What → Bool
 pick_wrong f s (Out cause to tasks) = is_other_out (out_by f s.header s.course s.queue) cause to tasks
 pick_wrong f s w = false
 
-record Facts (f : Form) (m : Machine) (lane : ℕ) (c : Course) (o : Owner) (w : What) : Type 0 where
+record Facts (f : Form) (m : MachineState) (lane : ℕ) (c : Course) (o : Owner) (w : What) : Type 0 where
   owner : is_owner w lane (queue_due f c) o ≡ true
   drawn : draws f m.header c (owned_queue o m) lane w ≡ true
   at_rest : stage_at_rest f m o w ≡ false
@@ -197,7 +197,7 @@ place_queue (AsleepAt cpu) o h = queue_is o cpu h
 place_queue (GoneAt cpu) o h = queue_is o cpu h
 place_queue (HandOf lane) o h = absurd (let y : ⊥ = cc in y)
 
-asked_queue : (command : Option Command) (m : Machine) (o : Owner)
+asked_queue : (command : Option Command) (m : MachineState) (o : Owner)
     → (is_some command && not (is_rebuild command)) ≡ true → is_queue o (ticked_cpu command) ≡ true
     → task_elsewhere (task_of command) m o ≡ false →
     o ≡ Queue (unwrap_or (ticked_cpu command) (task_cpu (task_of command) m))
@@ -256,12 +256,12 @@ names_next names cpus h =
 
 -- ---- by form
 abbrev Next : Form → Type 0
-Next f = (m : Machine) (lane : ℕ) (c : Course) (o : Owner) (w : What) → Facts f m lane c o w → IsNext f m lane c o w
+Next f = (m : MachineState) (lane : ℕ) (c : Course) (o : Owner) (w : What) → Facts f m lane c o w → IsNext f m lane c o w
 
 row_number : (n r : ℕ) (b : Bool) → (not (eqb n r) || b) ≡ false → n ≡ r
 row_number n r b h = eqb-true n r (not-false _ (or_parts (not (eqb n r)) b h).0)
 
-queue_of : (m : Machine) (o : Owner) (cpu : ℕ) → o ≡ Queue cpu → owned_queue o m ≡ queue_at m.queues cpu
+queue_of : (m : MachineState) (o : Owner) (cpu : ℕ) → o ≡ Queue cpu → owned_queue o m ≡ queue_at m.queues cpu
 queue_of m o cpu e = ap (λ (x : Owner). owned_queue x m) e
 
 some_first : (p : Option ℕ) (o : Owner) → is_first_pending p o ≡ true → is_some p ≡ true
@@ -269,7 +269,7 @@ some_first None o h = absurd (let y : ⊥ = cc in y)
 some_first (Some cpu) o h = refl
 
 -- the `use` of a tick comes where nothing is left to serve
-tick_waits : (m : Machine) (c : Course) (kind : Kind) (cpu v : ℕ) → kind ≡ TickTurn → ticked_cpu c.command ≡ Some cpu →
+tick_waits : (m : MachineState) (c : Course) (kind : Kind) (cpu v : ℕ) → kind ≡ TickTurn → ticked_cpu c.command ≡ Some cpu →
     waits_for_push kind c (queue_at m.queues cpu) ≡ false → waits_for_stop kind (queue_at m.queues cpu) ≡ false →
     Adopt v kind cpu ≡ what_next Serving m c (queue_next Serving m c) (ItsVersion v)
 tick_waits m c kind cpu v a t p s =
@@ -344,8 +344,8 @@ serving_next m lane c o w k = absurd (let d = k.drawn in let y : ⊥ = cc in y)
 due_next : Next Due
 unfolding draws
 due_next m lane c o (Adopt v kind cpu) k =
-    let d = and_parts (same_kind kind (kind_of c)) (eqb cpu c.cpu) k.drawn in
-    let a = kind_is kind (kind_of c) d.0 in
+    let d = and_parts (same_kind kind (turn_kind c)) (eqb cpu c.cpu) k.drawn in
+    let a = kind_is kind (turn_kind c) d.0 in
     let b = eqb-true cpu c.cpu d.1 in
     record { owner = lane_is o lane k.owner; what = rw (a, b) refl }
 due_next m lane c o w k = absurd (let d = k.drawn in let y : ⊥ = cc in y)
@@ -362,7 +362,7 @@ used_next m lane c o Shut k =
 used_next m lane c o w k = absurd (let d = k.drawn in let y : ⊥ = cc in y)
 
 -- looks, closes and scans
-look_parts : (f : Form) (m : Machine) (c : Course) (o : Owner) (p : ℕ) (x : Mask) (names : List FigName)
+look_parts : (f : Form) (m : MachineState) (c : Course) (o : Owner) (p : ℕ) (x : Mask) (names : List FigName)
     (d : Decision) (cpus : List ℕ) → members (figures_due f (bare m c (queue_next f m c))) ≡ cpus →
     not (same_numbers (map (λ n. n.cpu) names) cpus) ≡ false
     → breaks_decision (sight_of m c o (Look p x names d)) (Look p x names d) ≡ false
@@ -377,9 +377,9 @@ look_parts f m c o p x names d cpus due n h =
     let v = decision_is d _ (not-false _ q.1) in
     rw (a, b, v) (ap (λ (l : List FigName). Look c.position c.excluded l
     (decision (turn_domain m.header c).shape (turn_domain m.header c).groups
-    (by_cpu (figures_named m.figures l)) c.cpu (kind_of c) c.excluded)) e)
+    (by_cpu (figures_named m.figures l)) c.cpu (turn_kind c) c.excluded)) e)
 
-scan_parts : (f : Form) (m : Machine) (c : Course) (o : Owner) (names : List FigName) (t : Option ℕ) (cpus : List ℕ)
+scan_parts : (f : Form) (m : MachineState) (c : Course) (o : Owner) (names : List FigName) (t : Option ℕ) (cpus : List ℕ)
     → members (figures_due f (bare m c (queue_next f m c))) ≡ cpus →
     not (same_numbers (map (λ n. n.cpu) names) cpus) ≡ false
     → breaks_decision (sight_of m c o (Scan names t)) (Scan names t) ≡ false → Scan names t ≡ scan_of f m c (map (λ n. n.n) names)
@@ -389,7 +389,7 @@ scan_parts f m c o names t cpus due n h =
     let v = number_is t _ (not-false _ h) in
     rw v (ap (λ (l : List FigName). Scan l (least (tickless_in (figures_named m.figures l)))) e)
 
-close_parts : (m : Machine) (c : Course) (o : Owner) (cpu p : ℕ) (word : OutcomeWord) (i f : ℕ) → o ≡ Queue cpu →
+close_parts : (m : MachineState) (c : Course) (o : Owner) (cpu p : ℕ) (word : OutcomeWord) (i f : ℕ) → o ≡ Queue cpu →
     breaks_decision (sight_of m c o (Close p word i f)) (Close p word i f) ≡ false
     → breaks_counters (sight_of m c o (Close p word i f)) (Close p word i f) ≡ false →
     Close p word i f ≡ close_of m c (queue_at m.queues cpu)
@@ -502,20 +502,20 @@ each_next Kicking = kicking_next
 each_next Ended = ended_next
 
 -- ---- an entry that may be added is the next one with its choice
-names_not_wrong : (m : Machine) (e : Entry) (w : What) → breaks_figure (sight m e) w ≡ false
+names_not_wrong : (m : MachineState) (e : Entry) (w : What) → breaks_figure (sight m e) w ≡ false
     → names_wrong (course_at m.courses e.lane).form (sight_of m (course_at m.courses e.lane) e.owner e.what) w ≡ false
 unfolding sight
 names_not_wrong m e (Look p x names d) h = (or_parts _ _ h).0
 names_not_wrong m e (Scan names t) h = (or_parts _ _ h).0
 names_not_wrong m e w h = refl
 
-pick_not_wrong : (m : Machine) (e : Entry) (w : What) → breaks_pick (sight m e) w ≡ false
+pick_not_wrong : (m : MachineState) (e : Entry) (w : What) → breaks_pick (sight m e) w ≡ false
     → pick_wrong (course_at m.courses e.lane).form (sight_of m (course_at m.courses e.lane) e.owner e.what) w ≡ false
 unfolding sight leaving
 pick_not_wrong m e (Out cause to tasks) h = h
 pick_not_wrong m e w h = refl
 
-facts : (m : Machine) (e : Entry) → MayBeAdded m e
+facts : (m : MachineState) (e : Entry) → MayBeAdded m e
     → Facts (course_at m.courses e.lane).form m e.lane (course_at m.courses e.lane) e.owner e.what
 unfolding sight stage_allows
 facts m e h =
@@ -540,7 +540,7 @@ facts m e h =
     }
 
 -- what and whose the next entry is, by the form of the course
-pub chosen : (m : Machine) (e : Entry) → MayBeAdded m e →
+pub chosen : (m : MachineState) (e : Entry) → MayBeAdded m e →
     (e.what ≡ what_next (course_at m.courses e.lane).form m (course_at m.courses e.lane)
     (queue_next (course_at m.courses e.lane).form m (course_at m.courses e.lane)) (choice_of e.what))
     × (e.owner ≡ owner_next e.what e.lane (cpu_next (course_at m.courses e.lane).form m (course_at m.courses e.lane)))

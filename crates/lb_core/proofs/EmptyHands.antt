@@ -22,7 +22,7 @@ use Rattle.lb_core.specs.declared.entry.What.TheVariants.{Row, Adopt, Look, Scan
 use Rattle.lb_core.specs.Sight.{Sight}
 use Rattle.lb_core.specs.Stage.{draws}
 use Rattle.lb_core.specs.Placed.{is_flight}
-use Rattle.lb_core.specs.CourseAfter.{course_by, drew, goes_to, scanned, kicks_next, kicked, ends_turn, turn_ends, after_sleep, answered, lands, closes}
+use Rattle.lb_core.specs.CourseAfter.{course_by, drew, goes_to, scanned, kicks_next, kicked, turn_ends_by, turn_ends, after_sleep, answered, lands, closes}
 
 abbrev pub is_landing : What → Bool
 is_landing (Landed ids) = true
@@ -64,7 +64,7 @@ cond_empty : (b : Bool) (x y : Course) → Empty x → Empty y → Empty (cond b
 cond_empty true x y h k = h
 cond_empty false x y h k = k
 
-ends_turn_empty : (k : Kind) (hd : Header) (c : Course) → Empty c → Empty (ends_turn k hd c)
+ends_turn_empty : (k : Kind) (hd : Header) (c : Course) → Empty c → Empty (turn_ends_by k hd c)
 ends_turn_empty TickTurn hd c h = cond_empty _ _ _ h refl
 ends_turn_empty Idle hd c h = refl
 ends_turn_empty Nohz hd c h = kicks_next_empty _ c h

@@ -23,14 +23,14 @@ use Rattle.lb_core.specs.declared.entry.What.{What}
 use Rattle.lb_core.specs.declared.entry.What.TheVariants.{Look, Scan, Did, Out, Landed, Turn, Shut, Close, Ask, Kick, Over}
 use Rattle.lb_core.specs.declared.entry.Entry.{Entry}
 use Rattle.lb_core.specs.declared.rule.Rule.TheVariants.{Decision as DecisionRule}
-use Rattle.lb_core.specs.Course.{kind_of, is_newly, is_pull, source_of, is_all_pinned}
+use Rattle.lb_core.specs.Course.{turn_kind, is_newly, is_pull, source_of, is_all_pinned}
 use Rattle.lb_core.specs.Sight.{Sight}
 use Rattle.lb_core.specs.Stage.{draws}
 use Rattle.lb_core.specs.Leaving.{Leaving, leaving, out_by}
 use Rattle.lb_core.specs.Rules.{breaks_decision}
 use Rattle.lb_core.specs.QueueAfter.{cause_of, queue_after}
-use Rattle.lb_core.specs.CourseAfter.{goes_to, takes_off, lands, closes, course_by, drew, cpu_of, course_after, names as names_of}
-use Rattle.lb_core.specs.Machine.{Machine, no_course, course_at, start, sight}
+use Rattle.lb_core.specs.CourseAfter.{goes_to, takes_off, lands, closes, course_by, drew, cpu_of, course_after, raised_numbers}
+use Rattle.lb_core.specs.Machine.{MachineState, no_course, course_at, start, sight}
 use Rattle.lb_core.specs.Elsewhere.{is_rest}
 use Rattle.lb_core.specs.Step.{after}
 use Rattle.lb_core.specs.Legal.{MayBeAdded, run, MayFollow}
@@ -83,7 +83,7 @@ goes_out (Some p) c = refl
 closes_out : (w : OutcomeWord) (c : Course) → Out_of (closes w c) no_cpus
 closes_out AskingWord c = refl
 closes_out NotMineWord c = tt
-closes_out MovedWord c = by_newly (is_newly (kind_of c))
+closes_out MovedWord c = by_newly (is_newly (turn_kind c))
   where
     by_newly : (b : Bool) → Out_of (cond b (goes_to None c) (goes_to (least_above c.positions c.position) c)) no_cpus
     by_newly true = tt
@@ -133,7 +133,7 @@ says_out (Look p x names v) s lane cpu now out d b k =
     looked_out v p x out s.course.excluded names (mask_is x s.course.excluded (not-false _ (or_parts _ _ (or_parts _ _ b).0).1))
 says_out (Scan names v) s lane cpu now out d b k =
     silent (course_by (Scan names v) s cpu now) out
-    (scanned_out v (record s.course { figures = s.figs; named = names_of names s.course.named })).0
+    (scanned_out v (record s.course { figures = s.figs; named = raised_numbers names s.course.named })).0
 says_out (Did r) s lane cpu now out d b k =
     silent (course_by (Did r) s cpu now) out (answered_out s.course.command cpu s.queue now s.course).0
 says_out (Out cause to ts) s lane cpu now out d b k = off (out_by s.course.form s.header s.course s.queue) refl
@@ -165,10 +165,10 @@ drew_says (Lane l) n c out k = k
 drew_says Publisher n c out k = k
 
 -- ---- every front
-abbrev pub LeftOut : List Entry → Machine → Type 0
+abbrev pub LeftOut : List Entry → MachineState → Type 0
 LeftOut pre m = (lane : ℕ) → Out_of (course_at m.courses lane) (last_said left_out lane no_cpus pre)
 
-left_out_step : (m : Machine) (e : Entry) (pre : List Entry) → MayBeAdded m e → LeftOut pre m → LeftOut (pre ++ e ∷ []) (after m e)
+left_out_step : (m : MachineState) (e : Entry) (pre : List Entry) → MayBeAdded m e → LeftOut pre m → LeftOut (pre ++ e ∷ []) (after m e)
 unfolding after course_after sight
 left_out_step m e pre a k lane = elim (cases_eq e.lane lane) [
   | inl same ↦

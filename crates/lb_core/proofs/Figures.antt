@@ -16,7 +16,7 @@ use Rattle.lb_core.specs.declared.entry.What.{What}
 use Rattle.lb_core.specs.declared.entry.Entry.{Entry}
 use Rattle.lb_core.specs.Same.{same_owner}
 use Rattle.lb_core.specs.QueueAfter.{queue_after}
-use Rattle.lb_core.specs.Machine.{Machine, no_queue, queue_at, figures_at, entries_at, opening_queue, start, sight}
+use Rattle.lb_core.specs.Machine.{MachineState, no_queue, queue_at, figures_at, entries_at, opening_queue, start, sight}
 use Rattle.lb_core.specs.Step.{after}
 use Rattle.lb_core.specs.Legal.{MayBeAdded, run, MayFollow}
 use Rattle.lb_core.specs.Passes.{drawn_at, up_to, IsFigureOf}
@@ -24,30 +24,30 @@ use Rattle.lb_core.proofs.Placing.{entry, cpu_there}
 use Rattle.lb_core.proofs.Opening.{opening_at, past}
 
 -- the figures of a CPU so far
-abbrev figs : Machine → ℕ → List Fig
+abbrev figs : MachineState → ℕ → List Fig
 figs m cpu = figures_at m.figures cpu
 
 -- ---- one entry
 -- there are as many lists of figures as queues
-abbrev pub Even : Machine → Type 0
+abbrev pub Even : MachineState → Type 0
 Even m = length m.figures ≡ length m.queues
 
-even_kept : (m : Machine) (o : Owner) (lane prev : ℕ) (w : What) → Even m → Even (after m (entry o lane prev w))
+even_kept : (m : MachineState) (o : Owner) (lane prev : ℕ) (w : What) → Even m → Even (after m (entry o lane prev w))
 unfolding after
 even_kept m (Queue u) lane prev w h = length-set m.figures u _ ∙ h ∙ sym (length-set m.queues u _)
 even_kept m o lane prev w h = h
 
-size_kept : (m : Machine) (o : Owner) (lane prev : ℕ) (w : What) → length (after m (entry o lane prev w)).queues ≡ length m.queues
+size_kept : (m : MachineState) (o : Owner) (lane prev : ℕ) (w : What) → length (after m (entry o lane prev w)).queues ≡ length m.queues
 unfolding after
 size_kept m (Queue u) lane prev w = length-set m.queues u _
 size_kept m o lane prev w = refl
 
 -- a queue's figure joins its list, and the other lists stay
-abbrev Joins : Bool → Machine → Machine → ℕ → Type 0
+abbrev Joins : Bool → MachineState → MachineState → ℕ → Type 0
 Joins true m m' cpu = figs m' cpu ≡ figs m cpu ++ figure (queue_at m'.queues cpu) (length (figs m cpu)) (m.ticket + 1) ∷ []
 Joins false m m' cpu = figs m' cpu ≡ figs m cpu
 
-joins : (m : Machine) (o : Owner) (lane prev cpu : ℕ) (w : What) → Even m → MayBeAdded m (entry o lane prev w)
+joins : (m : MachineState) (o : Owner) (lane prev cpu : ℕ) (w : What) → Even m → MayBeAdded m (entry o lane prev w)
     → Joins (same_owner o (Queue cpu)) m (after m (entry o lane prev w)) cpu
 unfolding after
 joins m (Queue u) lane prev cpu w h a =
@@ -68,7 +68,7 @@ joins m Publisher lane prev cpu w h a = refl
 
 -- ---- many entries
 -- a figure stays in its place
-stays : (es : List Entry) (m : Machine) (cpu i : ℕ) → Even m → MayFollow es m → i < length (figs m cpu)
+stays : (es : List Entry) (m : MachineState) (cpu i : ℕ) → Even m → MayFollow es m → i < length (figs m cpu)
     → get_or (figs (run es m) cpu) i no_fig ≡ get_or (figs m cpu) i no_fig
 stays [] m cpu i h l lt = refl
 stays (e ∷ es) m cpu i h l lt = by_owner (same_owner e.owner (Queue cpu))
@@ -83,7 +83,7 @@ stays (e ∷ es) m cpu i h l lt = by_owner (same_owner e.owner (Queue cpu))
     by_owner false j more = more (let k = ap length j in omega arith) ∙ ap (λ (x : List Fig). get_or x i no_fig) j
 
 -- one comes for each entry of the queue
-counts : (es : List Entry) (m : Machine) (cpu : ℕ) → Even m → MayFollow es m
+counts : (es : List Entry) (m : MachineState) (cpu : ℕ) → Even m → MayFollow es m
     → length (figs (run es m) cpu) ≡ length (figs m cpu) + drawn_at cpu es
 counts [] m cpu h l = omega arith
 counts (e ∷ es) m cpu h l = by_owner (same_owner e.owner (Queue cpu)) (joins m e.owner e.lane e.prev cpu e.what h l.0)
@@ -101,11 +101,11 @@ moved : (q : QueueState) (fs : List Fig) (i i' t t' : ℕ) → i ≡ i' → t �
 moved q fs i i' t t' a b h = rw (sym a, sym b) h
 
 -- the figure of the n-th entry from now on, where those so far are k
-abbrev IsAfter : ℕ → ℕ → ℕ → List Entry → Machine → Machine → Type 0
+abbrev IsAfter : ℕ → ℕ → ℕ → List Entry → MachineState → MachineState → Type 0
 IsAfter cpu k n front m end = get_or (figs end cpu) (k + n) no_fig ≡ figure (queue_at (run front m).queues cpu)
     (k + n) (m.ticket + length front)
 
-nth : (es : List Entry) (m : Machine) (cpu n : ℕ) → Even m → MayFollow es m → suc n ≤ drawn_at cpu es
+nth : (es : List Entry) (m : MachineState) (cpu n : ℕ) → Even m → MayFollow es m → suc n ≤ drawn_at cpu es
     → IsAfter cpu (length (figs m cpu)) n (up_to cpu (suc n) es) m (run es m)
 unfolding after
 nth [] m cpu n h l le = absurd (omega arith)
@@ -154,7 +154,7 @@ opening_figures h cpu =
       | inr b ↦ inr (b.0, let e = length-map-range_with_len (opening_queue h) 0 n in let k = b.1 in omega arith)
     ]
 
-none_come : (es : List Entry) (m : Machine) (cpu : ℕ) → Even m → length m.queues ≤ cpu → MayFollow es m → figs (run es m) cpu ≡ []
+none_come : (es : List Entry) (m : MachineState) (cpu : ℕ) → Even m → length m.queues ≤ cpu → MayFollow es m → figs (run es m) cpu ≡ []
 none_come [] m cpu h ge l = past m.figures cpu [] (omega arith)
 none_come (e ∷ es) m cpu h ge l = none_come es (after m e) cpu (even_kept m e.owner e.lane e.prev e.what h)
     (let k = size_kept m e.owner e.lane e.prev e.what in omega arith) l.1

@@ -13,7 +13,7 @@ use Rattle.lb_core.specs.declared.entry.What.TheVariants.{End}
 use Rattle.lb_core.specs.declared.entry.Entry.{Entry}
 use Rattle.lb_core.specs.Stage.{draws}
 use Rattle.lb_core.specs.CourseAfter.{course_after}
-use Rattle.lb_core.specs.Machine.{Machine, no_course, course_at, sight}
+use Rattle.lb_core.specs.Machine.{MachineState, no_course, course_at, sight}
 use Rattle.lb_core.specs.Elsewhere.{is_rest, all_rest, stage_at_rest}
 use Rattle.lb_core.specs.Step.{ended_after, after}
 use Rattle.lb_core.specs.Legal.{MayBeAdded, run, MayFollow}
@@ -22,43 +22,43 @@ use Rattle.lb_core.proofs.Placing.{form_lets}
 use Rattle.lb_core.proofs.AtWork.{rests_at, rest_each, clash, at_rest_lets}
 
 -- ---- parts of a front
-pub record Parts (before : List Entry) (e : Entry) (later : List Entry) (m : Machine) : Type 0 where
+pub record Parts (before : List Entry) (e : Entry) (later : List Entry) (m : MachineState) : Type 0 where
   pub first : MayFollow before m
   pub this : MayBeAdded (run before m) e
   pub last : MayFollow later (after (run before m) e)
 
-pub parts : (before : List Entry) (e : Entry) (later : List Entry) (m : Machine) → MayFollow (before ++ e ∷ later) m
+pub parts : (before : List Entry) (e : Entry) (later : List Entry) (m : MachineState) → MayFollow (before ++ e ∷ later) m
     → Parts before e later m
 parts [] e later m l = record { first = tt; this = l.0; last = l.1 }
 parts (x ∷ before) e later m l = let p = parts before e later (after m x) l.1 in
     record { first = (l.0, p.first); this = p.this; last = p.last }
 
-pub run-append : (xs ys : List Entry) (m : Machine) → run (xs ++ ys) m ≡ run ys (run xs m)
+pub run-append : (xs ys : List Entry) (m : MachineState) → run (xs ++ ys) m ≡ run ys (run xs m)
 run-append [] ys m = refl
 run-append (x ∷ xs) ys m = run-append xs ys (after m x)
 
 -- what each entry keeps holds of each front
-pub front_holds : (P : List Entry → Machine → Type 0)
-    → ((pre : List Entry) (m : Machine) (e : Entry) → MayBeAdded m e → P pre m → P (pre ++ e ∷ []) (after m e))
-    → (es pre : List Entry) (m : Machine) → MayFollow es m → P pre m → P (pre ++ es) (run es m)
+pub front_holds : (P : List Entry → MachineState → Type 0)
+    → ((pre : List Entry) (m : MachineState) (e : Entry) → MayBeAdded m e → P pre m → P (pre ++ e ∷ []) (after m e))
+    → (es pre : List Entry) (m : MachineState) → MayFollow es m → P pre m → P (pre ++ es) (run es m)
 front_holds P step [] pre m l k = subst (λ (x : List Entry). P x m) (sym (append-nil pre)) k
 front_holds P step (e ∷ es) pre m l k = subst (λ (x : List Entry). P x (run es (after m e)))
     (append_assoc pre (e ∷ []) es) (front_holds P step es (pre ++ e ∷ []) (after m e) l.1 (step pre m e l.0 k))
 
 -- ---- the next entry
-pub record IsNextOf (lane : ℕ) (m : Machine) (later : List Entry) (c : Course) (o : Entry) : Type 0 where
+pub record IsNextOf (lane : ℕ) (m : MachineState) (later : List Entry) (c : Course) (o : Entry) : Type 0 where
   pub same : course_at (run (until lane later) m).courses lane ≡ c
   pub added : MayBeAdded (run (until lane later) m) o
   pub own : o.lane ≡ lane
   pub rest : MayFollow (beyond lane later) (after (run (until lane later) m) o)
 
-course_stays : (m : Machine) (x : Entry) (lane : ℕ) → (x.lane == lane) ≡ false
+course_stays : (m : MachineState) (x : Entry) (lane : ℕ) → (x.lane == lane) ≡ false
     → course_at (after m x).courses lane ≡ course_at m.courses lane
 unfolding after
 course_stays m x lane h = get_or-set_other m.courses x.lane lane (course_after (sight m x) x) no_course
     (λ z. let w = eqb-false x.lane lane h in w (sym z))
 
-next_step : (lane : ℕ) (m : Machine) (x : Entry) (later : List Entry) (c : Course) (o : Entry) (b : Bool)
+next_step : (lane : ℕ) (m : MachineState) (x : Entry) (later : List Entry) (c : Course) (o : Entry) (b : Bool)
     → (x.lane == lane) ≡ b → course_at m.courses lane ≡ c → MayBeAdded m x → MayFollow later (after m x) →
     (course_at (after m x).courses lane ≡ c → next_of lane later ≡ Some o → IsNextOf lane (after m x) later c o)
     → cond b (Some x) (next_of lane later) ≡ Some o → IsNextOf lane m (x ∷ later) c o
@@ -86,21 +86,21 @@ next_step lane m x later c o false h at a l more e =
           (subst (λ (es : List Entry). MayFollow (beyond lane later) (after (run es m) o)) (sym u) r.rest);
     }
 
-pub next_is : (lane : ℕ) (later : List Entry) (m : Machine) (c : Course) (o : Entry) → course_at m.courses lane ≡ c
+pub next_is : (lane : ℕ) (later : List Entry) (m : MachineState) (c : Course) (o : Entry) → course_at m.courses lane ≡ c
     → MayFollow later m → next_of lane later ≡ Some o → IsNextOf lane m later c o
 next_is lane [] m c o at l e = absurd (let y : ⊥ = cc in y)
 next_is lane (x ∷ later) m c o at l e = next_step lane m x later c o (x.lane == lane) refl at l.0 l.1
     (λ at' e'. next_is lane later (after m x) c o at' l.1 e') e
 
 -- ---- a lane that does not rest has one, where the history ends
-no_end : (f : Form) (m : Machine) (h : Header) (c : Course) (q : QueueState) (lane : ℕ) (o : Owner) (w : What)
+no_end : (f : Form) (m : MachineState) (h : Header) (c : Course) (q : QueueState) (lane : ℕ) (o : Owner) (w : What)
     → draws f h c q lane w ≡ true → stage_at_rest f m o w ≡ false → (all_rest m ≡ true → ⊥) → ended_after w m.ended ≡ m.ended
 unfolding draws
 no_end Rest m h c q lane o (End unserved) d s n = absurd (n (not-false _ s))
 no_end f m h c q lane o (End unserved) d s n = absurd (let y : ⊥ = cc in y)
 no_end f m h c q lane o w d s n = refl
 
-pub some_next : (lane : ℕ) (later : List Entry) (m : Machine) → rests_at m lane ≡ false → m.ended ≡ false
+pub some_next : (lane : ℕ) (later : List Entry) (m : MachineState) → rests_at m lane ≡ false → m.ended ≡ false
     → MayFollow later m → (run later m).ended ≡ true → (o : Entry) × (next_of lane later ≡ Some o)
 unfolding after
 some_next lane [] m r n l e = clash _ e n

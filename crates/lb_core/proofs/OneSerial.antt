@@ -18,7 +18,7 @@ use Rattle.lb_core.specs.declared.history.History.{History}
 use Rattle.lb_core.specs.declared.rule.Rule.TheVariants.{Figure}
 use Rattle.lb_core.specs.Sight.{Sight}
 use Rattle.lb_core.specs.Rules.{figures_due, are_wrong}
-use Rattle.lb_core.specs.Machine.{Machine, no_queue, course_at, entries_at, start, sight}
+use Rattle.lb_core.specs.Machine.{MachineState, no_queue, course_at, entries_at, start, sight}
 use Rattle.lb_core.specs.Step.{after}
 use Rattle.lb_core.specs.Legal.{MayBeAdded, run, MayFollow, IsLegalHistory}
 use Rattle.lb_core.specs.OfTrace.{row_of, rows_drawn}
@@ -38,7 +38,7 @@ due_same : (f : Form) (s : Sight) → figures_due f s ≡ figures_due f (sight_o
 due_same ScanDue s = refl
 due_same f s = refl
 
-newest_are : (m : Machine) (names : List FigName) → are_newest m names ≡ true
+newest_are : (m : MachineState) (names : List FigName) → are_newest m names ≡ true
     → map (λ f. f.n) names ≡ map (entries_at m) (map (λ f. f.cpu) names)
 newest_are m [] h = refl
 newest_are m (f ∷ fs) h =
@@ -47,10 +47,10 @@ newest_are m (f ∷ fs) h =
     rw (a, newest_are m fs p.1) refl
 
 -- the numbers that the figures have to have
-numbers_due : Machine → ℕ → List ℕ
+numbers_due : MachineState → ℕ → List ℕ
 numbers_due m lane = let c = course_at m.courses lane in map (entries_at m) (members (figures_due c.form (sight_of m.header c)))
 
-named_due : (m : Machine) (s : Sight) (names : List FigName) → are_wrong s names ≡ false → are_newest m names ≡ true
+named_due : (m : MachineState) (s : Sight) (names : List FigName) → are_wrong s names ≡ false → are_newest m names ≡ true
     → map (λ f. f.n) names ≡ map (entries_at m) (members (figures_due s.course.form (sight_of s.header s.course)))
 named_due m s names h z =
     let e : map (λ f. f.cpu) names ≡ members (figures_due s.course.form s) = numbers_same _ _ (not-false _ (or_parts _ _ h).0) in
@@ -58,14 +58,14 @@ named_due m s names h z =
 
 -- ---- what a serial history chooses
 -- the version, or the figures' numbers, that the entry has to name; no row
-abbrev Chosen : Machine → ℕ → What → Type 0
+abbrev Chosen : MachineState → ℕ → What → Type 0
 Chosen m lane (Row n at command) = ⊥
 Chosen m lane (Adopt v kind cpu) = v ≡ length m.versions
 Chosen m lane (Look p x names d) = map (λ f. f.n) names ≡ numbers_due m lane
 Chosen m lane (Scan names t) = map (λ f. f.n) names ≡ numbers_due m lane
 Chosen m lane w = Unit {0}
 
-agree : (m : Machine) (lane : ℕ) (v w : What) → Chosen m lane v → Chosen m lane w → Agree v w
+agree : (m : MachineState) (lane : ℕ) (v w : What) → Chosen m lane v → Chosen m lane w → Agree v w
 agree m lane (Row n at command) w a b = absurd a
 agree m lane v (Row n at command) a b = absurd b
 agree m lane (Adopt v kind cpu) (Adopt v' kind' cpu') a b = a ∙ sym b
@@ -73,7 +73,7 @@ agree m lane (Look p x names d) (Look p' x' names' d') a b = a ∙ sym b
 agree m lane (Scan names t) (Scan names' t') a b = a ∙ sym b
 agree m lane v w a b = tt
 
-chosen : (m : Machine) (o : Owner) (lane prev : ℕ) (w : What) → MayBeAdded m (entry o lane prev w)
+chosen : (m : MachineState) (o : Owner) (lane prev : ℕ) (w : What) → MayBeAdded m (entry o lane prev w)
     → is_serial m w ≡ true → rests_at m lane ≡ false → Chosen m lane w
 unfolding sight numbers_due
 chosen m o lane prev (Row n at command) h z r = let e = entry o lane prev (Row n at command) in
@@ -117,7 +117,7 @@ rows_left : (w : What) (lane : ℕ) (xs ys : List TraceRow) → row_of w lane ++
 rows_left (Row n at command) lane xs ys h = cc
 rows_left w lane xs ys h = h
 
-one_comes : (m : Machine) (a b : Entry) (es fs : List Entry) → OneAtWork m → MayBeAdded m a → MayBeAdded m b
+one_comes : (m : MachineState) (a b : Entry) (es fs : List Entry) → OneAtWork m → MayBeAdded m a → MayBeAdded m b
     → MayFollow es (after m a) → MayFollow fs (after m b) → is_serial m a.what ≡ true → is_serial m b.what ≡ true →
     rows_drawn (a ∷ es) ≡ rows_drawn (b ∷ fs) → a ≡ b
 one_comes m a b es fs one ha hb la lb za zb rows = by_rest (rests_at m a.lane) refl
@@ -136,11 +136,11 @@ one_comes m a b es fs one ha hb la lb za zb rows = by_rest (rests_at m a.lane) r
         (subst (λ (l : ℕ). Chosen m l b.what) (sym same) cb))
 
 -- ---- from a common state
-abbrev Rest_ : Machine → List Entry → Entry → List Entry → Entry → Type 0
+abbrev Rest_ : MachineState → List Entry → Entry → List Entry → Entry → Type 0
 Rest_ m es a fs b = MayFollow fs (after m b) → (run fs (after m b)).ended ≡ true → AreSerial fs (after m b)
     → row_of a.what a.lane ++ rows_drawn es ≡ row_of b.what b.lane ++ rows_drawn fs → a ∷ es ≡ b ∷ fs
 
-same_from : (es fs : List Entry) (m : Machine) → OneAtWork m → MayFollow es m → MayFollow fs m
+same_from : (es fs : List Entry) (m : MachineState) → OneAtWork m → MayFollow es m → MayFollow fs m
     → (run es m).ended ≡ true → (run fs m).ended ≡ true → AreSerial es m → AreSerial fs m → rows_drawn es ≡ rows_drawn fs → es ≡ fs
 same_from [] fs m one ha hb ea eb za zb rows = sym (nothing_follows fs m ea hb)
 same_from (a ∷ es) [] m one ha hb ea eb za zb rows = nothing_follows (a ∷ es) m eb ha

@@ -7,31 +7,31 @@ use Rattle.lb_core.specs.declared.course.Form.{Form}
 use Rattle.lb_core.specs.declared.course.Form.TheVariants.{Flight, Used, Position, Looked, Landed, Closed, Done}
 use Rattle.lb_core.specs.declared.entry.Entry.{Entry}
 use Rattle.lb_core.specs.QueueAfter.{cause_of}
-use Rattle.lb_core.specs.Machine.{Machine, course_at, start}
+use Rattle.lb_core.specs.Machine.{MachineState, course_at, start}
 use Rattle.lb_core.specs.Legal.{run}
 use Rattle.lb_core.specs.OpenTurns.{IsVersion, IsOpenFor, IsAtPosition, FliesInTurn, TurnIn, TurnsStayOpen}
 use Rattle.lb_core.proofs.Turns.{working, opens, open_turns, use_key, key_of, IsPublished}
 use Rattle.lb_core.proofs.Turning.{TurnLaws, InTurn, turning_at}
 
-version_of : (m : Machine) (c : Course) → IsPublished m.versions (use_key c) → IsVersion m c.version c.masks
+version_of : (m : MachineState) (c : Course) → IsPublished m.versions (use_key c) → IsVersion m c.version c.masks
 version_of m c u = record { from_first = u.from; published = u.to; masks_are = u.masks }
 
-opened_as : (lane : ℕ) (es : List Entry) (m : Machine) (f : Form) (o : OutCause) (c : Course) → opens f o ≡ true
+opened_as : (lane : ℕ) (es : List Entry) (m : MachineState) (f : Form) (o : OutCause) (c : Course) → opens f o ≡ true
     → InTurn lane es m f o (key_of c) → IsOpenFor m lane c
 opened_as lane es m f o c k i =
     let t = (i.open_ k).there in
     record { taken_up = version_of m c ((i.used (open_turns f o k)).published); opened = t.opened; inside = t.below }
 
-at_position : (lane : ℕ) (es : List Entry) (m : Machine) (f : Form) (o : OutCause) (c : Course) → opens f o ≡ true
+at_position : (lane : ℕ) (es : List Entry) (m : MachineState) (f : Form) (o : OutCause) (c : Course) → opens f o ≡ true
     → working f ≡ true → InTurn lane es m f o (key_of c) → IsAtPosition m lane c
 at_position lane es m f o c k w i = (opened_as lane es m f o c k i, (i.open_ k).one w)
 
-in_flight : (o : OutCause) (lane : ℕ) (es : List Entry) (m : Machine) (c : Course)
+in_flight : (o : OutCause) (lane : ℕ) (es : List Entry) (m : MachineState) (c : Course)
     → InTurn lane es m Flight o (key_of c) → FliesInTurn o m lane c
 in_flight PullOut lane es m c i = at_position lane es m Flight PullOut c refl refl i
 in_flight o lane es m c i = tt
 
-by_form : (f : Form) (lane : ℕ) (es : List Entry) (m : Machine) (c : Course)
+by_form : (f : Form) (lane : ℕ) (es : List Entry) (m : MachineState) (c : Course)
     → InTurn lane es m f (cause_of c) (key_of c) → TurnIn f m lane c
 by_form Used lane es m c i = version_of m c ((i.used refl).published)
 by_form Position lane es m c i = at_position lane es m Position (cause_of c) c refl refl i

@@ -13,7 +13,7 @@ use Rattle.lb_imbalance.specs.Decision.{decision}
 use Rattle.lb_queue.specs.declared.answers.OutCause.TheVariants.{Pull as PullOut}
 use Rattle.lb_queue.specs.Tasks.{ids, awake_ids}
 use Rattle.lb_queue.specs.Queue.{QueueState}
-use Rattle.lb_queue.specs.Hands.{pull, taken_by}
+use Rattle.lb_queue.specs.Hands.{take_pull, taken_by}
 use Rattle.lb_trace.specs.declared.trace.Header.{Header}
 use Rattle.lb_core.specs.declared.course.Course.{Course}
 use Rattle.lb_core.specs.declared.course.Form.{Form}
@@ -30,13 +30,13 @@ use Rattle.lb_base.specs.Mask.{has, members, without, either, only, no_cpus}
 use Rattle.lb_imbalance.specs.Destination.{is_busy}
 use Rattle.lb_core.specs.Stage.{draws}
 use Rattle.lb_queue.specs.Turns.{counters_at, tries_of}
-use Rattle.lb_core.specs.Course.{kind_of, is_newly, turn_domain, domain_at, env_by}
+use Rattle.lb_core.specs.Course.{turn_kind, is_newly, turn_domain, domain_at, env_by}
 use Rattle.lb_core.specs.Sight.{Sight, by_cpu}
 use Rattle.lb_core.specs.Leaving.{leaving, pull_out, out_by}
 use Rattle.lb_core.specs.Rules.{figures_due}
 use Rattle.lb_core.specs.QueueAfter.{cause_of, queue_after, rest_of}
 use Rattle.lb_core.specs.CourseAfter.{course_after, drew, takes_off}
-use Rattle.lb_core.specs.Machine.{Machine, no_queue, no_course, queue_at, course_at, masks_at, entries_at, figures_named, start, sight}
+use Rattle.lb_core.specs.Machine.{MachineState, no_queue, no_course, queue_at, course_at, masks_at, entries_at, figures_named, start, sight}
 use Rattle.lb_core.specs.Step.{after}
 use Rattle.lb_core.specs.Legal.{MayBeAdded, run, MayFollow, IsLegalFront}
 use Rattle.lb_core.specs.LaneEntries.{next_of, until, beyond, last_said, last_row, Use}
@@ -56,10 +56,10 @@ use Rattle.lb_core.proofs.Turning.{TurnLaws, in_turn_from, Turning, run-header, 
 
 -- ---- what a look says
 abbrev use_of : Course → Use
-use_of c = record { version = c.version; kind = kind_of c; cpu = c.cpu }
+use_of c = record { version = c.version; kind = turn_kind c; cpu = c.cpu }
 
 -- over these domains, at this position and without these CPUs, where its lane's turn found `found`
-record Says (m : Machine) (c : Course) (found : List Counters) (names : List FigName) (d : Decision) (h : Header)
+record Says (m : MachineState) (c : Course) (found : List Counters) (names : List FigName) (d : Decision) (h : Header)
     (masks : List Mask) (p : ℕ) (x : Mask) : Type 0 where
   position : c.position ≡ p
   one : has c.positions p ≡ true
@@ -68,7 +68,7 @@ record Says (m : Machine) (c : Course) (found : List Counters) (names : List Fig
   read : map (λ name. name.cpu) names ≡ members (without (domain_at (domains_of h.cpus h.distances masks c.cpu) p).shape.span x)
   decided :
       let domain = domain_at (domains_of h.cpus h.distances masks c.cpu) p in
-      d ≡ decision domain.shape domain.groups (by_cpu (figures_named m.figures names)) c.cpu (kind_of c) x
+      d ≡ decision domain.shape domain.groups (by_cpu (figures_named m.figures names)) c.cpu (turn_kind c) x
   failures : (counters_at c.counters c.position).failures ≡ (counters_at found p).failures
   tries : tries_of (turn_domain m.header c).shape.name ≡ tries_of (domain_at (domains_of h.cpus h.distances masks c.cpu) p).shape.name
   others : (s : ℕ) → others_of (turn_domain m.header c) (either c.excluded (only s)) ≡ others_of
@@ -83,10 +83,10 @@ due_at_look LandedForm h c q lane p x names d s k = refl
 due_at_look f h c q lane p x names d s k = absurd (let y : ⊥ = cc in y)
 
 -- the counters of the queue whose turn is open
-found_at : Machine → ℕ → List Counters
+found_at : MachineState → ℕ → List Counters
 found_at m cpu = unwrap_or (queue_at m.queues cpu).counters []
 
-says : (m : Machine) (o : Owner) (lane prev p : ℕ) (x : Mask) (names : List FigName) (d : Decision)
+says : (m : MachineState) (o : Owner) (lane prev p : ℕ) (x : Mask) (names : List FigName) (d : Decision)
     → MayBeAdded m (entry o lane prev (Look p x names d)) → (pre : List Entry) → Turning pre m →
     Says m (course_at m.courses lane) (found_at m (course_at m.courses lane).cpu) names d m.header (course_at m.courses lane).masks p x
 unfolding sight found_at
@@ -127,22 +127,22 @@ looked c s kind i idle named = record c { form = Looked; decision = Some (Pull s
 -- what the next entry is where the course is a look that pulls
 out_env : Option Env → ℕ → QueueState → What
 out_env None at q = Over
-out_env (Some env) at q = Out PullOut env.to (ids (pull q at env).0)
+out_env (Some env) at q = Out PullOut env.to (ids (take_pull q at env).0)
 
-what_pulled : (m : Machine) (c : Course) (s : ℕ) (kind : MoveKind) (i : ℕ) (idle : Bool) (ns : List ℕ) (env : Env)
+what_pulled : (m : MachineState) (c : Course) (s : ℕ) (kind : MoveKind) (i : ℕ) (idle : Bool) (ns : List ℕ) (env : Env)
     (ch : _) → env_by m.header (looked c s kind i idle ns) (Some (Pull s kind i)) ≡ Some env →
     what_next Looked m (looked c s kind i idle ns)
-    (queue_next Looked m (looked c s kind i idle ns)) ch ≡ Out PullOut env.to (ids (pull (queue_at m.queues s) c.at env).0)
+    (queue_next Looked m (looked c s kind i idle ns)) ch ≡ Out PullOut env.to (ids (take_pull (queue_at m.queues s) c.at env).0)
 unfolding out_env
 what_pulled m c s kind i idle ns env ch e = ap (λ (x : Option Env). out_env x c.at (queue_at m.queues s)) e
 
-pulled : (m : Machine) (o : Entry) (c : Course) (s : ℕ) (kind : MoveKind) (i : ℕ) (idle : Bool) (ns : List ℕ)
+pulled : (m : MachineState) (o : Entry) (c : Course) (s : ℕ) (kind : MoveKind) (i : ℕ) (idle : Bool) (ns : List ℕ)
     (env : Env) → course_at m.courses o.lane ≡ looked c s kind i idle ns
     → env_by m.header (looked c s kind i idle ns) (Some (Pull s kind i)) ≡ Some env → MayBeAdded m o →
-    (o.what ≡ Out PullOut env.to (ids (pull (queue_at m.queues s) c.at env).0)) × (o.owner ≡ Queue s)
+    (o.what ≡ Out PullOut env.to (ids (take_pull (queue_at m.queues s) c.at env).0)) × (o.owner ≡ Queue s)
 pulled m o c s kind i idle ns env at e a =
     let n = chosen m o a in
-    let w : o.what ≡ Out PullOut env.to (ids (pull (queue_at m.queues s) c.at env).0) =
+    let w : o.what ≡ Out PullOut env.to (ids (take_pull (queue_at m.queues s) c.at env).0) =
     n.0
     ∙ ap (λ (x : Course). what_next x.form m x (queue_next x.form m x) (choice_of o.what)) at
     ∙ what_pulled m c s kind i idle ns env (choice_of o.what) e in
@@ -150,15 +150,15 @@ pulled m o c s kind i idle ns env at e a =
     ∙ ap (λ (x : What). owner_next x o.lane s) w in
     (w, v)
 
-rest_env : (o : Option Env) (env : Env) (at : ℕ) (q : QueueState) → o ≡ Some env → rest_of (pull_out o at q) q ≡ (pull q at env).1
+rest_env : (o : Option Env) (env : Env) (at : ℕ) (q : QueueState) → o ≡ Some env → rest_of (pull_out o at q) q ≡ (take_pull q at env).1
 rest_env None env at q e = absurd (let y : ⊥ = cc in y)
-rest_env (Some x) env at q e = let k : x ≡ env = cc in ap (λ (z : Env). (pull q at z).1) k
+rest_env (Some x) env at q e = let k : x ≡ env = cc in ap (λ (z : Env). (take_pull q at z).1) k
 
-rest_here : (m : Machine) (lane prev : ℕ) (c : Course) (s : ℕ) (kind : MoveKind) (i : ℕ) (idle : Bool) (ns : List ℕ)
+rest_here : (m : MachineState) (lane prev : ℕ) (c : Course) (s : ℕ) (kind : MoveKind) (i : ℕ) (idle : Bool) (ns : List ℕ)
     (env : Env) (to : ℕ) (ts : List ℕ) → course_at m.courses lane ≡ looked c s kind i idle ns →
     env_by m.header (looked c s kind i idle ns) (Some (Pull s kind i)) ≡ Some env
     → MayBeAdded m (entry (Queue s) lane prev (Out PullOut to ts)) →
-    queue_at (after m (entry (Queue s) lane prev (Out PullOut to ts))).queues s ≡ (pull (queue_at m.queues s) c.at env).1
+    queue_at (after m (entry (Queue s) lane prev (Out PullOut to ts))).queues s ≡ (take_pull (queue_at m.queues s) c.at env).1
 unfolding after sight queue_after leaving
 rest_here m lane prev c s kind i idle ns env to ts at e a =
     get_or-set_same m.queues s (queue_after (sight m (entry (Queue s) lane prev (Out PullOut to ts)))
@@ -167,7 +167,7 @@ rest_here m lane prev c s kind i idle ns env to ts at e a =
     ∙ rest_env (env_by m.header (looked c s kind i idle ns) (Some (Pull s kind i))) env c.at (queue_at m.queues s) e
 
 -- the course that it leaves
-off_here : (m : Machine) (lane prev : ℕ) (c : Course) (s : ℕ) (kind : MoveKind) (i : ℕ) (idle : Bool) (ns : List ℕ)
+off_here : (m : MachineState) (lane prev : ℕ) (c : Course) (s : ℕ) (kind : MoveKind) (i : ℕ) (idle : Bool) (ns : List ℕ)
     (env : Env) (to : ℕ) (ts : List ℕ) → course_at m.courses lane ≡ looked c s kind i idle ns →
     env_by m.header (looked c s kind i idle ns) (Some (Pull s kind i)) ≡ Some env
     → MayBeAdded m (entry (Queue s) lane prev (Out PullOut to ts)) →
@@ -185,11 +185,11 @@ off_here m lane prev c s kind i idle ns env to ts at e a =
     (record { form = refl; cause = refl; taken = refl; source = refl; excluded = refl; place = refl })
 
 -- what it leaves: of its source, and of its lane
-record Leaves (m : Machine) (o : Entry) (c : Course) (s : ℕ) (env : Env) : Type 0 where
-  queue : queue_at (after m o).queues s ≡ (pull (queue_at m.queues s) c.at env).1
+record Leaves (m : MachineState) (o : Entry) (c : Course) (s : ℕ) (env : Env) : Type 0 where
+  queue : queue_at (after m o).queues s ≡ (take_pull (queue_at m.queues s) c.at env).1
   course : IsOff c (course_at (after m o).courses o.lane) s (taken_by (queue_at m.queues s) c.at env)
 
-leaves : (m : Machine) (o : Owner) (lane prev : ℕ) (w : What) (c : Course) (s : ℕ) (kind : MoveKind) (i : ℕ)
+leaves : (m : MachineState) (o : Owner) (lane prev : ℕ) (w : What) (c : Course) (s : ℕ) (kind : MoveKind) (i : ℕ)
     (idle : Bool) (ns : List ℕ) (env : Env) (to : ℕ) (ts : List ℕ) → o ≡ Queue s → w ≡ Out PullOut to ts
     → course_at m.courses lane ≡ looked c s kind i idle ns →
     env_by m.header (looked c s kind i idle ns) (Some (Pull s kind i)) ≡ Some env → MayBeAdded m (entry o lane prev w)
@@ -209,14 +209,14 @@ abbrev env_at : Header → Course → ℕ → MoveKind → ℕ → Bool → List
 env_at h c s kind i idle ns = record {
   to = c.cpu;
   idle = idle;
-  newly = is_newly (kind_of c);
+  newly = is_newly (turn_kind c);
   kind = kind;
   imbalance = i;
   failures = (counters_at c.counters c.position).failures;
   tries = tries_of (turn_domain h c).shape.name;
 }
 
-take_is : PullsFollowPicks → (m : Machine) (o : Entry) (c : Course) (s : ℕ) (kind : MoveKind) (i : ℕ) (idle : Bool)
+take_is : PullsFollowPicks → (m : MachineState) (o : Entry) (c : Course) (s : ℕ) (kind : MoveKind) (i : ℕ) (idle : Bool)
     (ns : List ℕ) (es : List Entry) → course_at m.courses o.lane ≡ looked c s kind i idle ns → MayBeAdded m o → MayFollow es (after m o) →
     IsTake (env_at m.header c s kind i idle ns) c.position
     (others_of (turn_domain m.header c) (either c.excluded (only s))) s c.at m o (next_of o.lane (beyond o.lane es))
@@ -234,7 +234,7 @@ take_is law m o c s kind i idle ns es at a l =
       again = after_take o.lane es (after m o) c (course_at (after m o).courses o.lane) s (taken_by q c.at env) refl left.course l;
     }
 
-takes : (d : Decision) (env : MoveKind → ℕ → Env) (p : ℕ) (others : ℕ → Mask) (at : ℕ) (m : Machine) (o next : Option Entry) →
+takes : (d : Decision) (env : MoveKind → ℕ → Env) (p : ℕ) (others : ℕ → Mask) (at : ℕ) (m : MachineState) (o next : Option Entry) →
     ((s : ℕ) (kind : MoveKind) (i : ℕ) (x : Entry) → d ≡ Pull s kind i → o ≡ Some x
     → IsTake (env kind i) p (others s) s at m x next) → Takes d env p others at m o next
 takes NotMine env p others at m o next f = tt
@@ -249,15 +249,15 @@ none_any p (x ∷ xs) h zero d lt = (or_parts (p x) _ h).0
 none_any p (x ∷ xs) h (suc k) d lt = none_any p xs ((or_parts (p x) _ h).1) k d (omega arith)
 
 -- the course that a look leaves
-abbrev looks : Machine → Course → List FigName → Decision → List ℕ → Course
+abbrev looks : MachineState → Course → List FigName → Decision → List ℕ → Course
 looks m c names d ns = record c {
   form = Looked;
   decision = Some d;
-  idle = not (is_busy (kind_of c) (by_cpu (figures_named m.figures names)) c.cpu);
+  idle = not (is_busy (turn_kind c) (by_cpu (figures_named m.figures names)) c.cpu);
   named = ns;
 }
 
-after_look : (m : Machine) (lane prev p : ℕ) (x : Mask) (names : List FigName) (d : Decision)
+after_look : (m : MachineState) (lane prev p : ℕ) (x : Mask) (names : List FigName) (d : Decision)
     → MayBeAdded m (entry (Lane lane) lane prev (Look p x names d)) → (ns : List ℕ)
     × (course_at (after m (entry (Lane lane) lane prev (Look p x names d))).courses lane ≡ looks m (course_at m.courses lane) names d ns)
 unfolding after sight course_after
@@ -268,16 +268,16 @@ after_look m lane prev p x names d a = (
 )
 
 -- what a take asks for, by the course and by the queue
-same_env : (h : Header) (m : Machine) (c : Course) (p : ℕ) (names : List FigName) (s : ℕ) (kind : MoveKind) (i : ℕ)
+same_env : (h : Header) (m : MachineState) (c : Course) (p : ℕ) (names : List FigName) (s : ℕ) (kind : MoveKind) (i : ℕ)
     (ns : List ℕ) (x : Mask) (d : Decision) → Says m c (found_at m c.cpu) names d h (masks_at m c.version) p x →
-    env_at m.header c s kind i (not (is_busy (kind_of c) (by_cpu (figures_named m.figures names)) c.cpu))
+    env_at m.header c s kind i (not (is_busy (turn_kind c) (by_cpu (figures_named m.figures names)) c.cpu))
     ns ≡ env_of_pass h m (use_of c) p names kind i
 unfolding found_at
 same_env h m c p names s kind i ns x d says =
     let f : ℕ → ℕ → Env = λ failures tries. record {
       to = c.cpu;
-      idle = not (is_busy (kind_of c) (by_cpu (figures_named m.figures names)) c.cpu);
-      newly = is_newly (kind_of c);
+      idle = not (is_busy (turn_kind c) (by_cpu (figures_named m.figures names)) c.cpu);
+      newly = is_newly (turn_kind c);
       kind = kind;
       imbalance = i;
       failures = failures;
@@ -327,7 +327,7 @@ look_pass turns law h before later lane prev p x names d legal =
       taken = takes d (env_of_pass h m (use_of c) p names) p others (last_row lane before).1
           (run (before ++ e ∷ until lane later) (start h)) (next_of lane later)
           (next_of lane (beyond lane (beyond lane later))) (λ s kind i o pulls next.
-          let idle = not (is_busy (kind_of c) (by_cpu (figures_named m.figures names)) c.cpu) in
+          let idle = not (is_busy (turn_kind c) (by_cpu (figures_named m.figures names)) c.cpu) in
           let at : course_at (after m e).courses lane ≡ looked c s kind i idle left.0 =
           left.1 ∙ ap (λ (y : Decision). looks m c names y left.0) pulls in
           let n = next_is lane later (after m e) (looked c s kind i idle left.0) o at ps.last next in
@@ -338,12 +338,12 @@ look_pass turns law h before later lane prev p x names d legal =
           let env = ap (λ (hh : Header). env_at hh c s kind i idle left.0) own ∙ same_env h m c p names s kind i left.0 x d said in
           let left_same : others_of (turn_domain mm.header c) (either c.excluded (only s)) ≡ others s =
           ap (λ (hh : Header). others_of (turn_domain hh c) (either c.excluded (only s))) own ∙ said.others s in
-          let T : Env → ℕ → Mask → ℕ → Machine → ℕ → Type 0 =
+          let T : Env → ℕ → Mask → ℕ → MachineState → ℕ → Type 0 =
           λ y q z k mc l. IsTake y q z s k mc o (next_of l (beyond l (beyond lane later))) in
           let ee = env_of_pass h m (use_of c) p names kind i in
           subst (λ (k : ℕ). T ee p (others s) k (run (before ++ e ∷ until lane later) (start h)) lane)
           (ap (λ (k : ℕ × ℕ). k.1) (r.each lane).row)
-          (subst (λ (mc : Machine). T ee p (others s) c.at mc lane) (sym end)
+          (subst (λ (mc : MachineState). T ee p (others s) c.at mc lane) (sym end)
           (subst (λ (l : ℕ). T ee p (others s) c.at mm l) n.own
           (subst (λ (z : Mask). T ee p z c.at mm o.lane) left_same
           (subst (λ (q : ℕ). T ee q (others_of (turn_domain mm.header c) (either c.excluded (only s))) c.at mm

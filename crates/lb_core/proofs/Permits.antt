@@ -31,7 +31,7 @@ use Rattle.lb_core.specs.Leaving.{Leaving, leaving, out_by}
 use Rattle.lb_core.specs.Rules.{leaves_instead}
 use Rattle.lb_core.specs.QueueAfter.{queue_after, queue_by, cause_of, rest_of}
 use Rattle.lb_core.specs.CourseAfter.{course_after, takes_off, drew}
-use Rattle.lb_core.specs.Machine.{Machine, queue_at, course_at, sight, tasks_at, opening_queue, start}
+use Rattle.lb_core.specs.Machine.{MachineState, queue_at, course_at, sight, tasks_at, opening_queue, start}
 use Rattle.lb_core.specs.Step.{after, queues_after}
 use Rattle.lb_core.specs.Legal.{MayBeAdded, run, MayFollow}
 use Rattle.lb_core.specs.Permitted.{may_stand, IsPermitted, PermittedAlways}
@@ -46,12 +46,12 @@ use Rattle.lb_core.proofs.Leavings.{is_left}
 use Rattle.lb_core.proofs.Carrying.{lists_of}
 use Rattle.lb_core.proofs.Permitting.{TaskLaws, Stays, answer_stays, land_stays, out_sends}
 
-pub record Permit (m : Machine) : Type 0 where
+pub record Permit (m : MachineState) : Type 0 where
   pub cpus : (cpu : ℕ) → cpu < length m.queues → (queue_at m.queues cpu).cpu ≡ cpu
   pub queues : (cpu : ℕ) → IsAllowed (queue_at m.queues cpu)
   pub hands : (lane : ℕ) → list_all (may_go_to (course_at m.courses lane).to) (course_at m.courses lane).hand ≡ true
 
-permit_step : (m m' : Machine) (cpu lane : ℕ) (q : QueueState) (c : Course) → IsChanged m m' cpu lane q c
+permit_step : (m m' : MachineState) (cpu lane : ℕ) (q : QueueState) (c : Course) → IsChanged m m' cpu lane q c
     → length m'.queues ≡ length m.queues → Permit m → Stays (queue_at m.queues cpu) q → list_all (may_go_to c.to) c.hand ≡ true → Permit m'
 permit_step m m' cpu lane q c h n p s g = record {
   cpus = λ u lt. elim (cases_eq u cpu) [
@@ -78,7 +78,7 @@ queues_long (Lane l) q qs = refl
 queues_long Publisher q qs = refl
 
 -- ---- answers
-did_permits : TaskLaws → (m : Machine) (cpu lane prev : ℕ) (r : Reply) → Kept m → Permit m
+did_permits : TaskLaws → (m : MachineState) (cpu lane prev : ℕ) (r : Reply) → Kept m → Permit m
     → MayBeAdded m (entry (Queue cpu) lane prev (Did r)) → Permit (after m (entry (Queue cpu) lane prev (Did r)))
 unfolding after sight queue_after
 did_permits law m cpu lane prev r k p h =
@@ -96,7 +96,7 @@ unfolding draws
 lands_there Flight hd c q lane cpu ts o h = o
 lands_there f hd c q lane cpu ts o h = absurd (let k : ⊥ = cc in k)
 
-landed_permits : TaskLaws → (m : Machine) (cpu lane prev : ℕ) (ts : List ℕ) → Kept m → Permit m
+landed_permits : TaskLaws → (m : MachineState) (cpu lane prev : ℕ) (ts : List ℕ) → Kept m → Permit m
     → MayBeAdded m (entry (Queue cpu) lane prev (Landed ts)) → Permit (after m (entry (Queue cpu) lane prev (Landed ts)))
 unfolding after sight queue_after
 landed_permits law m cpu lane prev ts k p h =
@@ -117,7 +117,7 @@ sent_off : (o : Option Leaving) (c : Course) (cpu n : ℕ) (l : Leaving) → o �
 sent_off None c cpu n l h g = absurd (let k : ⊥ = cc in k)
 sent_off (Some x) c cpu n l h g = let k : l ≡ x = cc in subst (λ (y : Leaving). list_all (may_go_to y.to) y.hand ≡ true) k g
 
-out_permits : TaskLaws → (m : Machine) (cpu lane prev : ℕ) (cause : OutCause) (to : ℕ) (ts : List ℕ) → Kept m
+out_permits : TaskLaws → (m : MachineState) (cpu lane prev : ℕ) (cause : OutCause) (to : ℕ) (ts : List ℕ) → Kept m
     → Permit m → MayBeAdded m (entry (Queue cpu) lane prev (Out cause to ts))
     → Permit (after m (entry (Queue cpu) lane prev (Out cause to ts)))
 unfolding after sight queue_after course_after leaving
@@ -153,7 +153,7 @@ still_cpu (Kick r) s lane n = refl
 still_cpu Over s lane n = refl
 still_cpu w s lane n = absurd (let k : ⊥ = cc in k)
 
-still_permits : (m : Machine) (cpu lane prev : ℕ) (w : What) → is_still w ≡ true → Kept m → Permit m
+still_permits : (m : MachineState) (cpu lane prev : ℕ) (w : What) → is_still w ≡ true → Kept m → Permit m
     → MayBeAdded m (entry (Queue cpu) lane prev w) → Permit (after m (entry (Queue cpu) lane prev w))
 unfolding after sight queue_after
 still_permits m cpu lane prev w n k p h =
@@ -162,7 +162,7 @@ still_permits m cpu lane prev w n k p h =
     (alike_stays _ _ (still_lists w (sight m e) lane n) (still_cpu w (sight m e) lane n) (p.queues cpu))
     (none_goes (course_after (sight m e) e) (course_hand m e k h (still_facts w n).1))
 
-quiet_permits : (m : Machine) (o : Owner) (lane prev : ℕ) (w : What) → is_no_queue o ≡ true → is_quiet w ≡ true
+quiet_permits : (m : MachineState) (o : Owner) (lane prev : ℕ) (w : What) → is_no_queue o ≡ true → is_quiet w ≡ true
     → Kept m → Permit m → MayBeAdded m (entry o lane prev w) → Permit (after m (entry o lane prev w))
 unfolding after sight
 quiet_permits m o lane prev w b n k p h =
@@ -179,7 +179,7 @@ quiet_permits m o lane prev w b n k p h =
     (queues_long o _ m.queues) p (record { allowed = p.queues 0; cpu = refl })
     (none_goes (course_after (sight m e) e) (course_hand m e k h (quiet_facts w n).1))
 
-step_permits : TaskLaws → (m : Machine) (o : Owner) (lane prev : ℕ) (w : What) → Kept m → Permit m
+step_permits : TaskLaws → (m : MachineState) (o : Owner) (lane prev : ℕ) (w : What) → Kept m → Permit m
     → MayBeAdded m (entry o lane prev w) → Permit (after m (entry o lane prev w))
 step_permits law m (Queue cpu) lane prev (Did r) k p h = did_permits law m cpu lane prev r k p h
 step_permits law m o lane prev (Did r) k p h = absurd (owner_wrong m o lane prev (Did r) (λ _. refl) h)
@@ -196,7 +196,7 @@ step_permits law m (Queue cpu) lane prev Over k p h = still_permits m cpu lane p
 step_permits law m (Queue cpu) lane prev w k p h = absurd (owner_wrong m (Queue cpu) lane prev w (λ _. refl) h)
 step_permits law m o lane prev w k p h = quiet_permits m o lane prev w refl refl k p h
 
-run_permits : CallsMove → TaskLaws → (es : List Entry) (m : Machine) → Kept m → Permit m → MayFollow es m → Permit (run es m)
+run_permits : CallsMove → TaskLaws → (es : List Entry) (m : MachineState) → Kept m → Permit m → MayFollow es m → Permit (run es m)
 run_permits moves law [] m k p h = p
 run_permits moves law (e ∷ es) m k p h =
     run_permits moves law es (after m e) (step_kept moves m e.owner e.lane e.prev e.what k h.0)
@@ -234,7 +234,7 @@ start_permits h masks = record {
   hands = λ lane. none_goes (course_at (start h).courses lane) (opening_hand h lane);
 }
 
-permitted : (m : Machine) → Permit m → IsPermitted m
+permitted : (m : MachineState) → Permit m → IsPermitted m
 permitted m p = record {
   on_queues = λ cpu lt k d i. let h = (and_parts _ _
       (all_index (λ (a : Awake). may_be (queue_at m.queues cpu).cpu a.stop a.task) _ (p.queues cpu).awake k d i)).0 in

@@ -11,7 +11,7 @@ use Rattle.lb_core.specs.declared.place.Place.TheVariants.{Awake as AwakeAt, Asl
 use Rattle.lb_core.specs.declared.course.Course.{Course}
 use Rattle.lb_trace.specs.declared.trace.Header.{Header}
 use Rattle.lb_core.specs.Same.{same_place}
-use Rattle.lb_core.specs.Machine.{Machine, queue_at, no_course, course_at, place_at}
+use Rattle.lb_core.specs.Machine.{MachineState, queue_at, no_course, course_at, place_at}
 use Rattle.lb_core.specs.Step.{set_places}
 use Rattle.lb_core.specs.Placed.{times, is_its_place, IsPlaced}
 use Rattle.lb_core.proofs.Carrying.{place_on}
@@ -45,19 +45,19 @@ abbrev part : Bool → ℕ → ℕ
 part b n = cond b n 0
 
 -- the machine with another queue and another course
-pub record IsChanged (m m' : Machine) (cpu lane : ℕ) (q : QueueState) (c : Course) : Type 0 where
+pub record IsChanged (m m' : MachineState) (cpu lane : ℕ) (q : QueueState) (c : Course) : Type 0 where
   pub this_queue : queue_at m'.queues cpu ≡ q
   pub other_queue : (u : ℕ) → (u ≡ cpu → ⊥) → queue_at m'.queues u ≡ queue_at m.queues u
   pub lane_there : lane < length m.courses
   pub header : m'.header ≡ m.header
   pub courses : m'.courses ≡ set m.courses lane c
 
-pub course_same : (m m' : Machine) (cpu lane : ℕ) (q : QueueState) (c : Course) → IsChanged m m' cpu lane q c
+pub course_same : (m m' : MachineState) (cpu lane : ℕ) (q : QueueState) (c : Course) → IsChanged m m' cpu lane q c
     → course_at m'.courses lane ≡ c
 course_same m m' cpu lane q c h = ap (λ (x : List Course). course_at x lane) h.courses
     ∙ get_or-set_same m.courses lane c no_course h.lane_there
 
-pub course_other : (m m' : Machine) (cpu lane : ℕ) (q : QueueState) (c : Course) → IsChanged m m' cpu lane q c
+pub course_other : (m m' : MachineState) (cpu lane : ℕ) (q : QueueState) (c : Course) → IsChanged m m' cpu lane q c
     → (l : ℕ) → (l ≡ lane → ⊥) → course_at m'.courses l ≡ course_at m.courses l
 course_other m m' cpu lane q c h l n = ap (λ (x : List Course). course_at x l) h.courses ∙ get_or-set_other m.courses lane l c no_course n
 
@@ -102,7 +102,7 @@ far : (n x' x : ℕ) (b c : Bool) → x' ≡ x → b ≡ false → c ≡ false �
 far n x' x b c e g k = rw (e, g, k) refl
 
 -- how often each task stands at each place, before and after
-pub times_flow : (m m' : Machine) (cpu lane : ℕ) (q : QueueState) (c : Course) (ts : List ℕ) (from to : Side)
+pub times_flow : (m m' : MachineState) (cpu lane : ℕ) (q : QueueState) (c : Course) (ts : List ℕ) (from to : Side)
     → IsChanged m m' cpu lane q c →
     HasMoved (record { tasks = ts; from = from; to = to }) (queue_at m.queues cpu)
     (course_at m.courses lane).hand q c.hand → (p : Place) (t : ℕ) →
@@ -188,7 +188,7 @@ stood : (x' x n : ℕ) (b c a : Bool) → b ≡ true → c ≡ false → x' + pa
 stood x' x n b c true hb hc e k l = let e' : x' + n ≡ x + 0 = rw (hb, hc) at e in (omega arith, refl)
 stood x' x n b c false hb hc e k l = let e' : x' + n ≡ x + 0 = rw (hb, hc) at e in absurd (omega arith)
 
-kept_place : (m m' : Machine) (cpu lane : ℕ) (q : QueueState) (c : Course) (ts : List ℕ) (to : Side) → IsChanged m m' cpu lane q c →
+kept_place : (m m' : MachineState) (cpu lane : ℕ) (q : QueueState) (c : Course) (ts : List ℕ) (to : Side) → IsChanged m m' cpu lane q c →
     m'.places ≡ set_places ts (place_on to cpu lane) m.places → (p : Place) (t : ℕ) → occurs t ts ≡ 0
     → is_its_place m' p t ≡ is_its_place m p t
 kept_place m m' cpu lane q c ts to h e p t z =
@@ -199,7 +199,7 @@ kept_place m m' cpu lane q c ts to h e p t z =
     ∙ sp_other ts (place_on to cpu lane) m.places t (HandOf (length m'.courses)) z ∙ ap (λ (x : ℕ). get_or m.places t (HandOf x)) n in
     rw (l, g) refl
 
-new_place : (m m' : Machine) (cpu lane : ℕ) (ts : List ℕ) (to : Side) →
+new_place : (m m' : MachineState) (cpu lane : ℕ) (ts : List ℕ) (to : Side) →
     m'.places ≡ set_places ts (place_on to cpu lane) m.places → (p : Place) (t : ℕ) → 1 ≤ occurs t ts
     → ltb t (length m.places) ≡ true → is_its_place m' p t ≡ same_place p (place_on to cpu lane)
 new_place m m' cpu lane ts to e p t z lt =
@@ -209,13 +209,13 @@ new_place m m' cpu lane ts to e p t z lt =
     ∙ sp_hit ts (place_on to cpu lane) m.places t (HandOf (length m'.courses)) z (ltb-true t (length m.places) lt) in
     rw (l, lt, g) refl
 
-old_place : (m : Machine) (p r : Place) (t : ℕ) → is_its_place m r t ≡ true → is_its_place m p t ≡ same_place p r
+old_place : (m : MachineState) (p r : Place) (t : ℕ) → is_its_place m r t ≡ true → is_its_place m p t ≡ same_place p r
 old_place m p r t h =
     let k = and_parts (ltb t (length m.places)) (same_place r (place_at m t)) h in
     let e : r ≡ place_at m t = same_place_is r (place_at m t) k.1 in
     rw (k.0, ← e) refl
 
-pub placed_by_flow : (m m' : Machine) (cpu lane : ℕ) (q : QueueState) (c : Course) (ts : List ℕ) (from to : Side)
+pub placed_by_flow : (m m' : MachineState) (cpu lane : ℕ) (q : QueueState) (c : Course) (ts : List ℕ) (from to : Side)
     → IsChanged m m' cpu lane q c →
     m'.places ≡ set_places ts (place_on to cpu lane) m.places → same_side from to ≡ false →
     HasMoved (record { tasks = ts; from = from; to = to }) (queue_at m.queues cpu)

@@ -27,7 +27,7 @@ use Rattle.lb_core.specs.Leaving.{Leaving, leaving, out_by}
 use Rattle.lb_core.specs.Rules.{is_other_out, leaves_instead}
 use Rattle.lb_core.specs.QueueAfter.{answer_to, cause_of, queue_after, queue_by, rest_of}
 use Rattle.lb_core.specs.CourseAfter.{course_after, drew, cpu_of, takes_off}
-use Rattle.lb_core.specs.Machine.{Machine, no_queue, queue_at, course_at, sight}
+use Rattle.lb_core.specs.Machine.{MachineState, no_queue, queue_at, course_at, sight}
 use Rattle.lb_core.specs.Step.{after, places_after, queues_after, set_places}
 use Rattle.lb_core.specs.Legal.{MayBeAdded, run, MayFollow}
 use Rattle.lb_core.specs.Placed.{is_flight, times, is_its_place, IsPlaced, HandsRest}
@@ -42,7 +42,7 @@ use Rattle.lb_core.proofs.Leavings.{is_left}
 use Rattle.lb_core.proofs.Carrying.{Carried, lists_of, unmoved, answers, out_leaves}
 
 -- ---- what is kept
-pub record Kept (m : Machine) : Type 0 where
+pub record Kept (m : MachineState) : Type 0 where
   pub placed : IsPlaced m
   pub hands : HandsRest m
 
@@ -50,14 +50,14 @@ abbrev pub entry : Owner → ℕ → ℕ → What → Entry
 entry o lane prev w = record { owner = o; lane = lane; prev = prev; what = w }
 
 -- ---- what the rules say
-pub lane_there : (m : Machine) (e : Entry) → MayBeAdded m e → e.lane < length m.courses
+pub lane_there : (m : MachineState) (e : Entry) → MayBeAdded m e → e.lane < length m.courses
 lane_there m e h =
     let s = or_parts _ _ (unbroken_elsewhere m e h Stage) in
     let t = or_parts _ _ s.0 in
     let u = or_parts (not (ltb e.lane (length m.courses))) _ t.0 in
     ltb-true e.lane (length m.courses) (not-false _ u.0)
 
-pub cpu_there : (m : Machine) (cpu lane prev : ℕ) (w : What) → MayBeAdded m (entry (Queue cpu) lane prev w) → cpu < length m.queues
+pub cpu_there : (m : MachineState) (cpu lane prev : ℕ) (w : What) → MayBeAdded m (entry (Queue cpu) lane prev w) → cpu < length m.queues
 cpu_there m cpu lane prev w h =
     let s = or_parts _ _ (unbroken_elsewhere m (entry (Queue cpu) lane prev w) h Stage) in
     let t = or_parts _ _ s.0 in
@@ -65,28 +65,28 @@ cpu_there m cpu lane prev w h =
     ltb-true cpu (length m.queues) (not-false _ u.1)
 
 -- the entry is its owner's, and the form draws its kind
-pub form_lets : (m : Machine) (e : Entry) → MayBeAdded m e →
+pub form_lets : (m : MachineState) (e : Entry) → MayBeAdded m e →
     (is_owner e.what e.lane (queue_due (course_at m.courses e.lane).form (course_at m.courses e.lane)) e.owner ≡ true)
     × (draws (course_at m.courses e.lane).form m.header (course_at m.courses e.lane) (sight m e).queue e.lane e.what ≡ true)
 unfolding stage_allows sight
 form_lets m e h = and_parts _ _ (not-false (stage_allows (sight m e) e) (unbroken_here m e h Stage))
 
 -- a hand is empty but in flight
-pub empty_hand : (m : Machine) (e : Entry) → Kept m → MayBeAdded m e → is_landing e.what ≡ false → (course_at m.courses e.lane).hand ≡ []
+pub empty_hand : (m : MachineState) (e : Entry) → Kept m → MayBeAdded m e → is_landing e.what ≡ false → (course_at m.courses e.lane).hand ≡ []
 empty_hand m e k h n = k.hands e.lane (not_in_flight _ _ _ _ e.lane e.what n (form_lets m e h).1)
 
 one_at_most : (b : Bool) → cond {A = ℕ} b 1 0 ≤ 1
 one_at_most true = omega arith
 one_at_most false = omega arith
 
-times_one : (m : Machine) → IsPlaced m → (p : Place) (t : ℕ) → times m p t ≤ 1
+times_one : (m : MachineState) → IsPlaced m → (p : Place) (t : ℕ) → times m p t ≤ 1
 times_one m placed p t = let o = one_at_most (is_its_place m p t) in let e = placed.once p t in omega arith
 
-pub distinct : (m : Machine) (cpu : ℕ) → IsPlaced m → AreDistinct (queue_at m.queues cpu)
+pub distinct : (m : MachineState) (cpu : ℕ) → IsPlaced m → AreDistinct (queue_at m.queues cpu)
 distinct m cpu placed = record { awake = times_one m placed (AwakeAt cpu); asleep = times_one m placed (AsleepAt cpu) }
 
 -- ---- the machine after an entry of a queue
-pub queue_changed : (m : Machine) (cpu lane prev : ℕ) (w : What) → MayBeAdded m (entry (Queue cpu) lane prev w) →
+pub queue_changed : (m : MachineState) (cpu lane prev : ℕ) (w : What) → MayBeAdded m (entry (Queue cpu) lane prev w) →
     IsChanged m (after m (entry (Queue cpu) lane prev w)) cpu lane
     (queue_after (sight m (entry (Queue cpu) lane prev w)) (entry (Queue cpu) lane prev w))
     (course_after (sight m (entry (Queue cpu) lane prev w)) (entry (Queue cpu) lane prev w))
@@ -99,7 +99,7 @@ queue_changed m cpu lane prev w h = record {
   courses = refl;
 }
 
-hands_kept : (m m' : Machine) (cpu lane : ℕ) (q : QueueState) (c : Course) → IsChanged m m' cpu lane q c
+hands_kept : (m m' : MachineState) (cpu lane : ℕ) (q : QueueState) (c : Course) → IsChanged m m' cpu lane q c
     → ((l : ℕ) → is_flight (course_at m.courses l).form ≡ false → (course_at m.courses l).hand ≡ []) →
     (is_flight c.form ≡ false → c.hand ≡ []) → (l : ℕ) → is_flight (course_at m'.courses l).form ≡ false
     → (course_at m'.courses l).hand ≡ []
@@ -108,7 +108,7 @@ hands_kept m m' cpu lane q c h old new l = elim (cases_eq l lane) [
   | inr n ↦ let k = course_other m m' cpu lane q c h l n in rw k (old l)
 ]
 
-carry : (m m' : Machine) (cpu lane : ℕ) (q : QueueState) (c : Course) → IsChanged m m' cpu lane q c → Kept m
+carry : (m m' : MachineState) (cpu lane : ℕ) (q : QueueState) (c : Course) → IsChanged m m' cpu lane q c → Kept m
     → (h' : List TaskRecord) → h' ≡ c.hand →
     Carried (queue_at m.queues cpu) (course_at m.courses lane).hand q h' cpu lane m.places m'.places
     → (is_flight c.form ≡ false → c.hand ≡ []) → Kept m'
@@ -118,13 +118,13 @@ carry m m' cpu lane q c h k h' e d n = record {
   hands = hands_kept m m' cpu lane q c h k.hands n;
 }
 
-pub course_hand : (m : Machine) (e : Entry) → Kept m → MayBeAdded m e → is_out e.what ≡ false → (course_after (sight m e) e).hand ≡ []
+pub course_hand : (m : MachineState) (e : Entry) → Kept m → MayBeAdded m e → is_out e.what ≡ false → (course_after (sight m e) e).hand ≡ []
 unfolding sight course_after
 course_hand m e k h o = hand_after e.what (sight m e) e.owner ((sight m e).count + 1) (cpu_of e.owner)
     (queue_after (sight m e) e) o (λ n. empty_hand m e k h n)
 
 -- ---- the answer to a row
-did_kept : CallsMove → (m : Machine) (cpu lane prev : ℕ) (r : Reply) → Kept m
+did_kept : CallsMove → (m : MachineState) (cpu lane prev : ℕ) (r : Reply) → Kept m
     → MayBeAdded m (entry (Queue cpu) lane prev (Did r)) → Kept (after m (entry (Queue cpu) lane prev (Did r)))
 unfolding after sight queue_after
 did_kept law m cpu lane prev r k h =
@@ -143,7 +143,7 @@ did_kept law m cpu lane prev r k h =
     (λ _. empty')
 
 -- ---- a landing
-landed_kept : CallsMove → (m : Machine) (cpu lane prev : ℕ) (ts : List ℕ) → Kept m
+landed_kept : CallsMove → (m : MachineState) (cpu lane prev : ℕ) (ts : List ℕ) → Kept m
     → MayBeAdded m (entry (Queue cpu) lane prev (Landed ts)) → Kept (after m (entry (Queue cpu) lane prev (Landed ts)))
 unfolding after sight queue_after
 landed_kept law m cpu lane prev ts k h =
@@ -172,7 +172,7 @@ pub flight_end : (o : Option Leaving) (c : Course) (cpu n : ℕ) (l : Leaving) �
 flight_end None c cpu n l h = absurd (let k : ⊥ = cc in k)
 flight_end (Some x) c cpu n l h = let k : x ≡ l = cc in (refl, ap (λ (y : Leaving). y.hand) k)
 
-out_kept : CallsMove → (m : Machine) (cpu lane prev : ℕ) (cause : OutCause) (to : ℕ) (ts : List ℕ) → Kept m
+out_kept : CallsMove → (m : MachineState) (cpu lane prev : ℕ) (cause : OutCause) (to : ℕ) (ts : List ℕ) → Kept m
     → MayBeAdded m (entry (Queue cpu) lane prev (Out cause to ts)) → Kept (after m (entry (Queue cpu) lane prev (Out cause to ts)))
 unfolding after sight queue_after course_after leaving
 out_kept law m cpu lane prev cause to ts k h =
@@ -239,7 +239,7 @@ still_places (Kick r) o lane c places h = refl
 still_places Over o lane c places h = refl
 still_places w o lane c places h = absurd (let k : ⊥ = cc in k)
 
-still_kept : (m : Machine) (cpu lane prev : ℕ) (w : What) → is_still w ≡ true → Kept m
+still_kept : (m : MachineState) (cpu lane prev : ℕ) (w : What) → is_still w ≡ true → Kept m
     → MayBeAdded m (entry (Queue cpu) lane prev w) → Kept (after m (entry (Queue cpu) lane prev w))
 unfolding after sight queue_after
 still_kept m cpu lane prev w n k h =
@@ -280,7 +280,7 @@ pub no_queue_changes : (o : Owner) (q : QueueState) (qs : List QueueState) → i
 no_queue_changes (Queue cpu) q qs h = absurd (let k : ⊥ = cc in k)
 no_queue_changes o q qs h = refl
 
-quiet_kept : (m : Machine) (o : Owner) (lane prev : ℕ) (w : What) → is_no_queue o ≡ true → is_quiet w ≡ true → Kept m
+quiet_kept : (m : MachineState) (o : Owner) (lane prev : ℕ) (w : What) → is_no_queue o ≡ true → is_quiet w ≡ true → Kept m
     → MayBeAdded m (entry o lane prev w) → Kept (after m (entry o lane prev w))
 unfolding after sight
 quiet_kept m o lane prev w b n k h =
@@ -302,14 +302,14 @@ quiet_kept m o lane prev w b n k h =
     (λ _. empty')
 
 -- ---- each entry
-pub owner_wrong : (m : Machine) (o : Owner) (lane prev : ℕ) (w : What)
+pub owner_wrong : (m : MachineState) (o : Owner) (lane prev : ℕ) (w : What)
     → ((due : Option ℕ) → is_owner w lane due o ≡ false) → MayBeAdded m (entry o lane prev w) → ⊥
 owner_wrong m o lane prev w n h =
     let k = (form_lets m (entry o lane prev w) h).0 in
     let z = n (queue_due (course_at m.courses lane).form (course_at m.courses lane)) in
     let y : ⊥ = cc in y
 
-pub step_kept : CallsMove → (m : Machine) (o : Owner) (lane prev : ℕ) (w : What) → Kept m
+pub step_kept : CallsMove → (m : MachineState) (o : Owner) (lane prev : ℕ) (w : What) → Kept m
     → MayBeAdded m (entry o lane prev w) → Kept (after m (entry o lane prev w))
 step_kept law m (Queue cpu) lane prev (Did r) k h = did_kept law m cpu lane prev r k h
 step_kept law m o lane prev (Did r) k h = absurd (owner_wrong m o lane prev (Did r) (λ _. refl) h)
@@ -326,6 +326,6 @@ step_kept law m (Queue cpu) lane prev Over k h = still_kept m cpu lane prev Over
 step_kept law m (Queue cpu) lane prev w k h = absurd (owner_wrong m (Queue cpu) lane prev w (λ _. refl) h)
 step_kept law m o lane prev w k h = quiet_kept m o lane prev w refl refl k h
 
-pub run_kept : CallsMove → (es : List Entry) (m : Machine) → Kept m → MayFollow es m → Kept (run es m)
+pub run_kept : CallsMove → (es : List Entry) (m : MachineState) → Kept m → MayFollow es m → Kept (run es m)
 run_kept law [] m k h = k
 run_kept law (e ∷ es) m k h = run_kept law es (after m e) (step_kept law m e.owner e.lane e.prev e.what k h.0) h.1

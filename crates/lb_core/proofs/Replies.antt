@@ -21,7 +21,7 @@ use Rattle.lb_core.specs.declared.entry.Entry.{Entry}
 use Rattle.lb_core.specs.declared.rule.Rule.TheVariants.{Row as RowRule, Place as PlaceRule}
 use Rattle.lb_core.specs.CourseAfter.{course_after}
 use Rattle.lb_core.specs.Leaving.{wake_to}
-use Rattle.lb_core.specs.Machine.{Machine, no_course, queue_at, course_at, owned_queue, start, sight}
+use Rattle.lb_core.specs.Machine.{MachineState, no_course, queue_at, course_at, owned_queue, start, sight}
 use Rattle.lb_core.specs.Elsewhere.{is_rest, answered_elsewhere}
 use Rattle.lb_core.specs.Step.{versions_after, after}
 use Rattle.lb_core.specs.Legal.{MayBeAdded, run, MayFollow, IsLegalHistory}
@@ -55,7 +55,7 @@ versions_stay : (w : What) (command : Option Command) (vs : List (List Mask)) �
 versions_stay (Pub v) (Some (Rebuild parts)) vs h = let l = length-append vs (parts ∷ []) in omega arith
 versions_stay w command vs h = h
 
-some_version : (es : List Entry) (m : Machine) → 1 ≤ length m.versions → 1 ≤ length (run es m).versions
+some_version : (es : List Entry) (m : MachineState) → 1 ≤ length m.versions → 1 ≤ length (run es m).versions
 unfolding after
 some_version [] m h = h
 some_version (e ∷ es) m h = some_version es (after m e) (versions_stay e.what _ m.versions h)
@@ -65,14 +65,14 @@ some_version (e ∷ es) m h = some_version es (after m e) (versions_stay e.what 
 abbrev asked : Course → ℕ → ℕ → Command → Course
 asked c n at command = record c { form = Asked; rows = n; at = at; command = Some command }
 
-reply_due : (m : Machine) (c : Course) (n at : ℕ) (command : Command) (q : QueueState) (ch : _)
+reply_due : (m : MachineState) (c : Course) (n at : ℕ) (command : Command) (q : QueueState) (ch : _)
     → 1 ≤ length m.versions → what_next Asked m (asked c n at command) q ch ≡ reply_of command at m q
 reply_due m c n at (Rebuild parts) q ch h = ap (λ (v : ℕ). Pub v) (omega arith)
 reply_due m c n at (Wake t) q ch h = woken_is q at t (away q t) refl
 reply_due m c n at command q ch h = refl
 
 -- the queue that draws it is the one that is asked
-own_queue : (m : Machine) (at lane cpu : ℕ) (command : Command)
+own_queue : (m : MachineState) (at lane cpu : ℕ) (command : Command)
     → reply_of command at m (owned_queue (owner_next (reply_of command at m (queue_at m.queues cpu)) lane cpu)
     m) ≡ reply_of command at m (queue_at m.queues cpu)
 own_queue m at lane cpu (Wake t) = by_away (away (queue_at m.queues cpu) t)
@@ -84,7 +84,7 @@ own_queue m at lane cpu (Wake t) = by_away (away (queue_at m.queues cpu) t)
     by_away (Some to) = refl
 own_queue m at lane cpu command = refl
 
-asked_is : (m : Machine) (c : Course) (n at lane : ℕ) (command : Command) (q : QueueState) (o : Owner)
+asked_is : (m : MachineState) (c : Course) (n at lane : ℕ) (command : Command) (q : QueueState) (o : Owner)
     → answered_elsewhere Asked (asked c n at command) m o (reply_of command at m q) ≡ false →
     o ≡ owner_next (reply_of command at m q) lane (cpu_next Asked m (asked c n at command)) → is_asked command m o ≡ true
 asked_is m c n at lane (Wake t) q o p v = by_away (away q t) p
@@ -97,7 +97,7 @@ asked_is m c n at lane (Tick cpu) q o p v = rw v (eq-eqb cpu cpu refl)
 asked_is m c n at lane (Rebuild parts) q o p v = rw v refl
 asked_is m c n at lane command q o p v = not-false _ p
 
-replied : (m : Machine) (c : Course) (n at : ℕ) (command : Command) (o : Entry)
+replied : (m : MachineState) (c : Course) (n at : ℕ) (command : Command) (o : Entry)
     → course_at m.courses o.lane ≡ asked c n at command → MayBeAdded m o → 1 ≤ length m.versions → IsReply command at m o
 replied m c n at command o same a h =
     let k = chosen m o a in
@@ -117,7 +117,7 @@ replied m c n at command o same a h =
     }
 
 -- ---- the law
-row_course : (m : Machine) (o : Owner) (lane prev n at : ℕ) (command : Command)
+row_course : (m : MachineState) (o : Owner) (lane prev n at : ℕ) (command : Command)
     → MayBeAdded m (entry o lane prev (Row n at command))
     → (c : Course) × (course_at (after m (entry o lane prev (Row n at command))).courses lane ≡ asked c n at command)
 unfolding after sight course_after
@@ -128,7 +128,7 @@ row_course m (Lane l) lane prev n at command a = (
 )
 row_course m o lane prev n at command a = absurd (owner_wrong m o lane prev (Row n at command) (λ _. refl) a)
 
-row_number : (m : Machine) (o : Owner) (lane prev n at : ℕ) (command : Command)
+row_number : (m : MachineState) (o : Owner) (lane prev n at : ℕ) (command : Command)
     → MayBeAdded m (entry o lane prev (Row n at command)) → n ≡ (course_at m.courses lane).rows + 1
 unfolding sight
 row_number m o lane prev n at command a =
@@ -148,12 +148,12 @@ has_reply law h before later o lane prev n at command legal =
     let m = run before (start h) in
     let c = row_course m o lane prev n at command ps.this in
     let ends : (run later (after m e)).ended ≡ true =
-    ap (λ (x : Machine). x.ended) (sym (run-append before (e ∷ later) (start h))) ∙ legal.1 in
+    ap (λ (x : MachineState). x.ended) (sym (run-append before (e ∷ later) (start h))) ∙ legal.1 in
     let next = some_next lane later (after m e) (ap (λ (x : Course). is_rest x.form) c.1) (goes_on m e ps.this) ps.last ends in
     let is = next_is lane later (after m e) (asked c.0 n at command) next.0 c.1 ps.last next.1 in
     let there : run (before ++ e ∷ until lane later) (start h) ≡ run (until lane later) (after m e) =
     run-append before (e ∷ until lane later) (start h) in
-    let versions = subst (λ (x : Machine). 1 ≤ length x.versions) there
+    let versions = subst (λ (x : MachineState). 1 ≤ length x.versions) there
     (some_version (before ++ e ∷ until lane later) (start h) (opening_version h)) in
     let mm = run (until lane later) (after m e) in
     let same : course_at mm.courses next.0.lane ≡ asked c.0 n at command = ap (λ (l : ℕ). course_at mm.courses l) is.own ∙ is.same in
@@ -162,7 +162,7 @@ has_reply law h before later o lane prev n at command legal =
           ∙ ap (λ (k : ℕ × ℕ). k.0 + 1) ((turning_at law h before ps.first).each lane).row;
       reply = next.0;
       next = next.1;
-      is = subst (λ (x : Machine). IsReply command at x next.0) (sym there) (replied mm c.0 n at command next.0 same is.added versions);
+      is = subst (λ (x : MachineState). IsReply command at x next.0) (sym there) (replied mm c.0 n at command next.0 same is.added versions);
     }
 
 by_what : TurnLaws → (h : Header) (before later : List Entry) (o : Owner) (lane prev : ℕ) (w : What)
@@ -174,11 +174,11 @@ pub replies_always : TurnLaws → RepliesAlways
 replies_always law h before later e legal = by_what law h before later e.owner e.lane e.prev e.what legal
 
 -- ---- no lane is left at work
-follows : (xs ys : List Entry) (m : Machine) → MayFollow (xs ++ ys) m → MayFollow ys (run xs m)
+follows : (xs ys : List Entry) (m : MachineState) → MayFollow (xs ++ ys) m → MayFollow ys (run xs m)
 follows [] ys m l = l
 follows (x ∷ xs) ys m l = follows xs ys (after m x) l.1
 
 pub next_always : NextAlways
 next_always h before later lane legal works ended =
     some_next lane later (run before (start h)) works ended (follows before later (start h) legal.0)
-    (ap (λ (x : Machine). x.ended) (sym (run-append before later (start h))) ∙ legal.1)
+    (ap (λ (x : MachineState). x.ended) (sym (run-append before later (start h))) ∙ legal.1)

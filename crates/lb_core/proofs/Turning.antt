@@ -26,14 +26,14 @@ use Rattle.lb_core.specs.declared.entry.What.{What}
 use Rattle.lb_core.specs.declared.entry.What.TheVariants.{Adopt, Look, Scan, Did, Out, Landed, Turn, Shut, Close, Ask, Kick, Over, Pub}
 use Rattle.lb_core.specs.declared.entry.Entry.{Entry}
 use Rattle.lb_core.specs.declared.rule.Rule.TheVariants.{Reply as ReplyRule, Version, Counters as CountersRule}
-use Rattle.lb_core.specs.Course.{kind_of, turn_domains, shapes_of}
+use Rattle.lb_core.specs.Course.{turn_kind, turn_domains, shapes_of}
 use Rattle.lb_core.specs.Sight.{Sight}
 use Rattle.lb_core.specs.Stage.{draws}
 use Rattle.lb_core.specs.Leaving.{Leaving, leaving, out_by}
 use Rattle.lb_core.specs.Rules.{breaks_counters}
 use Rattle.lb_core.specs.QueueAfter.{cause_of, queue_by, queue_after}
-use Rattle.lb_core.specs.CourseAfter.{course_after, course_by, drew, cpu_of, goes_to, lands, closes, takes_off, names as names_of}
-use Rattle.lb_core.specs.Machine.{Machine, no_queue, no_course, queue_at, course_at, masks_at, opening_queue, start, sight}
+use Rattle.lb_core.specs.CourseAfter.{course_after, course_by, drew, cpu_of, goes_to, lands, closes, takes_off, raised_numbers}
+use Rattle.lb_core.specs.Machine.{MachineState, no_queue, no_course, queue_at, course_at, masks_at, opening_queue, start, sight}
 use Rattle.lb_core.specs.Elsewhere.{is_rest}
 use Rattle.lb_core.specs.Step.{after, versions_after}
 use Rattle.lb_core.specs.Legal.{MayBeAdded, run, MayFollow}
@@ -152,7 +152,7 @@ stays order (Ask r) s lane cpu now vs t t' d b ps f u held n k =
           (next_on lane s.header (use_key c) c t before);
     }
 stays order (Scan names v) s lane cpu now vs t t' d b ps f u held n k =
-    clash _ k (scanned_out v (record s.course { figures = s.figs; named = names_of names s.course.named })).0
+    clash _ k (scanned_out v (record s.course { figures = s.figs; named = raised_numbers names s.course.named })).0
 stays order (Did r) s lane cpu now vs t t' d b ps f u held n k = clash _ k (answered_out s.course.command cpu s.queue now s.course).0
 stays order (Kick r) s lane cpu now vs t t' d b ps f u held n k = clash _ k (kicked_out r s.course).0
 stays order Shut s lane cpu now vs t t' d b ps f u held n k = clash _ k (turn_out s.header s.course).0
@@ -186,7 +186,7 @@ fits_after (Turn ps) s lane vs t d u held f =
       many = found_many s.queue c.at c.version (shapes_of (turn_domains s.header c)) (finds_many s.header c vs s.queue is f) ∙ l ∙ same;
       below = (
         refl,
-        λ p k. let b = positions_below s.queue c.at (kind_of c) c.version p
+        λ p k. let b = positions_below s.queue c.at (turn_kind c) c.version p
             (shapes_of (turn_domains s.header c)) (finds_many s.header c vs s.queue is f) k in omega arith,
       );
     }
@@ -244,15 +244,15 @@ more_fits h vs ws cpu t g f = record {
     same = sym (g.same (t.version - 1) (let a = f.from in let b = f.to in omega arith))
 
 -- ---- the queues after an entry
-abbrev pub part_at : Machine → ℕ → TurnPart
+abbrev pub part_at : MachineState → ℕ → TurnPart
 part_at m cpu = part_of (queue_at m.queues cpu)
 
 -- the one that draws it
-record Mine (m : Machine) (e : Entry) (cpu : ℕ) : Type 0 where
+record Mine (m : MachineState) (e : Entry) (cpu : ℕ) : Type 0 where
   now : part_at (after m e) cpu ≡ part_of (queue_by e.what (sight m e) e.lane)
   was : (sight m e).queue ≡ queue_at m.queues cpu
 
-mine : (m : Machine) (o : Owner) (lane prev cpu : ℕ) (w : What) → o ≡ Queue cpu → MayBeAdded m (entry o lane prev w)
+mine : (m : MachineState) (o : Owner) (lane prev cpu : ℕ) (w : What) → o ≡ Queue cpu → MayBeAdded m (entry o lane prev w)
     → Mine m (entry o lane prev w) cpu
 unfolding after queue_after sight
 mine m (Queue u) lane prev cpu w own a =
@@ -266,7 +266,7 @@ mine m (Queue u) lane prev cpu w own a =
 mine m o lane prev cpu w own a = absurd (let y : ⊥ = cc in y)
 
 -- any other, and this one too where no turn changes
-others : CallsKeepRest → (m : Machine) (o : Owner) (lane prev cpu : ℕ) (w : What) → (o ≡ Queue cpu → turns w ≡ false)
+others : CallsKeepRest → (m : MachineState) (o : Owner) (lane prev cpu : ℕ) (w : What) → (o ≡ Queue cpu → turns w ≡ false)
     → MayBeAdded m (entry o lane prev w) → part_at (after m (entry o lane prev w)) cpu ≡ part_at m cpu
 unfolding after
 others law m (Queue u) lane prev cpu w n a =
@@ -280,19 +280,19 @@ others law m o lane prev cpu w n a = refl
 
 -- ---- what holds of each front
 -- the last `use` of the lane
-pub record HasUse (lane : ℕ) (pre : List Entry) (m : Machine) (u : UseKey) : Type 0 where
+pub record HasUse (lane : ℕ) (pre : List Entry) (m : MachineState) (u : UseKey) : Type 0 where
   pub last : last_use lane pre ≡ Some (record { version = u.version; kind = u.kind; cpu = u.cpu })
   pub published : IsPublished m.versions u
 
-pub record InTurn (lane : ℕ) (pre : List Entry) (m : Machine) (f : Form) (o : OutCause) (k : Key) : Type 0 where
+pub record InTurn (lane : ℕ) (pre : List Entry) (m : MachineState) (f : Form) (o : OutCause) (k : Key) : Type 0 where
   pub row : k.row ≡ last_row lane pre
   pub used : turning f o ≡ true → HasUse lane pre m k.taken_up
   pub open_ : opens f o ≡ true → HasTurn lane m.header k.taken_up f k (part_at m k.taken_up.cpu)
 
-abbrev pub InTurnAt : ℕ → List Entry → Machine → Course → Type 0
+abbrev pub InTurnAt : ℕ → List Entry → MachineState → Course → Type 0
 InTurnAt lane pre m c = InTurn lane pre m c.form (cause_of c) (key_of c)
 
-pub record Turning (pre : List Entry) (m : Machine) : Type 0 where
+pub record Turning (pre : List Entry) (m : MachineState) : Type 0 where
   pub each : (lane : ℕ) → InTurnAt lane pre m (course_at m.courses lane)
   pub fits : (cpu : ℕ) → Fits m.header m.versions cpu (part_at m cpu)
 
@@ -300,13 +300,13 @@ pub record Turning (pre : List Entry) (m : Machine) : Type 0 where
 lane_of : (a b : OpenTurn) → Some a ≡ Some b → a.lane ≡ b.lane
 lane_of a b e = let k : a ≡ b = cc in ap (λ (t : OpenTurn). t.lane) k
 
-own_at : (m : Machine) (o : Owner) (lane prev : ℕ) (w : What) → MayBeAdded m (entry o lane prev w) → turns w ≡ true
+own_at : (m : MachineState) (o : Owner) (lane prev : ℕ) (w : What) → MayBeAdded m (entry o lane prev w) → turns w ≡ true
     → o ≡ Queue (course_at m.courses lane).cpu
 own_at m o lane prev w a t = let c = course_at m.courses lane in let lets = form_lets m (entry o lane prev w) a in
     own_turn c.form m.header c (sight m (entry o lane prev w)).queue lane o w t lets.0 lets.1
 
 -- a close and an end are drawn by the lane whose turn is open
-by_opener : (m : Machine) (pre : List Entry) (o : Owner) (l prev lane cpu : ℕ) (w : What) → Turning pre m
+by_opener : (m : MachineState) (pre : List Entry) (o : Owner) (l prev lane cpu : ℕ) (w : What) → Turning pre m
     → MayBeAdded m (entry o l prev w) → turns w ≡ true → is_open (course_at m.courses l) ≡ true → o ≡ Queue cpu →
     (k : Kind) (ps : Mask) → (part_at m cpu).opened ≡ Some (record { lane = lane; kind = k; positions = ps }) → l ≡ lane
 by_opener m pre o l prev lane cpu w held a t z own k ps e =
@@ -314,7 +314,7 @@ by_opener m pre o l prev lane cpu w held a t z own k ps e =
     let same : c.cpu ≡ cpu = let y : Queue c.cpu ≡ Queue cpu = sym (own_at m o l prev w a t) ∙ own in cc in
     lane_of _ _ (sym ((held.each l).open_ z).there.opened ∙ ap (λ (u : ℕ). (part_at m u).opened) same ∙ e)
 
-alone : (m : Machine) (pre : List Entry) (o : Owner) (l prev lane cpu : ℕ) (w : What) → Turning pre m
+alone : (m : MachineState) (pre : List Entry) (o : Owner) (l prev lane cpu : ℕ) (w : What) → Turning pre m
     → MayBeAdded m (entry o l prev w) → turns w ≡ true → o ≡ Queue cpu →
     (k : Kind) (ps : Mask) → (part_at m cpu).opened ≡ Some (record { lane = lane; kind = k; positions = ps }) → l ≡ lane
 alone m pre o l prev lane cpu (Turn ps') held a t own k ps e =
@@ -333,7 +333,7 @@ alone m pre o l prev lane cpu Over held a t own k ps e =
 alone m pre o l prev lane cpu w held a t own k ps e = absurd (let y : ⊥ = cc in y)
 
 -- ---- one step of the queues
-fits_kept : CallsKeepRest → (m : Machine) (o : Owner) (lane prev : ℕ) (w : What) (pre : List Entry)
+fits_kept : CallsKeepRest → (m : MachineState) (o : Owner) (lane prev : ℕ) (w : What) (pre : List Entry)
     → MayBeAdded m (entry o lane prev w) → Turning pre m → (cpu : ℕ)
     → Fits m.header m.versions cpu (part_at (after m (entry o lane prev w)) cpu)
 unfolding sight
@@ -365,7 +365,7 @@ fits_kept law m o lane prev w pre a held cpu = by_turns (turns w) refl
         ]
 
 -- ---- one step of the lanes
-keeps_use : (lane : ℕ) (pre pre' : List Entry) (m m' : Machine) (u : UseKey) → last_use lane pre' ≡ last_use lane pre
+keeps_use : (lane : ℕ) (pre pre' : List Entry) (m m' : MachineState) (u : UseKey) → last_use lane pre' ≡ last_use lane pre
     → Grows m.versions m'.versions → HasUse lane pre m u → HasUse lane pre' m' u
 keeps_use lane pre pre' m m' u l g h = record { last = l ∙ h.last; published = more_published m.versions m'.versions u g h.published }
 
@@ -374,7 +374,7 @@ no_use (Adopt v kind cpu) o h = absurd (let y : ⊥ = cc in y)
 no_use w o h = refl
 
 -- a lane that does not draw
-other_step : CallsKeepRest → (m : Machine) (o : Owner) (l prev lane : ℕ) (w : What) (pre : List Entry)
+other_step : CallsKeepRest → (m : MachineState) (o : Owner) (l prev lane : ℕ) (w : What) (pre : List Entry)
     → MayBeAdded m (entry o l prev w) → Turning pre m → (l ≡ lane → ⊥)
     → InTurnAt lane (pre ++ entry o l prev w ∷ []) (after m (entry o l prev w)) (course_at m.courses lane)
 unfolding after
@@ -406,7 +406,7 @@ drew_stays (Queue u) n c P h = h
 drew_stays (Lane l) n c P h = h
 drew_stays Publisher n c P h = h
 
-taken_up : (m : Machine) (o : Owner) (lane prev v : ℕ) (kind : Kind) (cpu : ℕ) (pre : List Entry)
+taken_up : (m : MachineState) (o : Owner) (lane prev v : ℕ) (kind : Kind) (cpu : ℕ) (pre : List Entry)
     → MayBeAdded m (entry o lane prev (Adopt v kind cpu)) →
     HasUse lane (pre ++ entry o lane prev (Adopt v kind cpu) ∷ []) (after m (entry o lane prev (Adopt v kind cpu)))
     (record { version = v; kind = kind; cpu = cpu; masks = masks_at m v })
@@ -417,7 +417,7 @@ taken_up m o lane prev v kind cpu pre h =
     let high = ltb-false (length m.versions) v (unbroken_elsewhere m e h Version) in
     record { last = own_said use_or lane None pre e refl; published = record { from = omega arith; to = high; masks = refl } }
 
-own_kept : TurnLaws → (m : Machine) (o : Owner) (lane prev : ℕ) (w : What) (pre : List Entry)
+own_kept : TurnLaws → (m : MachineState) (o : Owner) (lane prev : ℕ) (w : What) (pre : List Entry)
     → MayBeAdded m (entry o lane prev w) → Turning pre m → is_use w ≡ false →
     (let e = entry o lane prev w in InTurnAt lane (pre ++ e ∷ []) (after m e)
     (course_by w (sight m e) (cpu_of o) (queue_after (sight m e) e)))
@@ -457,7 +457,7 @@ own_kept law m o lane prev w pre a held n = record {
         (part_at (after m e) c.cpu) (form_lets m e a).1 (unbroken_here m e a CountersRule) ps (held.fits c.cpu)
         (λ z. (it.used z).published) it.open_ n k
 
-own_step : TurnLaws → (m : Machine) (o : Owner) (lane prev : ℕ) (w : What) (pre : List Entry)
+own_step : TurnLaws → (m : MachineState) (o : Owner) (lane prev : ℕ) (w : What) (pre : List Entry)
     → MayBeAdded m (entry o lane prev w) → Turning pre m →
     (let e = entry o lane prev w in InTurnAt lane (pre ++ e ∷ []) (after m e)
     (course_by w (sight m e) (cpu_of o) (queue_after (sight m e) e)))
@@ -471,7 +471,7 @@ own_step law m o lane prev (Adopt v kind cpu) pre a held =
     }
 own_step law m o lane prev w pre a held = own_kept law m o lane prev w pre a held refl
 
-turning_step : TurnLaws → (m : Machine) (e : Entry) (pre : List Entry) → MayBeAdded m e → Turning pre m
+turning_step : TurnLaws → (m : MachineState) (e : Entry) (pre : List Entry) → MayBeAdded m e → Turning pre m
     → Turning (pre ++ e ∷ []) (after m e)
 unfolding after course_after
 turning_step law m e pre a held = record {
@@ -524,7 +524,7 @@ some_many : (o : Option (List Counters)) (n : ℕ) → AreMany o n → IfSome o 
 some_many None n h = tt
 some_many (Some cs) n h = h
 
-pub run-header : (es : List Entry) (m : Machine) → (run es m).header ≡ m.header
+pub run-header : (es : List Entry) (m : MachineState) → (run es m).header ≡ m.header
 unfolding after
 run-header [] m = refl
 run-header (e ∷ es) m = run-header es (after m e)

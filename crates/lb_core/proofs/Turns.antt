@@ -37,12 +37,12 @@ use Rattle.lb_core.specs.declared.entry.Owner.TheVariants.{Queue}
 use Rattle.lb_core.specs.declared.entry.What.{What}
 use Rattle.lb_core.specs.declared.entry.What.TheVariants.{Look, Scan, Did, Out, Landed, Turn, Shut, Close, Ask, Kick, Over}
 use Rattle.lb_core.specs.declared.entry.Entry.{Entry}
-use Rattle.lb_core.specs.Course.{kind_of, is_tick, is_newly, is_pull, source_of, turn_domains, turn_domain, shapes_of, outcome_of, flag_of}
+use Rattle.lb_core.specs.Course.{turn_kind, is_tick, is_newly, is_pull, source_of, turn_domains, turn_domain, shapes_of, outcome_of, flag_of}
 use Rattle.lb_core.specs.Sight.{Sight, tickless_in}
 use Rattle.lb_core.specs.Stage.{draws, queue_due, is_queue, is_owner, target_of}
 use Rattle.lb_core.specs.Leaving.{Leaving, leaving, wake_to, wake_out, stop_out, push_out, served_out, out_by}
 use Rattle.lb_core.specs.QueueAfter.{cause_of}
-use Rattle.lb_core.specs.CourseAfter.{course_by, goes_to, scanned, kicks_next, kicked, ends_turn, turn_ends, after_sleep, answered, lands, closes, takes_off, rests, begins_anew, lets_go, left_idle, names as names_of}
+use Rattle.lb_core.specs.CourseAfter.{course_by, goes_to, scanned, kicks_next, kicked, turn_ends_by, turn_ends, after_sleep, answered, lands, closes, takes_off, comes_to_rest, begins_anew, lets_go, left_idle, raised_numbers}
 use Rattle.lb_core.specs.LaneEntries.{last_said, row_or}
 use Rattle.lb_core.proofs.AtWork.{clash}
 use Rattle.lb_core.proofs.Quiet.{TurnPart, part_of, turns}
@@ -211,15 +211,15 @@ pub kicked_out : (r : AskReply) (c : Course) → Out_ c (kicked r c)
 kicked_out New c = next_out (target_of c) c
 kicked_out Old c = (refl, refl)
 
-ends_out : (k : Kind) (h : Header) (c : Course) → Out_ c (ends_turn k h c)
+ends_out : (k : Kind) (h : Header) (c : Course) → Out_ c (turn_ends_by k h c)
 ends_out TickTurn h c = cond_out (ltb 1 c.awake && ltb 0 (length (turn_domains h c))) c
-    (record (begins_anew c) { form = ScanDue }) (rests c) (refl, refl) (refl, refl)
+    (record (begins_anew c) { form = ScanDue }) (comes_to_rest c) (refl, refl) (refl, refl)
 ends_out Idle h c = (refl, refl)
 ends_out Nohz h c = next_out (least_above (tickless_in c.figures) c.cpu) c
 
 pub turn_out : (h : Header) (c : Course) → Out_ c (turn_ends h c)
 unfolding turn_ends
-turn_out h c = ends_out (kind_of c) h c
+turn_out h c = ends_out (turn_kind c) h c
 
 sleep_out : (b : Bool) (cpu : ℕ) (c : Course) → Out_ c (after_sleep b cpu c)
 sleep_out true cpu c = (refl, refl)
@@ -232,7 +232,7 @@ answered_out command cpu before now c = (refl, refl)
 
 pub lands_out : (o : OutCause) (c : Course) → is_pull_cause o ≡ false → Out_ c (lands o c)
 lands_out PullOut c h = absurd (let y : ⊥ = cc in y)
-lands_out o c h = cond_out (is_tick c.command) c (record (lets_go c) { form = Serving }) (rests c) (refl, refl) (refl, refl)
+lands_out o c h = cond_out (is_tick c.command) c (record (lets_go c) { form = Serving }) (comes_to_rest c) (refl, refl) (refl, refl)
 
 -- ---- the row of each course
 goes_row : (p : Option ℕ) (c : Course) → row_part (goes_to p c) ≡ row_part c
@@ -242,7 +242,7 @@ goes_row (Some p) c = refl
 closes_row : (w : OutcomeWord) (c : Course) → row_part (closes w c) ≡ row_part c
 closes_row AskingWord c = refl
 closes_row NotMineWord c = refl
-closes_row MovedWord c = by_newly (is_newly (kind_of c))
+closes_row MovedWord c = by_newly (is_newly (turn_kind c))
   where
     by_newly : (b : Bool) → row_part (cond b (goes_to None c) (goes_to (least_above c.positions c.position) c)) ≡ row_part c
     by_newly true = refl
@@ -258,7 +258,7 @@ lands_row PullOut c = refl
 lands_row o c = (lands_out o c refl).1
 
 pub row_by : (w : What) (s : Sight) (cpu : ℕ) (now : QueueState) → row_part (course_by w s cpu now) ≡ row_or w (row_part s.course)
-row_by (Scan names v) s cpu now = (scanned_out v (record s.course { figures = s.figs; named = names_of names s.course.named })).1
+row_by (Scan names v) s cpu now = (scanned_out v (record s.course { figures = s.figs; named = raised_numbers names s.course.named })).1
 row_by (Did r) s cpu now = (answered_out s.course.command cpu s.queue now s.course).1
 row_by (Out cause to ts) s cpu now = off_row (leaving s) s.course
 row_by (Landed ts) s cpu now = lands_row (cause_of s.course) s.course
@@ -303,7 +303,7 @@ pub record UseKey : Type 0 where
   pub masks : List Mask
 
 abbrev pub use_key : Course → UseKey
-use_key c = record { version = c.version; kind = kind_of c; cpu = c.cpu; masks = c.masks }
+use_key c = record { version = c.version; kind = turn_kind c; cpu = c.cpu; masks = c.masks }
 
 pub record Key : Type 0 where
   pub row : ℕ × ℕ
@@ -376,7 +376,7 @@ pub closes_turn : (lane : ℕ) (h : Header) (u : UseKey) (w : OutcomeWord) (c : 
     → HasTurn lane h u Closed (key_of c) t → Turned lane h u (closes w c) t
 closes_turn lane h u AskingWord c t a = a
 closes_turn lane h u NotMineWord c t a = done lane h u c t a
-closes_turn lane h u MovedWord c t a = by_newly (is_newly (kind_of c))
+closes_turn lane h u MovedWord c t a = by_newly (is_newly (turn_kind c))
   where
     by_newly : (b : Bool) → Turned lane h u (cond b (goes_to None c) (goes_to (least_above c.positions c.position) c)) t
     by_newly true = done lane h u c t a
@@ -438,30 +438,30 @@ abbrev pub with_turn : Header → Course → QueueState → Mask → Course
 with_turn h c q ps = record c { positions = ps; counters = counters_found q c.at c.version (shapes_of (turn_domains h c)) }
 
 pub opened_turn : (lane : ℕ) (h : Header) (vs : List (List Mask)) (c : Course) (q : QueueState) (ps : Mask)
-    → ps ≡ positions_found q c.at (kind_of c) c.version (shapes_of (turn_domains h c)) → IsPublished vs (use_key c)
+    → ps ≡ positions_found q c.at (turn_kind c) c.version (shapes_of (turn_domains h c)) → IsPublished vs (use_key c)
     → Fits h vs c.cpu (part_of q) →
     Turned lane h (use_key c) (goes_to (least ps) (with_turn h c q ps))
-    (part_of (opened q c.at lane (kind_of c) c.version (shapes_of (turn_domains h c))))
+    (part_of (opened q c.at lane (turn_kind c) c.version (shapes_of (turn_domains h c))))
 opened_turn lane h vs c q ps due u f = by_first (least ps) refl
   where
     shapes : List Shape
     shapes = shapes_of (turn_domains h c)
 
     there : IsOpenAt lane h (use_key c) ps (counters_found q c.at c.version shapes)
-        (part_of (opened q c.at lane (kind_of c) c.version shapes))
+        (part_of (opened q c.at lane (turn_kind c) c.version shapes))
     there = record {
-      opened = ap (λ (m : Mask). let t : OpenTurn = record { lane = lane; kind = kind_of c; positions = m } in Some t) (sym due);
+      opened = ap (λ (m : Mask). let t : OpenTurn = record { lane = lane; kind = turn_kind c; positions = m } in Some t) (sym due);
       version = refl;
       below = λ p k.
           let l = length-map (turn_domains h c) (λ (d : Domain). d.shape) in
-          let b = positions_below q c.at (kind_of c) c.version p shapes (finds_many h c vs q u f)
+          let b = positions_below q c.at (turn_kind c) c.version p shapes (finds_many h c vs q u f)
           (subst (λ (m : Mask). has m p ≡ true) due k) in
           omega arith;
       are = refl;
     }
 
     by_first : (o : Option ℕ) → least ps ≡ o
-        → Turned lane h (use_key c) (goes_to o (with_turn h c q ps)) (part_of (opened q c.at lane (kind_of c) c.version shapes))
+        → Turned lane h (use_key c) (goes_to o (with_turn h c q ps)) (part_of (opened q c.at lane (turn_kind c) c.version shapes))
     by_first None e = record {
       at = refl;
       found = counters_found q c.at c.version shapes;

@@ -5,7 +5,7 @@ use Rattle.lb_core.specs.declared.rule.Rule.{Rule}
 use Rattle.lb_core.specs.declared.rule.Rule.TheVariants.{Ticket, Prev, Stage, Row as RowRule, Place as PlaceRule, Reply as ReplyRule, Version, Figure, Decision as DecisionRule, Pick, Flight, Counters as CountersRule, Owed, End as EndRule}
 use Rattle.lb_core.specs.declared.entry.Entry.{Entry}
 use Rattle.lb_core.specs.Rules.{breaks_here}
-use Rattle.lb_core.specs.Machine.{Machine, sight}
+use Rattle.lb_core.specs.Machine.{MachineState, sight}
 use Rattle.lb_core.specs.Elsewhere.{breaks_elsewhere}
 use Rattle.lb_core.specs.Step.{breaks, first_broken}
 
@@ -14,7 +14,7 @@ passed true r rest h = absurd (let k : ⊥ = cc in k)
 passed false r rest h = (refl, h)
 
 -- an entry that may be added breaks no rule
-pub unbroken : (m : Machine) (e : Entry) → first_broken m e ≡ None → (r : Rule) → breaks m e r ≡ false
+pub unbroken : (m : MachineState) (e : Entry) → first_broken m e ≡ None → (r : Rule) → breaks m e r ≡ false
 unfolding first_broken
 unbroken m e h r =
     let p1 = passed (breaks m e Prev) Prev _ h in
@@ -47,8 +47,8 @@ unbroken m e h r =
       | EndRule ↦ p13.0
     ]
 
-pub unbroken_here : (m : Machine) (e : Entry) → first_broken m e ≡ None → (r : Rule) → breaks_here r (sight m e) e ≡ false
+pub unbroken_here : (m : MachineState) (e : Entry) → first_broken m e ≡ None → (r : Rule) → breaks_here r (sight m e) e ≡ false
 unbroken_here m e h r = (or_parts (breaks_here r (sight m e) e) (breaks_elsewhere r m e) (unbroken m e h r)).0
 
-pub unbroken_elsewhere : (m : Machine) (e : Entry) → first_broken m e ≡ None → (r : Rule) → breaks_elsewhere r m e ≡ false
+pub unbroken_elsewhere : (m : MachineState) (e : Entry) → first_broken m e ≡ None → (r : Rule) → breaks_elsewhere r m e ≡ false
 unbroken_elsewhere m e h r = (or_parts (breaks_here r (sight m e) e) (breaks_elsewhere r m e) (unbroken m e h r)).1

@@ -5,7 +5,7 @@ use Rattle.std.specs.Prelude.{◌≡◌, map}
 use Rattle.lb_core.specs.declared.entry.What.{What}
 use Rattle.lb_core.specs.declared.entry.What.TheVariants.{Row, Adopt, Look, Scan}
 use Rattle.lb_core.specs.declared.entry.Entry.{Entry}
-use Rattle.lb_core.specs.Machine.{Machine}
+use Rattle.lb_core.specs.Machine.{MachineState}
 use Rattle.lb_core.specs.Legal.{MayBeAdded}
 
 -- both take up the same row, or neither takes one up; a version or figures that both name are the same.
@@ -21,4 +21,4 @@ Agree v w = Unit {0}
 
 -- two entries of one lane that may both be added, and agree on the choices, are equal
 abbrev pub ChoicesAreAll : Type 0
-ChoicesAreAll = (m : Machine) (a b : Entry) → a.lane ≡ b.lane → MayBeAdded m a → MayBeAdded m b → Agree a.what b.what → a ≡ b
+ChoicesAreAll = (m : MachineState) (a b : Entry) → a.lane ≡ b.lane → MayBeAdded m a → MayBeAdded m b → Agree a.what b.what → a ≡ b

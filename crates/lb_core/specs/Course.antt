@@ -86,8 +86,8 @@ task_of (Some (Tick cpu)) = None
 task_of (Some (Rebuild parts)) = None
 
 -- ---- the turn that is due or open
-abbrev pub kind_of : Course → Kind
-kind_of c = unwrap_or c.kind TickTurn
+abbrev pub turn_kind : Course → Kind
+turn_kind c = unwrap_or c.kind TickTurn
 
 abbrev pub is_newly : Kind → Bool
 is_newly TickTurn = false
@@ -143,7 +143,7 @@ env_by h c (Some (Pull s k i)) =
     Some (record {
       to = c.cpu;
       idle = c.idle;
-      newly = is_newly (kind_of c);
+      newly = is_newly (turn_kind c);
       kind = k;
       imbalance = i;
       failures = (counters_at c.counters c.position).failures;
@@ -182,7 +182,7 @@ outcome_by (Some NotMine) h c = NotMineEnd
 outcome_by (Some Balanced) h c = if is_some c.taken then PinnedEnd else BalancedEnd
 outcome_by (Some (Pull s k i)) h c =
     outcome_after (is_all_pinned c.taken) c.took (counters_at c.counters c.position).failures
-    (tries_of (turn_domain h c).shape.name) (kind_of c)
+    (tries_of (turn_domain h c).shape.name) (turn_kind c)
 
 -- how the position in work ends, if it ends now
 unfoldable pub outcome_of : Header → Course → Outcome

@@ -26,7 +26,7 @@ use Rattle.lb_core.specs.declared.entry.OutcomeWord.TheVariants.{NotMine as NotM
 use Rattle.lb_core.specs.declared.entry.What.{What}
 use Rattle.lb_core.specs.declared.entry.What.TheVariants.{Row, Adopt, Look, Scan, End, Did, Out, Landed, Turn, Shut, Close, Ask, Kick, Over, Pub}
 use Rattle.lb_core.specs.declared.entry.Entry.{Entry}
-use Rattle.lb_core.specs.Course.{is_tick, is_newly, kind_of, turn_domains, shapes_of, is_all_pinned, source_of}
+use Rattle.lb_core.specs.Course.{is_tick, is_newly, turn_kind, turn_domains, shapes_of, is_all_pinned, source_of}
 use Rattle.lb_core.specs.Sight.{Sight, by_cpu, tickless_in}
 use Rattle.lb_core.specs.Stage.{target_of}
 use Rattle.lb_core.specs.Leaving.{Leaving, leaving}
@@ -42,8 +42,8 @@ abbrev pub begins_anew : Course → Course
 begins_anew c = record c { excluded = no_cpus; decision = None; idle = false; took = 0; taken = None }
 
 -- the row is served
-abbrev pub rests : Course → Course
-rests c = record (begins_anew (lets_go c)) { form = Rest; command = None; awake = 0; pushed = false; figures = [] }
+abbrev pub comes_to_rest : Course → Course
+comes_to_rest c = record (begins_anew (lets_go c)) { form = Rest; command = None; awake = 0; pushed = false; figures = [] }
 
 -- ---- turns
 -- a turn of this kind is due at the CPU
@@ -60,25 +60,25 @@ goes_on c = goes_to (least_above c.positions c.position) c
 
 -- the turn of a kicked CPU, or rest
 abbrev pub kicks_next : Option ℕ → Course → Course
-kicks_next None c = rests c
+kicks_next None c = comes_to_rest c
 kicks_next (Some cpu) c = is_due_at Nohz cpu c
 
 -- after a turn: a scan after a tick of two or more awake tasks on a CPU with domains; the next CPU
 -- of a kick
-abbrev pub ends_turn : Kind → Header → Course → Course
-ends_turn TickTurn h c = if nat_lt 1 c.awake && nat_lt 0 (length (turn_domains h c))
-    then record (begins_anew c) { form = ScanDue } else rests c
-ends_turn Idle h c = rests c
-ends_turn Nohz h c = kicks_next (least_above (tickless_in c.figures) c.cpu) c
+abbrev pub turn_ends_by : Kind → Header → Course → Course
+turn_ends_by TickTurn h c = if nat_lt 1 c.awake && nat_lt 0 (length (turn_domains h c))
+    then record (begins_anew c) { form = ScanDue } else comes_to_rest c
+turn_ends_by Idle h c = comes_to_rest c
+turn_ends_by Nohz h c = kicks_next (least_above (tickless_in c.figures) c.cpu) c
 
 unfoldable pub turn_ends : Header → Course → Course
-turn_ends h c = ends_turn (kind_of c) h c
+turn_ends h c = turn_ends_by (turn_kind c) h c
 
 -- ---- the answer to a row
 -- a turn of the CPU that has become idle; its row stays in service
 abbrev pub after_sleep : Bool → ℕ → Course → Course
 after_sleep true cpu c = is_due_at Idle cpu c
-after_sleep false cpu c = rests c
+after_sleep false cpu c = comes_to_rest c
 
 -- the task was awake, and now nobody is
 abbrev pub left_idle : ℕ → QueueState → QueueState → Bool
@@ -88,7 +88,7 @@ abbrev pub answered : Option Command → ℕ → QueueState → QueueState → C
 answered (Some (Sleep t)) cpu before now c = after_sleep (left_idle t before now) cpu c
 answered (Some (Exit t)) cpu before now c = after_sleep (left_idle t before now) cpu c
 answered (Some (Tick ticked)) cpu before now c = record c { form = Serving; awake = length now.awake }
-answered command cpu before now c = rests c
+answered command cpu before now c = comes_to_rest c
 
 -- ---- tasks that leave and land
 abbrev pub is_push : OutCause → Bool
@@ -120,27 +120,27 @@ excluding c = if is_all_pinned c.taken then either c.excluded (only (source_of c
 
 abbrev pub lands : OutCause → Course → Course
 lands PullOut c = record (lets_go c) { form = LandedForm; excluded = excluding c }
-lands cause c = if is_tick c.command then record (lets_go c) { form = Serving } else rests c
+lands cause c = if is_tick c.command then record (lets_go c) { form = Serving } else comes_to_rest c
 
 -- ---- looks and scans
 -- the named numbers are the greatest now
-abbrev pub names : List FigName → List ℕ → List ℕ
-names [] named = named
-names (f ∷ fs) named = names fs (slice_set named f.cpu f.n)
+abbrev pub raised_numbers : List FigName → List ℕ → List ℕ
+raised_numbers [] named = named
+raised_numbers (f ∷ fs) named = raised_numbers fs (slice_set named f.cpu f.n)
 
 abbrev pub scanned : Option ℕ → Course → Course
-scanned None c = rests c
+scanned None c = comes_to_rest c
 scanned (Some cpu) c = record c { form = Kicking }
 
 abbrev pub kicked : AskReply → Course → Course
 kicked New c = kicks_next (target_of c) c
-kicked Old c = rests c
+kicked Old c = comes_to_rest c
 
 -- ---- the close of a position
 abbrev pub closes : OutcomeWord → Course → Course
 closes AskingWord c = record c { form = Closed }
 closes NotMineWord c = goes_to None c
-closes MovedWord c = if is_newly (kind_of c) then goes_to None c else goes_on c
+closes MovedWord c = if is_newly (turn_kind c) then goes_to None c else goes_on c
 closes w c = goes_on c
 
 -- `cpu` is the CPU of the owner's queue, and `now` that queue after the entry
@@ -152,10 +152,10 @@ course_by (Look p x fs d) s cpu now =
     record s.course {
       form = Looked;
       decision = Some d;
-      idle = not (is_busy (kind_of s.course) (by_cpu s.figs) s.course.cpu);
-      named = names fs s.course.named;
+      idle = not (is_busy (turn_kind s.course) (by_cpu s.figs) s.course.cpu);
+      named = raised_numbers fs s.course.named;
     }
-course_by (Scan fs t) s cpu now = scanned t (record s.course { figures = s.figs; named = names fs s.course.named })
+course_by (Scan fs t) s cpu now = scanned t (record s.course { figures = s.figs; named = raised_numbers fs s.course.named })
 course_by (End unserved) s cpu now = record s.course { form = Ended }
 course_by (Did r) s cpu now = answered s.course.command cpu s.queue now s.course
 course_by (Out cause to tasks) s cpu now = takes_off (leaving s) s.course
@@ -170,7 +170,7 @@ course_by (Close p w i f) s cpu now = closes w s.course
 course_by (Ask r) s cpu now = goes_on s.course
 course_by (Kick r) s cpu now = kicked r s.course
 course_by Over s cpu now = turn_ends s.header s.course
-course_by (Pub v) s cpu now = record (rests s.course) { named_version = v }
+course_by (Pub v) s cpu now = record (comes_to_rest s.course) { named_version = v }
 
 -- an entry of a queue counts as its lane's greatest number there
 abbrev pub drew : Owner → ℕ → Course → Course

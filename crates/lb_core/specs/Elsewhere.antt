@@ -23,13 +23,13 @@ use Rattle.lb_core.specs.declared.rule.Rule.TheVariants.{Prev, Stage, Row as Row
 use Rattle.lb_core.specs.Same.{same_mask, same_owner}
 use Rattle.lb_core.specs.Course.{task_of}
 use Rattle.lb_core.specs.Stage.{waits_for_push, waits_for_stop}
-use Rattle.lb_core.specs.Machine.{Machine, queue_at, course_at, entries_at, place_at}
+use Rattle.lb_core.specs.Machine.{MachineState, queue_at, course_at, entries_at, place_at}
 
 -- ---- stage
-abbrev pub is_undeclared_lane : Machine → ℕ → Bool
+abbrev pub is_undeclared_lane : MachineState → ℕ → Bool
 is_undeclared_lane m lane = not (nat_lt lane (length m.courses))
 
-abbrev pub is_undeclared_owner : Machine → Owner → Bool
+abbrev pub is_undeclared_owner : MachineState → Owner → Bool
 is_undeclared_owner m (Queue cpu) = not (nat_lt cpu (length m.queues))
 is_undeclared_owner m o = false
 
@@ -37,11 +37,11 @@ abbrev pub is_rest : Form → Bool
 is_rest Rest = true
 is_rest form = false
 
-abbrev pub all_rest : Machine → Bool
+abbrev pub all_rest : MachineState → Bool
 all_rest m = list_all (λ c. is_rest c.form) m.courses
 
 -- the least CPU with a pending stop request
-unfoldable pub first_pending : Machine → Option ℕ
+unfoldable pub first_pending : MachineState → Option ℕ
 first_pending m = find (λ cpu. has_pending (queue_at m.queues cpu)) (range_with_len 0 (length m.queues))
 
 abbrev pub is_first_pending : Option ℕ → Owner → Bool
@@ -49,14 +49,14 @@ is_first_pending None o = false
 is_first_pending (Some cpu) o = same_owner o (Queue cpu)
 
 -- at rest: no row once a stop was served at rest; such a stop, and the end, only where all lanes rest
-abbrev pub stage_at_rest : Form → Machine → Owner → What → Bool
+abbrev pub stage_at_rest : Form → MachineState → Owner → What → Bool
 stage_at_rest Rest m o (Row n at command) = m.closing
 stage_at_rest Rest m o (Out cause to ids) = not (all_rest m) || not (is_first_pending (first_pending m) o)
 stage_at_rest Rest m o (End unserved) = not (all_rest m)
 stage_at_rest form m o w = false
 
 -- the `use` of a tick, while a push is due
-abbrev pub stage_of_use : Machine → Course → What → Bool
+abbrev pub stage_of_use : MachineState → Course → What → Bool
 stage_of_use m c (Adopt v k cpu) = waits_for_push k c (queue_at m.queues cpu)
 stage_of_use m c w = false
 
@@ -65,7 +65,7 @@ abbrev pub is_another : Option ℕ → ℕ → Bool
 is_another None lane = false
 is_another (Some l) lane = not (l == lane)
 
-abbrev pub ticked_elsewhere : Machine → ℕ → What → Bool
+abbrev pub ticked_elsewhere : MachineState → ℕ → What → Bool
 ticked_elsewhere m lane (Row n at (Tick cpu)) = is_another (slice_index_or m.ticked cpu None) lane
 ticked_elsewhere m lane w = false
 
@@ -76,42 +76,42 @@ is_at (AsleepAt cpu) o = same_owner o (Queue cpu)
 is_at (GoneAt cpu) o = same_owner o (Queue cpu)
 is_at (HandOf lane) o = false
 
-abbrev pub task_elsewhere : Option ℕ → Machine → Owner → Bool
+abbrev pub task_elsewhere : Option ℕ → MachineState → Owner → Bool
 task_elsewhere None m o = false
 task_elsewhere (Some t) m o = not (is_at (place_at m t) o)
 
-abbrev pub answered_elsewhere : Form → Course → Machine → Owner → What → Bool
+abbrev pub answered_elsewhere : Form → Course → MachineState → Owner → What → Bool
 answered_elsewhere Asked c m o (Did r) = task_elsewhere (task_of c.command) m o
 answered_elsewhere Asked c m o (Out cause to ids) = task_elsewhere (task_of c.command) m o
 answered_elsewhere form c m o w = false
 
 -- ---- version and figure: not published
-abbrev pub version_unpublished : Machine → What → Bool
+abbrev pub version_unpublished : MachineState → What → Bool
 version_unpublished m (Adopt v k cpu) = nat_lt (length m.versions) v
 version_unpublished m w = false
 
-abbrev pub figure_unpublished : Machine → What → Bool
+abbrev pub figure_unpublished : MachineState → What → Bool
 figure_unpublished m (Look p x names d) = list_any (λ f. nat_lt (entries_at m f.cpu) f.n) names
 figure_unpublished m (Scan names t) = list_any (λ f. nat_lt (entries_at m f.cpu) f.n) names
 figure_unpublished m w = false
 
 -- ---- owed: the `use` of a tick while a stop is owed, the end while one is pending
-abbrev pub owed_elsewhere : Machine → What → Bool
+abbrev pub owed_elsewhere : MachineState → What → Bool
 owed_elsewhere m (Adopt v k cpu) = waits_for_stop k (queue_at m.queues cpu)
 owed_elsewhere m (End unserved) = is_some (first_pending m)
 owed_elsewhere m w = false
 
 -- ---- end
 -- the CPUs whose active request is unserved
-unfoldable pub unserved : Machine → Mask
+unfoldable pub unserved : MachineState → Mask
 unserved m = mask_where (λ cpu. nat_lt cpu (length m.queues) && is_some (queue_at m.queues cpu).active)
 
-abbrev pub end_is_wrong : Machine → What → Bool
+abbrev pub end_is_wrong : MachineState → What → Bool
 end_is_wrong m (End cpus) = not (same_mask cpus (unserved m))
 end_is_wrong m w = false
 
 -- whether the entry breaks a rule by the rest of the machine
-abbrev pub breaks_elsewhere : Rule → Machine → Entry → Bool
+abbrev pub breaks_elsewhere : Rule → MachineState → Entry → Bool
 breaks_elsewhere Prev m e = not (e.prev == slice_index_or m.last e.lane 0)
 breaks_elsewhere Stage m e =
     is_undeclared_lane m e.lane || is_undeclared_owner m e.owner

@@ -10,7 +10,7 @@ use Rattle.lb_queue.specs.declared.answers.Taken.{Taken}
 use Rattle.lb_queue.specs.declared.record.TaskRecord.{TaskRecord}
 use Rattle.lb_queue.specs.Queue.{QueueState, away}
 use Rattle.lb_queue.specs.Requests.{next_stop}
-use Rattle.lb_queue.specs.Hands.{leave, take_stop, take_push, pull, taken_by}
+use Rattle.lb_queue.specs.Hands.{leave, take_stop, take_push, take_pull, taken_by}
 use Rattle.lb_trace.specs.declared.trace.Command.{Command}
 use Rattle.lb_trace.specs.declared.trace.Command.TheVariants.{Wake}
 use Rattle.lb_trace.specs.declared.trace.Header.{Header}
@@ -59,7 +59,7 @@ served_out (Some stop) at q = stop_out (Some stop) at q
 -- a pull, to the CPU that balances
 abbrev pub pull_out : Option Env → ℕ → QueueState → Option Leaving
 pull_out None at q = None
-pull_out (Some env) at q = leaving_by PullOut env.to (Some (taken_by q at env)) (pull q at env)
+pull_out (Some env) at q = leaving_by PullOut env.to (Some (taken_by q at env)) (take_pull q at env)
 
 abbrev pub out_by : Form → Header → Course → QueueState → Option Leaving
 out_by Rest h c q = stop_out (next_stop q false) c.at q

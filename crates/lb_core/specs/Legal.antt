@@ -8,20 +8,20 @@ use Rattle.lb_trace.specs.declared.trace.Header.{Header}
 use Rattle.lb_core.specs.declared.entry.Entry.{Entry}
 use Rattle.lb_core.specs.declared.rule.Rule.{Rule}
 use Rattle.lb_core.specs.declared.rule.Rule.TheVariants.{End as EndRule}
-use Rattle.lb_core.specs.Machine.{Machine, start}
+use Rattle.lb_core.specs.Machine.{MachineState, start}
 use Rattle.lb_core.specs.Step.{first_broken, after}
 
 -- the entry breaks no rule
-abbrev pub MayBeAdded : Machine → Entry → Type 0
+abbrev pub MayBeAdded : MachineState → Entry → Type 0
 MayBeAdded m e = first_broken m e ≡ None
 
 -- the machine after some entries
-abbrev pub run : List Entry → Machine → Machine
+abbrev pub run : List Entry → MachineState → MachineState
 run [] m = m
 run (e ∷ es) m = run es (after m e)
 
 -- each may be added after those before it
-abbrev pub MayFollow : List Entry → Machine → Type 0
+abbrev pub MayFollow : List Entry → MachineState → Type 0
 MayFollow [] m = Unit {0}
 MayFollow (e ∷ es) m = MayBeAdded m e × MayFollow es (after m e)
 
@@ -46,7 +46,7 @@ missing_end true ticket = None
 missing_end false ticket = Some (record { ticket = ticket; rule = EndRule })
 
 -- the first entry that breaks a rule, the first of them at ticket `ticket`; or the missing end
-abbrev pub fault_from : ℕ → List Entry → Machine → Option Fault
+abbrev pub fault_from : ℕ → List Entry → MachineState → Option Fault
 fault_from ticket [] m = missing_end m.ended ticket
 fault_from ticket (e ∷ es) m = or_later (first_broken m e) ticket (fault_from (ticket + 1) es (after m e))
 

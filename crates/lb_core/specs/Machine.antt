@@ -29,7 +29,7 @@ use Rattle.lb_core.specs.Sight.{Sight}
 -- each task. Number 0 of a queue's figures is that of its opening state. `last` has the ticket of a
 -- lane's last entry, or 0; `ticked` the lane that ticked a CPU. `closing` says whether a stop was
 -- served at rest, `ended` whether the end was drawn.
-pub record Machine : Type 0 where
+pub record MachineState : Type 0 where
   pub header : Header
   pub ticket : ℕ
   pub versions : List (List Mask)
@@ -62,11 +62,11 @@ abbrev pub figures_at : List (List Fig) → ℕ → List Fig
 figures_at figures cpu = slice_index_or figures cpu []
 
 -- how many entries a queue drew
-abbrev pub entries_at : Machine → ℕ → ℕ
+abbrev pub entries_at : MachineState → ℕ → ℕ
 entries_at m cpu = length (figures_at m.figures cpu) - 1
 
 -- the place of a task; for an undeclared one the hand of no declared lane
-abbrev pub place_at : Machine → ℕ → Place
+abbrev pub place_at : MachineState → ℕ → Place
 place_at m t = slice_index_or m.places t (HandOf (length m.courses))
 
 -- ---- the opening state
@@ -79,7 +79,7 @@ tasks_at cpu id (row ∷ rows) = if row.home == cpu then new_task id row.nice ro
 unfoldable pub opening_queue : Header → ℕ → QueueState
 opening_queue h cpu = record (empty_queue cpu (length h.cpus)) { asleep = tasks_at cpu 0 h.tasks }
 
-unfoldable pub start : Header → Machine
+unfoldable pub start : Header → MachineState
 start h =
     let n = length h.cpus in
     record {
@@ -97,20 +97,20 @@ start h =
     }
 
 -- ---- what the step of an entry reads
-abbrev pub owned_queue : Owner → Machine → QueueState
+abbrev pub owned_queue : Owner → MachineState → QueueState
 owned_queue (Queue cpu) m = queue_at m.queues cpu
 owned_queue o m = no_queue
 
-abbrev pub owned_count : Owner → Machine → ℕ
+abbrev pub owned_count : Owner → MachineState → ℕ
 owned_count (Queue cpu) m = entries_at m cpu
 owned_count Publisher m = length m.versions - 1
 owned_count (Lane l) m = 0
 
 -- the masks of a published version, counted from 1
-abbrev pub masks_at : Machine → ℕ → List Mask
+abbrev pub masks_at : MachineState → ℕ → List Mask
 masks_at m v = slice_index_or m.versions (v - 1) []
 
-abbrev pub masks_for : What → Machine → List Mask
+abbrev pub masks_for : What → MachineState → List Mask
 masks_for (Adopt v k cpu) m = masks_at m v
 masks_for w m = []
 
@@ -118,12 +118,12 @@ masks_for w m = []
 abbrev pub figures_named : List (List Fig) → List FigName → List CpuFig
 figures_named figures names = map (λ f. record { cpu = f.cpu; fig = slice_index_or (figures_at figures f.cpu) f.n no_fig }) names
 
-abbrev pub figs_for : What → Machine → List CpuFig
+abbrev pub figs_for : What → MachineState → List CpuFig
 figs_for (Look p x names d) m = figures_named m.figures names
 figs_for (Scan names t) m = figures_named m.figures names
 figs_for w m = []
 
-unfoldable pub sight : Machine → Entry → Sight
+unfoldable pub sight : MachineState → Entry → Sight
 sight m e =
     record {
       header = m.header;

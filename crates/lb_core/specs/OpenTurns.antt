@@ -12,34 +12,34 @@ use Rattle.lb_core.specs.declared.course.Course.{Course}
 use Rattle.lb_core.specs.declared.course.Form.{Form}
 use Rattle.lb_core.specs.declared.course.Form.TheVariants.{Flight, Used, Position, Looked, Landed, Closed, Done}
 use Rattle.lb_core.specs.declared.entry.Entry.{Entry}
-use Rattle.lb_core.specs.Course.{kind_of}
+use Rattle.lb_core.specs.Course.{turn_kind}
 use Rattle.lb_core.specs.QueueAfter.{cause_of}
-use Rattle.lb_core.specs.Machine.{Machine, queue_at, course_at, masks_at, start}
+use Rattle.lb_core.specs.Machine.{MachineState, queue_at, course_at, masks_at, start}
 use Rattle.lb_core.specs.Legal.{run, IsLegalFront}
 
 -- the lane took up this version, with its masks
-pub record IsVersion (m : Machine) (version : ℕ) (masks : List Mask) : Type 0 where
+pub record IsVersion (m : MachineState) (version : ℕ) (masks : List Mask) : Type 0 where
   pub from_first : 1 ≤ version
   pub published : version ≤ length m.versions
   pub masks_are : masks ≡ masks_at m version
 
 -- its turn is open at the queue of its CPU, at positions of the CPU's domains
-pub record IsOpenFor (m : Machine) (lane : ℕ) (c : Course) : Type 0 where
+pub record IsOpenFor (m : MachineState) (lane : ℕ) (c : Course) : Type 0 where
   pub taken_up : IsVersion m c.version c.masks
-  pub opened : (queue_at m.queues c.cpu).open_turn ≡ Some (record { lane = lane; kind = kind_of c; positions = c.positions })
+  pub opened : (queue_at m.queues c.cpu).open_turn ≡ Some (record { lane = lane; kind = turn_kind c; positions = c.positions })
   pub inside : (p : ℕ) → has c.positions p ≡ true → p < length (domains_of m.header.cpus m.header.distances c.masks c.cpu)
 
 -- and the position in work is one of them
-abbrev pub IsAtPosition : Machine → ℕ → Course → Type 0
+abbrev pub IsAtPosition : MachineState → ℕ → Course → Type 0
 IsAtPosition m lane c = IsOpenFor m lane c × (has c.positions c.position ≡ true)
 
 -- tasks in flight belong to a turn where they were pulled
-abbrev pub FliesInTurn : OutCause → Machine → ℕ → Course → Type 0
+abbrev pub FliesInTurn : OutCause → MachineState → ℕ → Course → Type 0
 FliesInTurn PullOut m lane c = IsAtPosition m lane c
 FliesInTurn cause m lane c = Unit {0}
 
 -- by the form of the lane's course
-abbrev pub TurnIn : Form → Machine → ℕ → Course → Type 0
+abbrev pub TurnIn : Form → MachineState → ℕ → Course → Type 0
 TurnIn Used m lane c = IsVersion m c.version c.masks
 TurnIn Position m lane c = IsAtPosition m lane c
 TurnIn Looked m lane c = IsAtPosition m lane c
@@ -49,7 +49,7 @@ TurnIn Closed m lane c = IsOpenFor m lane c
 TurnIn Done m lane c = IsOpenFor m lane c
 TurnIn form m lane c = Unit {0}
 
-abbrev pub KeepsTurn : Machine → ℕ → Course → Type 0
+abbrev pub KeepsTurn : MachineState → ℕ → Course → Type 0
 KeepsTurn m lane c = TurnIn c.form m lane c
 
 abbrev pub TurnsStayOpen : Type 0

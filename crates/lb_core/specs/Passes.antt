@@ -38,7 +38,7 @@ use Rattle.lb_core.specs.declared.entry.Entry.{Entry}
 use Rattle.lb_core.specs.Same.{same_owner}
 use Rattle.lb_core.specs.Course.{domain_at, is_newly}
 use Rattle.lb_core.specs.Sight.{by_cpu}
-use Rattle.lb_core.specs.Machine.{Machine, queue_at, masks_at, figures_at, figures_named, start}
+use Rattle.lb_core.specs.Machine.{MachineState, queue_at, masks_at, figures_at, figures_named, start}
 use Rattle.lb_core.specs.Step.{after}
 use Rattle.lb_core.specs.Legal.{run, IsLegalFront}
 use Rattle.lb_core.specs.LaneEntries.{next_of, until, beyond, last_said, last_row, Use, last_use}
@@ -73,7 +73,7 @@ pub record IsFigureOf (h : Header) (before : List Entry) (name : FigName) (fig :
 
 -- ---- the domain
 -- the domains of the CPU that balances, in the version that was taken up
-abbrev pub use_domains : Header → Machine → Use → List Domain
+abbrev pub use_domains : Header → MachineState → Use → List Domain
 use_domains h m u = domains_of h.cpus h.distances (masks_at m u.version) u.cpu
 
 -- the CPUs of the span that are neither left out nor in the local group
@@ -82,7 +82,7 @@ others_of domain x = without (without domain.shape.span x) (group_at domain.grou
 
 -- ---- the take
 -- what a take asks for
-abbrev pub env_of_pass : Header → Machine → Use → ℕ → List FigName → MoveKind → ℕ → Env
+abbrev pub env_of_pass : Header → MachineState → Use → ℕ → List FigName → MoveKind → ℕ → Env
 env_of_pass h m u p names kind imbalance =
     record {
       to = u.cpu;
@@ -107,21 +107,21 @@ LooksAgain again p (Some e) = looked_at e.what ≡ (if again then Some p else No
 -- the take is drawn at its source, and is what the rules pick there in the state just before, at the
 -- moment of the lane's row; the others stay, in the order that the examination leaves; after the landing
 -- comes `next`
-pub record IsTake (env : Env) (p : ℕ) (others : Mask) (source at : ℕ) (m : Machine) (o : Entry) (next : Option Entry) : Type 0 where
+pub record IsTake (env : Env) (p : ℕ) (others : Mask) (source at : ℕ) (m : MachineState) (o : Entry) (next : Option Entry) : Type 0 where
   pub owner : o.owner ≡ Queue source
   pub what : o.what ≡ Out PullOut env.to (picked_ids env (views (queue_at m.queues source) at))
   pub stays : awake_ids (queue_at (after m o).queues source).awake ≡ kept_ids env (views (queue_at m.queues source) at)
   pub again : LooksAgain (all_pinned env (views (queue_at m.queues source) at) && not (is_empty others)) p next
 
 -- where the look pulls, the lane's next entry, if there is one, is the take
-abbrev pub Takes : Decision → (MoveKind → ℕ → Env) → ℕ → (ℕ → Mask) → ℕ → Machine → Option Entry → Option Entry → Type 0
+abbrev pub Takes : Decision → (MoveKind → ℕ → Env) → ℕ → (ℕ → Mask) → ℕ → MachineState → Option Entry → Option Entry → Type 0
 Takes (Pull source kind imbalance) env p others at m (Some o) next = IsTake (env kind imbalance) p (others source) source at m o next
 Takes d env p others at m o next = Unit {0}
 
 -- ---- the pass
 -- the turn of the `use` is open, in its version, at the queue of the CPU that balances, and the position
 -- is one of its
-pub record IsTurnOpen (lane p : ℕ) (u : Use) (m : Machine) : Type 0 where
+pub record IsTurnOpen (lane p : ℕ) (u : Use) (m : MachineState) : Type 0 where
   pub positions : Mask
   pub opened : (queue_at m.queues u.cpu).open_turn ≡ Some (record { lane = lane; kind = u.kind; positions = positions })
   pub version : (queue_at m.queues u.cpu).version ≡ u.version

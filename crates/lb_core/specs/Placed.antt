@@ -11,29 +11,29 @@ use Rattle.lb_core.specs.declared.entry.Entry.{Entry}
 use Rattle.lb_core.specs.declared.place.Place.{Place}
 use Rattle.lb_core.specs.declared.place.Place.TheVariants.{Awake as AwakeAt, Asleep as AsleepAt, Gone as GoneAt, Hand as HandOf}
 use Rattle.lb_core.specs.Same.{same_place}
-use Rattle.lb_core.specs.Machine.{Machine, queue_at, course_at, place_at, start}
+use Rattle.lb_core.specs.Machine.{MachineState, queue_at, course_at, place_at, start}
 use Rattle.lb_core.specs.Step.{after}
 use Rattle.lb_core.specs.Legal.{MayBeAdded, run, IsLegalFront}
 use Rattle.lb_trace.specs.Accepted.{IsHeader}
 
 -- who stands at a place
-abbrev pub standing : Machine → Place → List ℕ
+abbrev pub standing : MachineState → Place → List ℕ
 standing m (AwakeAt cpu) = awake_ids (queue_at m.queues cpu).awake
 standing m (AsleepAt cpu) = ids (queue_at m.queues cpu).asleep
 standing m (GoneAt cpu) = ids (queue_at m.queues cpu).gone
 standing m (HandOf lane) = ids (course_at m.courses lane).hand
 
 -- how often a task stands at a place
-abbrev pub times : Machine → Place → ℕ → ℕ
+abbrev pub times : MachineState → Place → ℕ → ℕ
 times m place t = occurs t (standing m place)
 
 -- it is a declared task, and the map has it at that place
-abbrev pub is_its_place : Machine → Place → ℕ → Bool
+abbrev pub is_its_place : MachineState → Place → ℕ → Bool
 is_its_place m place t = nat_lt t (length m.places) && same_place place (place_at m t)
 
 -- the map has a place for each task of the header; a declared task stands once at its place and nowhere
 -- else, and any other number nowhere
-pub record IsPlaced (m : Machine) : Type 0 where
+pub record IsPlaced (m : MachineState) : Type 0 where
   pub mapped : length m.places ≡ length m.header.tasks
   pub once : (place : Place) (t : ℕ) → times m place t ≡ (if is_its_place m place t then 1 else 0)
 
@@ -46,7 +46,7 @@ is_flight Flight = true
 is_flight form = false
 
 -- a hand is empty unless its lane is in flight
-abbrev pub HandsRest : Machine → Type 0
+abbrev pub HandsRest : MachineState → Type 0
 HandsRest m = (lane : ℕ) → is_flight (course_at m.courses lane).form ≡ false → (course_at m.courses lane).hand ≡ []
 
 -- the opening state of an accepted header has both, and each entry that may be added keeps both
@@ -54,4 +54,4 @@ abbrev pub PlacedOpens : Type 0
 PlacedOpens = (h : Header) → IsHeader h → IsPlaced (start h) × HandsRest (start h)
 
 abbrev pub PlacedStays : Type 0
-PlacedStays = (m : Machine) (e : Entry) → IsPlaced m → HandsRest m → MayBeAdded m e → IsPlaced (after m e) × HandsRest (after m e)
+PlacedStays = (m : MachineState) (e : Entry) → IsPlaced m → HandsRest m → MayBeAdded m e → IsPlaced (after m e) × HandsRest (after m e)

@@ -16,7 +16,7 @@ use Rattle.lb_core.specs.declared.course.Course.{Course}
 use Rattle.lb_core.specs.declared.entry.What.{What}
 use Rattle.lb_core.specs.declared.entry.What.TheVariants.{Did, Out, Landed, Turn, Shut, Close, Ask, Kick, Over}
 use Rattle.lb_core.specs.declared.entry.Entry.{Entry}
-use Rattle.lb_core.specs.Course.{kind_of, turn_domains, turn_domain, shapes_of, outcome_of, flag_of}
+use Rattle.lb_core.specs.Course.{turn_kind, turn_domains, turn_domain, shapes_of, outcome_of, flag_of}
 use Rattle.lb_core.specs.Sight.{Sight}
 use Rattle.lb_core.specs.Leaving.{Leaving, leaving}
 
@@ -43,8 +43,8 @@ abbrev pub queue_by : What → Sight → ℕ → QueueState
 queue_by (Did r) s lane = (answer_to s.course.command s.course.at s.queue).1
 queue_by (Out cause to tasks) s lane = rest_of (leaving s) s.queue
 queue_by (Landed tasks) s lane = land s.queue s.course.at (cause_of s.course) s.course.moment s.course.hand
-queue_by (Turn ps) s lane = opened s.queue s.course.at lane (kind_of s.course) s.course.version (shapes_of (turn_domains s.header s.course))
-queue_by Shut s lane = shut s.queue s.course.at (kind_of s.course)
+queue_by (Turn ps) s lane = opened s.queue s.course.at lane (turn_kind s.course) s.course.version (shapes_of (turn_domains s.header s.course))
+queue_by Shut s lane = shut s.queue s.course.at (turn_kind s.course)
 queue_by (Close p w i f) s lane =
     close_look s.queue s.course.at (turn_domain s.header s.course).shape (outcome_of s.header s.course) (flag_of s.course.taken)
 queue_by (Ask r) s lane = (ask_active s.queue s.course.at s.course.cpu).1

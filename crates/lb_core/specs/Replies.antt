@@ -17,14 +17,14 @@ use Rattle.lb_core.specs.declared.entry.What.TheVariants.{Row, Did, Out, Pub}
 use Rattle.lb_core.specs.declared.entry.Entry.{Entry}
 use Rattle.lb_core.specs.Same.{same_owner}
 use Rattle.lb_core.specs.QueueAfter.{answer_to}
-use Rattle.lb_core.specs.Machine.{Machine, course_at, place_at, owned_queue, start}
+use Rattle.lb_core.specs.Machine.{MachineState, course_at, place_at, owned_queue, start}
 use Rattle.lb_core.specs.Elsewhere.{is_rest, is_at}
 use Rattle.lb_core.specs.Legal.{run, IsLegalHistory}
 use Rattle.lb_core.specs.LaneEntries.{next_of, until, last_row}
 
 -- whom a command asks: the queue where its task stands, the queue of the CPU that it ticks, or the
 -- publisher
-abbrev pub is_asked : Command → Machine → Owner → Bool
+abbrev pub is_asked : Command → MachineState → Owner → Bool
 is_asked (Wake t) m o = is_at (place_at m t) o
 is_asked (Sleep t) m o = is_at (place_at m t) o
 is_asked (Exit t) m o = is_at (place_at m t) o
@@ -39,12 +39,12 @@ woken (Some to) t r = Out WakeOut to (t ∷ [])
 woken None t r = Did r
 
 -- what is replied to a command at a moment
-abbrev pub reply_of : Command → ℕ → Machine → QueueState → What
+abbrev pub reply_of : Command → ℕ → MachineState → QueueState → What
 reply_of (Rebuild parts) at m q = Pub (length m.versions + 1)
 reply_of (Wake t) at m q = woken (away q t) t (wake q at t).0
 reply_of command at m q = Did (answer_to (Some command) at q).0
 
-pub record IsReply (command : Command) (at : ℕ) (m : Machine) (e : Entry) : Type 0 where
+pub record IsReply (command : Command) (at : ℕ) (m : MachineState) (e : Entry) : Type 0 where
   pub asked : is_asked command m e.owner ≡ true
   pub value : e.what ≡ reply_of command at m (owned_queue e.owner m)
 

@@ -30,7 +30,7 @@ use Rattle.lb_core.specs.declared.entry.Entry.{Entry}
 use Rattle.lb_core.specs.declared.rule.Rule.{Rule}
 use Rattle.lb_core.specs.declared.rule.Rule.TheVariants.{Stage, Row as RowRule, Reply as ReplyRule, Version, Figure, Decision as DecisionRule, Pick, Flight, Counters as CountersRule, Owed}
 use Rattle.lb_core.specs.Same.{same_numbers, same_number, same_mask, same_reply, same_ask, same_cause, same_word, same_decision}
-use Rattle.lb_core.specs.Course.{is_tick, kind_of, turn_domains, turn_domain, widest_span, shapes_of, named_at, outcome_of, flag_of}
+use Rattle.lb_core.specs.Course.{is_tick, turn_kind, turn_domains, turn_domain, widest_span, shapes_of, named_at, outcome_of, flag_of}
 use Rattle.lb_core.specs.Sight.{Sight, by_cpu, tickless_in}
 use Rattle.lb_core.specs.Stage.{stage_allows}
 use Rattle.lb_core.specs.Leaving.{Leaving, leaving}
@@ -92,7 +92,7 @@ abbrev pub breaks_decision : Sight → What → Bool
 breaks_decision s (Look p x names d) =
     not (p == s.course.position) || not (same_mask x s.course.excluded)
     || not (same_decision d (decision (turn_domain s.header s.course).shape (turn_domain s.header s.course).groups
-    (by_cpu s.figs) s.course.cpu (kind_of s.course) s.course.excluded))
+    (by_cpu s.figs) s.course.cpu (turn_kind s.course) s.course.excluded))
 breaks_decision s (Scan names t) = not (same_number t (least (tickless_in s.figs)))
 breaks_decision s (Close p w i f) = not (p == s.course.position)
 breaks_decision s w = false
@@ -122,7 +122,7 @@ word_of AskingEnd = AskingWord
 
 -- the positions that the turn balances
 abbrev pub positions_due : Sight → Mask
-positions_due s = positions_found s.queue s.course.at (kind_of s.course) s.course.version (shapes_of (turn_domains s.header s.course))
+positions_due s = positions_found s.queue s.course.at (turn_kind s.course) s.course.version (shapes_of (turn_domains s.header s.course))
 
 -- the counters that the close leaves
 unfoldable pub closed_counters : Sight → Counters

@@ -10,18 +10,18 @@ use Rattle.lb_core.specs.declared.entry.What.{What}
 use Rattle.lb_core.specs.declared.entry.What.TheVariants.{Row, Adopt, Look, Scan}
 use Rattle.lb_core.specs.declared.entry.Entry.{Entry}
 use Rattle.lb_core.specs.declared.history.History.{History}
-use Rattle.lb_core.specs.Machine.{Machine, entries_at, start}
+use Rattle.lb_core.specs.Machine.{MachineState, entries_at, start}
 use Rattle.lb_core.specs.Elsewhere.{all_rest}
 use Rattle.lb_core.specs.Step.{after}
 use Rattle.lb_core.specs.OfTrace.{rows_drawn, IsHistoryOf}
 
 -- the named figures are the newest ones of their queues
-abbrev pub are_newest : Machine → List FigName → Bool
+abbrev pub are_newest : MachineState → List FigName → Bool
 are_newest m names = list_all (λ f. f.n == entries_at m f.cpu) names
 
 -- the serial run may make this choice: a row only where every lane is at rest, and the newest version
 -- and figures; all else is no choice
-abbrev pub is_serial : Machine → What → Bool
+abbrev pub is_serial : MachineState → What → Bool
 is_serial m (Row n at command) = all_rest m
 is_serial m (Adopt v kind cpu) = v == length m.versions
 is_serial m (Look p x names d) = are_newest m names
@@ -29,7 +29,7 @@ is_serial m (Scan names t) = are_newest m names
 is_serial m w = true
 
 -- so for each entry, in the state that those before it leave
-abbrev pub AreSerial : List Entry → Machine → Type 0
+abbrev pub AreSerial : List Entry → MachineState → Type 0
 AreSerial [] m = Unit {0}
 AreSerial (e ∷ es) m = (is_serial m e.what ≡ true) × AreSerial es (after m e)
 

@@ -17,7 +17,7 @@ use Rattle.lb_core.specs.declared.entry.What.{What}
 use Rattle.lb_core.specs.declared.entry.What.TheVariants.{Row, Adopt, Look, Scan, End, Did, Out, Landed, Turn, Shut, Close, Ask, Kick, Over, Pub}
 use Rattle.lb_core.specs.declared.entry.Entry.{Entry}
 use Rattle.lb_core.specs.Same.{same_owner, same_kind, same_number}
-use Rattle.lb_core.specs.Course.{ticked_cpu, is_tick, is_wake, is_rebuild, kind_of, is_pull, source_of, looks_again}
+use Rattle.lb_core.specs.Course.{ticked_cpu, is_tick, is_wake, is_rebuild, turn_kind, is_pull, source_of, looks_again}
 use Rattle.lb_core.specs.Sight.{Sight, tickless_in}
 
 -- a push is due at a tick: an active request is pending, and this tick made no push
@@ -44,7 +44,7 @@ draws Asked h c q lane (Pub v) = is_rebuild c.command
 draws Flight h c q lane (Landed ids) = true
 draws Serving h c q lane (Out cause to ids) = is_tick c.command && (has_owed q || push_is_due c q)
 draws Serving h c q lane (Adopt v k cpu) = same_kind k TickTurn && same_number (ticked_cpu c.command) (Some cpu)
-draws Due h c q lane (Adopt v k cpu) = same_kind k (kind_of c) && (cpu == c.cpu)
+draws Due h c q lane (Adopt v k cpu) = same_kind k (turn_kind c) && (cpu == c.cpu)
 draws Used h c q lane (Turn ps) = true
 draws Used h c q lane Shut = true
 draws Position h c q lane (Look p x fs d) = true

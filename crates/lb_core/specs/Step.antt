@@ -23,11 +23,11 @@ use Rattle.lb_core.specs.declared.rule.Rule.TheVariants.{Prev, Stage, Row as Row
 use Rattle.lb_core.specs.Rules.{breaks_here}
 use Rattle.lb_core.specs.QueueAfter.{queue_after}
 use Rattle.lb_core.specs.CourseAfter.{course_after}
-use Rattle.lb_core.specs.Machine.{Machine, figures_at, sight}
+use Rattle.lb_core.specs.Machine.{MachineState, figures_at, sight}
 use Rattle.lb_core.specs.Elsewhere.{breaks_elsewhere}
 
 -- ---- which rule is broken
-abbrev pub breaks : Machine → Entry → Rule → Bool
+abbrev pub breaks : MachineState → Entry → Rule → Bool
 breaks m e rule = breaks_here rule (sight m e) e || breaks_elsewhere rule m e
 
 -- the rules in the order in which they are asked; `ticket` is asked of a written ticket alone
@@ -36,7 +36,7 @@ rules_in_order =
     Prev ∷ Stage ∷ RowRule ∷ PlaceRule ∷ ReplyRule ∷ Version ∷ Figure ∷ DecisionRule ∷ Pick ∷ Flight ∷ CountersRule ∷ Owed ∷ EndRule ∷ []
 
 -- the first rule that an entry at the next ticket breaks
-unfoldable pub first_broken : Machine → Entry → Option Rule
+unfoldable pub first_broken : MachineState → Entry → Option Rule
 first_broken m e = find (breaks m e) rules_in_order
 
 -- ---- what the entry leaves
@@ -84,7 +84,7 @@ figures_after (Queue cpu) ticket q figures =
 figures_after o ticket q figures = figures
 
 -- the machine after an entry
-unfoldable pub after : Machine → Entry → Machine
+unfoldable pub after : MachineState → Entry → MachineState
 after m e =
     let s = sight m e in
     record m {

@@ -7,7 +7,7 @@ use Rattle.lb_domain.specs.Domains.{domains_of}
 use Rattle.lb_queue.specs.Queue.{QueueState}
 use Rattle.lb_trace.specs.declared.trace.Header.{Header}
 use Rattle.lb_core.specs.declared.entry.Entry.{Entry}
-use Rattle.lb_core.specs.Machine.{Machine, queue_at, masks_at, start}
+use Rattle.lb_core.specs.Machine.{MachineState, queue_at, masks_at, start}
 use Rattle.lb_core.specs.Legal.{run, IsLegalFront}
 
 -- the queue keeps counters of a published version, where its CPU has so many domains
@@ -18,7 +18,7 @@ pub record FitsDomains (versions domains : ℕ) (q : QueueState) : Type 0 where
   pub turn : IfSome q.open_turn (λ turn. IsSome q.counters × ((p : ℕ) → has turn.positions p ≡ true → p < domains))
 
 -- how many domains a CPU has in a version
-abbrev pub domains_in_version : Machine → ℕ → ℕ → ℕ
+abbrev pub domains_in_version : MachineState → ℕ → ℕ → ℕ
 domains_in_version m version cpu = length (domains_of m.header.cpus m.header.distances (masks_at m version) cpu)
 
 abbrev pub TurnsFitAlways : Type 0

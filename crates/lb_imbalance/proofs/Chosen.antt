@@ -16,7 +16,7 @@ use Rattle.lb_imbalance.specs.declared.imbalance.Imbalance.{Imbalance}
 use Rattle.lb_imbalance.specs.Destination.{is_busy, may_balance}
 use Rattle.lb_imbalance.specs.Balance.{is_level}
 use Rattle.lb_imbalance.specs.Amount.{imbalance_of}
-use Rattle.lb_imbalance.specs.Decision.{group_at, all_stats, domain_average, pull_from, pull, pull_from_group, from_busiest, decision_over, decision}
+use Rattle.lb_imbalance.specs.Decision.{group_at, all_stats, domain_average, pull_from, pull_or_balanced, pull_from_group, from_busiest, decision_over, decision}
 use Rattle.lb_imbalance.specs.Choice.{IsPullFrom, IsPull, EvensOut, FollowsBusiest, IsChoice, IsDecision}
 
 -- what the laws of the busiest group and of the source queue say
@@ -46,8 +46,8 @@ only_pull_from : (imbalance : Imbalance) (source : Option ℕ) (d : Decision) �
 only_pull_from imbalance None d e = e
 only_pull_from imbalance (Some cpu) d e = e
 
-evens_out : Laws → (figs : List Fig) (group : Mask) (imbalance : Imbalance) → EvensOut figs group imbalance (pull figs group imbalance)
-unfolding pull
+evens_out : Laws → (figs : List Fig) (group : Mask) (imbalance : Imbalance) → EvensOut figs group imbalance (pull_or_balanced figs group imbalance)
+unfolding pull_or_balanced
 evens_out laws figs group imbalance =
     let source = source_of figs group imbalance.kind imbalance.amount in
     holds (eqb imbalance.amount 0) Balanced (pull_from imbalance source) (λ d. d ≡ Balanced) (IsPull figs group imbalance) refl
@@ -58,8 +58,8 @@ evens_out laws figs group imbalance =
     })
 
 only_evens_out : Laws → (figs : List Fig) (group : Mask) (imbalance : Imbalance) (d : Decision)
-    → EvensOut figs group imbalance d → d ≡ pull figs group imbalance
-unfolding pull
+    → EvensOut figs group imbalance d → d ≡ pull_or_balanced figs group imbalance
+unfolding pull_or_balanced
 only_evens_out laws figs group imbalance d =
     only (eqb imbalance.amount 0) Balanced
     (pull_from imbalance (source_of figs group imbalance.kind imbalance.amount)) d (λ d. d ≡ Balanced)
@@ -77,7 +77,7 @@ follows laws shape groups figs busy excluded stats (Some b) =
     let group = without (group_at groups b) excluded in
     let imbalance = imbalance_of shape busy (domain_average stats) (stats_at stats 0) (stats_at stats b) in
     holds (is_level shape busy (domain_average stats) (stats_at stats 0) (stats_at stats b)) Balanced
-    (pull figs group imbalance) (λ d. d ≡ Balanced) (EvensOut figs group imbalance) refl (evens_out laws figs group imbalance)
+    (pull_or_balanced figs group imbalance) (λ d. d ≡ Balanced) (EvensOut figs group imbalance) refl (evens_out laws figs group imbalance)
 
 only_follows : Laws → (shape : Shape) (groups : List Mask) (figs : List Fig) (busy : Bool) (excluded : Mask)
     (stats : List Stats) (busiest : Option ℕ) (d : Decision)
@@ -88,7 +88,7 @@ only_follows laws shape groups figs busy excluded stats (Some b) d h =
     let group = without (group_at groups b) excluded in
     let imbalance = imbalance_of shape busy (domain_average stats) (stats_at stats 0) (stats_at stats b) in
     only (is_level shape busy (domain_average stats) (stats_at stats 0) (stats_at stats b)) Balanced
-    (pull figs group imbalance) d (λ d. d ≡ Balanced) (EvensOut figs group imbalance) (λ e. e)
+    (pull_or_balanced figs group imbalance) d (λ d. d ≡ Balanced) (EvensOut figs group imbalance) (λ e. e)
     (only_evens_out laws figs group imbalance d) h
 
 -- ---- the decision

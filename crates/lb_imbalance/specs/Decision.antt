@@ -39,8 +39,8 @@ pull_from imbalance None = Balanced
 pull_from imbalance (Some cpu) = Pull cpu imbalance.kind imbalance.amount
 
 -- the pull of an imbalance from a group, if there is one
-unfoldable pub pull : List Fig → Mask → Imbalance → Decision
-pull figs group imbalance =
+unfoldable pub pull_or_balanced : List Fig → Mask → Imbalance → Decision
+pull_or_balanced figs group imbalance =
     if imbalance.amount == 0 then Balanced
     else pull_from imbalance (source_of figs group imbalance.kind imbalance.amount)
 
@@ -49,7 +49,7 @@ unfoldable pub pull_from_group : Shape → List Mask → List Fig → Bool → M
 pull_from_group shape groups figs busy excluded stats b =
     let average = domain_average stats in
     if is_level shape busy average (stats_at stats 0) (stats_at stats b) then Balanced
-    else pull figs (without (group_at groups b) excluded) (imbalance_of shape busy average (stats_at stats 0) (stats_at stats b))
+    else pull_or_balanced figs (without (group_at groups b) excluded) (imbalance_of shape busy average (stats_at stats 0) (stats_at stats b))
 
 -- by the busiest group
 abbrev pub from_busiest : Shape → List Mask → List Fig → Bool → Mask → List Stats → Option ℕ → Decision

@@ -2,7 +2,7 @@ ghost use Rattle.std.specs.Prelude.{◌≡◌, ◌<◌, ◌≤◌, ◌^◌, ℕ,
 ghost use Rattle.lb_base.specs.Mask.{has, without};
 ghost use Rattle.lb_base.specs.Figures.{AllHaveFigures};
 ghost use Rattle.lb_stats.specs.Statistics.{HasSmallSums};
-ghost use Rattle.lb_imbalance.specs.Decision.{all_stats, decision, decision_over, domain_average, group_at, pull, pull_from, pull_from_group};
+ghost use Rattle.lb_imbalance.specs.Decision.{all_stats, decision, decision_over, domain_average, group_at, pull_or_balanced, pull_from, pull_from_group};
 ghost use Rattle.lb_imbalance.specs.Conditions.{HaveSmallSums, IsInRange, IsUnion};
 
 use crate::balance::level;
@@ -128,7 +128,7 @@ fn decide_over(
         return Decision::Balanced;
     }
     let imbalance = imbalance_between(shape, busy, average, &stats[0], &stats[at]);
-    pull(figs, groups[at].without(excluded), imbalance)
+    pull_or_balanced(figs, groups[at].without(excluded), imbalance)
 }
 
 // The load of one CPU's capacity over the whole domain.
@@ -146,10 +146,10 @@ fn average(stats: &[Stats]) -> u64
 }
 
 // The pull of an imbalance from a group, if there is one.
-#[tactic(auto, unfolding(crate::specs::Decision::pull))]
-fn pull(figs: &[Fig], group: Mask, imbalance: Imbalance) -> Decision
+#[tactic(auto, unfolding(crate::specs::Decision::pull_or_balanced))]
+fn pull_or_balanced(figs: &[Fig], group: Mask, imbalance: Imbalance) -> Decision
     requires { AllHaveFigures figs.now group }
-    ensures { result ≡ pull figs.now group imbalance }
+    ensures { result ≡ pull_or_balanced figs.now group imbalance }
 {
     if imbalance.amount == 0 {
         return Decision::Balanced;

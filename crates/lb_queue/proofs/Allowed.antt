@@ -15,7 +15,7 @@ use Rattle.lb_queue.specs.declared.awake.Awake.{Awake}
 use Rattle.lb_queue.specs.Tasks.{awake_with, set_down, is_pending}
 use Rattle.lb_queue.specs.Queue.{QueueState, away, clock_at}
 use Rattle.lb_queue.specs.Requests.{asks, is_next_asked, next_asked, stop_of, next_stop, has_owed, has_pending}
-use Rattle.lb_queue.specs.Hands.{leave, take_stop, take_push, stop_goes, stop_to, in_order, pull}
+use Rattle.lb_queue.specs.Hands.{leave, take_stop, take_push, stop_goes, stop_to, in_order, take_pull}
 use Rattle.lb_queue.specs.Lists.{IsLeastAsked, down_of}
 use Rattle.lb_queue.specs.Pulls.{CanGo, AllCanGo}
 use Rattle.lb_queue.specs.Values.{views, view_at}
@@ -77,8 +77,8 @@ all_may to clock (id ∷ is) xs h =
     down_may to clock id xs (awake_with id xs) (filter_map (λ i. awake_with i xs) is) refl (All-head P id is h)
     (all_may to clock is xs (All-tail P id is h))
 
-pull_may : PicksSoundly → (q : QueueState) (at : ℕ) (env : Env) → AreDistinct q → All (MayRun env.to) (pull q at env).0
-unfolding pull views
+pull_may : PicksSoundly → (q : QueueState) (at : ℕ) (env : Env) → AreDistinct q → All (MayRun env.to) (take_pull q at env).0
+unfolding take_pull views
 pull_may picks q at env one =
     let now = clock_at q at in
     all_may env.to now (picked_ids env (map (view_at now) q.awake)) q.awake
@@ -93,8 +93,8 @@ taken_may_run picks q one (Take at env) m = pull_may picks q at env one
 taken_may_run picks q one c m = All-nil (MayRun 0)
 
 -- ---- by a pull the picked ones leave
-few_leave : PicksSoundly → (q : QueueState) (at : ℕ) (env : Env) → length (pull q at env).0 ≤ 32
-unfolding pull views
+few_leave : PicksSoundly → (q : QueueState) (at : ℕ) (env : Env) → length (take_pull q at env).0 ≤ 32
+unfolding take_pull views
 few_leave picks q at env =
     let now = clock_at q at in
     let is = picked_ids env (map (view_at now) q.awake) in

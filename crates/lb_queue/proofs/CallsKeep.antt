@@ -19,7 +19,7 @@ use Rattle.lb_queue.specs.Queue.{QueueState, clock_at, new_task, declared, away}
 use Rattle.lb_queue.specs.Kept.{AreSound, IsTask, stands, id_limit}
 use Rattle.lb_queue.specs.Commands.{wake, sleep, exit, set_mask, renice}
 use Rattle.lb_queue.specs.Requests.{tick}
-use Rattle.lb_queue.specs.Hands.{leave, take_stop, take_push, in_order, pull, all_joined, land}
+use Rattle.lb_queue.specs.Hands.{leave, take_stop, take_push, in_order, take_pull, all_joined, land}
 use Rattle.lb_queue.specs.Lists.{left_of}
 use Rattle.lb_queue.specs.Pulls.{CanGo, AllCanGo, without_all}
 use Rattle.lb_queue.specs.Calls.{IsNew, CanLand}
@@ -177,8 +177,8 @@ pulled_sound cpu now env awake asleep gone s h =
     (some_keep cpu env.to is awake asleep gone (picked_once env now awake one) (picked_can_go env now awake one s) h
     (length is) (omega arith))
 
-pub pull_sound : (q : QueueState) (at : ℕ) (env : Env) → IsSound env (views q at) → Keeps q → SoundQueue (pull q at env).1
-unfolding pull views
+pub pull_sound : (q : QueueState) (at : ℕ) (env : Env) → IsSound env (views q at) → Keeps q → SoundQueue (take_pull q at env).1
+unfolding take_pull views
 pull_sound q at env s h =
     let now = clock_at q at in
     let one = once_turned q.awake q.asleep q.gone h.sound in

@@ -17,7 +17,7 @@ use Rattle.lb_queue.specs.Tasks.{task_with, awake_with, without_awake, is_pendin
 use Rattle.lb_queue.specs.Queue.{QueueState, new_task, at_moment, clock_at}
 use Rattle.lb_queue.specs.Commands.{wake, sleep, exit, set_mask, renice, changed_awake, changed_task, masked, with_mask, reniced, with_nice, request_after, is_bad_mask, woken, fallen_asleep, ended, ended_asleep}
 use Rattle.lb_queue.specs.Requests.{tick, owes, next_up, rotated_to, rotated, ask_active, kick}
-use Rattle.lb_queue.specs.Hands.{leave, take_stop, take_push, leaves_awake, in_order, pull, all_joined, land}
+use Rattle.lb_queue.specs.Hands.{leave, take_stop, take_push, leaves_awake, in_order, take_pull, all_joined, land}
 use Rattle.lb_queue.specs.Turns.{turn, close_look}
 use Rattle.lb_queue.specs.Calls.{Call, after_call}
 use Rattle.lb_queue.specs.Calls.Call.{Declare, Wake, Leave, Sleep, Exit, SetMask, Renice, Tick, TakeStop, TakePush, Take, Land, Turn, CloseLook, EndTurn, AskActive, Kick}
@@ -320,8 +320,8 @@ module _ (A : StopRequest → TaskRecord → Type 0) (T : TaskRecord → Type 0)
     push_lasts at to = push_by After q at to (same (at_moment (record q { active = None }) at) refl refl refl)
         (λ id a f e. goes (record q { active = None }) at id a refl refl refl e)
 
-    pull_lasts : (at : ℕ) (env : Env) → After (pull q at env).0 (pull q at env).1
-    unfolding pull
+    pull_lasts : (at : ℕ) (env : Env) → After (take_pull q at env).0 (take_pull q at env).1
+    unfolding take_pull
     pull_lasts at env = (
       record { awake = found_up _ q.awake h.awake; asleep = h.asleep; gone = h.gone },
       all_down

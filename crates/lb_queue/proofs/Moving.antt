@@ -12,7 +12,7 @@ use Rattle.lb_queue.specs.Tasks.{ids, awake_ids, occurs, task_with, awake_with, 
 use Rattle.lb_queue.specs.Queue.{QueueState, at_moment, clock_at, is_awake, declared, new_task}
 use Rattle.lb_queue.specs.Commands.{wake, sleep, exit, woken, fallen_asleep, ended, ended_asleep, masked, with_mask, reniced, with_nice, set_mask, renice, changed_awake, changed_task}
 use Rattle.lb_queue.specs.Requests.{tick, rotated, owes, ask_active, kick}
-use Rattle.lb_queue.specs.Hands.{leaves_asleep, leave, leaves_awake, take_stop, take_push, in_order, pull, landed, land}
+use Rattle.lb_queue.specs.Hands.{leaves_asleep, leave, leaves_awake, take_stop, take_push, in_order, take_pull, landed, land}
 use Rattle.lb_queue.specs.Turns.{turn, close_look, shut, opened}
 use Rattle.lb_queue.specs.Values.{views, view_at}
 use Rattle.lb_queue.specs.Calls.{Call, after_call}
@@ -259,28 +259,28 @@ down_ids : (clock : ℕ) (xs : List Awake) → ids (map (set_down clock) xs) ≡
 down_ids clock [] = refl
 down_ids clock (a ∷ xs) = let h = down_ids clock xs in let k = set_down_keeps clock a in rw (k, h) refl
 
-pub taken_ids : (q : QueueState) (at : ℕ) (env : Env) → ids (pull q at env).0 ≡ picked_ids env (views q at)
-unfolding pull views
+pub taken_ids : (q : QueueState) (at : ℕ) (env : Env) → ids (take_pull q at env).0 ≡ picked_ids env (views q at)
+unfolding take_pull views
 taken_ids q at env =
     let now = clock_at q at in
     let is = picked_ids env (map (view_at now) q.awake) in
     down_ids now (in_order is q.awake) ∙ in_order_ids is q.awake (λ i some. let z = picked_or_kept env now q.awake i in omega arith)
 
-pub left_behind : (q : QueueState) (at : ℕ) (env : Env) → awake_ids (pull q at env).1.awake ≡ kept_ids env (views q at)
-unfolding pull views
+pub left_behind : (q : QueueState) (at : ℕ) (env : Env) → awake_ids (take_pull q at env).1.awake ≡ kept_ids env (views q at)
+unfolding take_pull views
 left_behind q at env =
     let now = clock_at q at in
     in_order_ids (kept_ids env (map (view_at now) q.awake)) q.awake (λ i some. let z = picked_or_kept env now q.awake i in omega arith)
 
 pull_split : (q : QueueState) (at : ℕ) (env : Env) (u : ℕ)
-    → occurs u (ids (pull q at env).0) + occurs u (awake_ids (pull q at env).1.awake) ≡ occurs u (awake_ids q.awake)
+    → occurs u (ids (take_pull q at env).0) + occurs u (awake_ids (take_pull q at env).1.awake) ≡ occurs u (awake_ids q.awake)
 unfolding views
 pull_split q at env u = let a = ap (occurs u) (taken_ids q at env) in let b = ap (occurs u) (left_behind q at env) in
     let z = picked_or_kept env (clock_at q at) q.awake u in omega arith
 
 pull_moves : (q : QueueState) (at : ℕ) (env : Env)
-    → HasMoved (record { tasks = ids (pull q at env).0; from = OnAwake; to = OnHand }) q [] (pull q at env).1 (pull q at env).0
-unfolding pull
+    → HasMoved (record { tasks = ids (take_pull q at env).0; from = OnAwake; to = OnHand }) q [] (take_pull q at env).1 (take_pull q at env).0
+unfolding take_pull
 pull_moves q at env OnAwake u = let s = pull_split q at env u in omega arith
 pull_moves q at env OnAsleep u = refl
 pull_moves q at env OnGone u = refl

@@ -8,7 +8,7 @@ use Rattle.lb_queue.specs.declared.answers.Taken.{Taken}
 use Rattle.lb_queue.specs.Tasks.{occurs, awake_ids, set_down}
 use Rattle.lb_queue.specs.Queue.{QueueState, at_moment}
 use Rattle.lb_queue.specs.Lists.{Lists}
-use Rattle.lb_queue.specs.Hands.{HandState, in_order, loaded, pull, taken_by}
+use Rattle.lb_queue.specs.Hands.{HandState, in_order, loaded, take_pull, taken_by}
 use Rattle.lb_queue.specs.Pulls.{without_all, IsTurned}
 use Rattle.lb_queue.specs.Values.{view_at, views}
 use Rattle.lb_queue.proofs.PickedIds.{left_turned, kept_in_order}
@@ -63,8 +63,8 @@ state_after q at clock awake end before c e = rw (e, c) refl
 pub pull_done : (q : QueueState) (at clock : ℕ) (env : Env) (before : Lists) (picked order : List ℕ)
     (after end : Lists) → IsPulling env clock before picked order after → clock ≡ max q.clock at
     → end ≡ record after { awake = in_order order after.awake } →
-    record (of_lists q end) { clock = clock } ≡ (pull (of_lists q before) at env).1
-unfolding pull views
+    record (of_lists q end) { clock = clock } ≡ (take_pull (of_lists q before) at env).1
+unfolding take_pull views
 pull_done q at clock env before picked order after end h c e =
     state_after q at clock (in_order (kept_ids env (map (view_at clock) before.awake)) before.awake) end before c
     (put_in_order env clock before picked order after end h e)
@@ -77,8 +77,8 @@ pub pull_hand : (q : QueueState) (at clock : ℕ) (env : Env) (picked : List ℕ
       source = Some q.cpu;
       moment = clock;
       tasks = h.tasks ++ map (set_down clock) (in_order picked q.awake);
-    } ≡ loaded q at (pull q at env).0 h
-unfolding pull views
+    } ≡ loaded q at (take_pull q at env).0 h
+unfolding take_pull views
 pull_hand q at clock env picked h c p =
     ap (λ (is : List ℕ). let k : HandState =
     record h { source = Some q.cpu; moment = clock; tasks = h.tasks ++ map (set_down clock) (in_order is q.awake) } in k) p

@@ -13,7 +13,7 @@ use Rattle.lb_queue.specs.Tasks.{occurs, task_with, awake_with}
 use Rattle.lb_queue.specs.Queue.{QueueState, empty_queue, knows, clock_at}
 use Rattle.lb_queue.specs.Kept.{IsTask, stands}
 use Rattle.lb_queue.specs.Requests.{tick, ask_active, kick}
-use Rattle.lb_queue.specs.Hands.{pull}
+use Rattle.lb_queue.specs.Hands.{take_pull}
 use Rattle.lb_queue.specs.Turns.{turn, close_look}
 use Rattle.lb_queue.specs.Values.{views}
 use Rattle.lb_queue.specs.Calls.{Call, May, MayAll, after_call, after_calls}
@@ -164,7 +164,7 @@ module _ (q : QueueState) where
   turn_rises shut opened false h k = k
 
   call_rises : (c : Call) → q.clock ≤ (after_call q c).clock
-  unfolding pull tick turn close_look ask_active kick
+  unfolding take_pull tick turn close_look ask_active kick
   call_rises (Declare id nice mask) = omega arith
   call_rises (Wake at id) = wake_by (λ r q'. q.clock ≤ q'.clock) q at id (refused_rises at) (λ t e. rises at)
   call_rises (Leave at id to) = leave_by (λ ts q'. q.clock ≤ q'.clock) q at id (rises at) (λ t e. rises at)

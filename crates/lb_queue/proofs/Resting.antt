@@ -4,7 +4,7 @@ use Rattle.lb_base.specs.declared.shape.Kind.{Kind}
 use Rattle.lb_base.specs.declared.shape.Shape.{Shape}
 use Rattle.lb_queue.specs.Queue.{QueueState, at_moment}
 use Rattle.lb_queue.specs.Requests.{tick, ask_active, kick}
-use Rattle.lb_queue.specs.Hands.{pull}
+use Rattle.lb_queue.specs.Hands.{take_pull}
 use Rattle.lb_queue.specs.Turns.{turn, close_look}
 use Rattle.lb_queue.specs.Calls.{Call, after_call}
 use Rattle.lb_queue.specs.Calls.Call.{Declare, Wake, Leave, Sleep, Exit, SetMask, Renice, Tick, TakeStop, TakePush, Take, Land, Turn}
@@ -55,7 +55,7 @@ module _ (q : QueueState) where
       record { already = same; gone = same; bad_mask = same; not_here = alike q }
 
   call_alike : (c : Call) → is_of_tasks c ≡ true → IsAlike q (after_call q c)
-  unfolding tick pull
+  unfolding tick take_pull
   call_alike (Declare id nice mask) t = moved q _ refl refl refl refl refl refl refl
   call_alike (Wake at id) t = wake_by (λ r q'. IsAlike q q') q at id (refuses at) (λ x e. moved q _ refl refl refl refl refl refl refl)
   call_alike (Leave at id to) t = leave_by (λ ts q'. IsAlike q q') q at id

@@ -17,7 +17,7 @@ use Rattle.lb_queue.specs.Queue.{QueueState, new_task, declared, knows, away}
 use Rattle.lb_queue.specs.Kept.{IsTask, id_limit}
 use Rattle.lb_queue.specs.Commands.{wake, sleep, exit, set_mask, renice}
 use Rattle.lb_queue.specs.Requests.{tick, ask_active, kick, has_owed}
-use Rattle.lb_queue.specs.Hands.{leave, take_stop, stop_to, take_push, pull, land}
+use Rattle.lb_queue.specs.Hands.{leave, take_stop, stop_to, take_push, take_pull, land}
 use Rattle.lb_queue.specs.Turns.{turn, close_look, end_turn, FitCounters, AreInOrder, IsOpenAt}
 
 -- `at` is the moment of the call, `to` the destination of the hand; a landing has the cause, the
@@ -89,7 +89,7 @@ after_call q (Renice at id nice) = (renice q at id nice).1
 after_call q (Tick at) = tick q at
 after_call q (TakeStop at id to) = (take_stop q at id).1
 after_call q (TakePush at to) = (take_push q at to).1
-after_call q (Take at env) = (pull q at env).1
+after_call q (Take at env) = (take_pull q at env).1
 after_call q (Land at cause moment tasks) = land q at cause moment tasks
 after_call q (Turn at lane kind version shapes) = (turn q at lane kind version shapes).1
 after_call q (CloseLook at shape outcome imb) = close_look q at shape outcome imb

@@ -47,11 +47,11 @@ abbrev pub leaves : Awake → QueueState → QueueState
 leaves a q = record q { awake = left_by q.clock a q.awake }
 
 -- a task has stopped being awake: the queue is idle from now on, where nobody is awake
-abbrev pub rests : QueueState → QueueState
-rests q = record q { idle_since = idle_from q q.awake }
+abbrev pub turns_idle : QueueState → QueueState
+turns_idle q = record q { idle_since = idle_from q q.awake }
 
 abbrev pub fallen_asleep : Awake → QueueState → QueueState
-fallen_asleep a q = record (rests (leaves a q)) { asleep = q.asleep ++ set_down q.clock a ∷ [] }
+fallen_asleep a q = record (turns_idle (leaves a q)) { asleep = q.asleep ++ set_down q.clock a ∷ [] }
 
 abbrev pub sleeps : QueueState → ℕ → Option Awake → Option TaskRecord → Option TaskRecord → Reply × QueueState
 sleeps q at (Some a) t g = (Done, fallen_asleep a (at_moment q at))
@@ -63,7 +63,7 @@ sleep q at id = sleeps q at (awake_with id q.awake) (task_with id q.asleep) (tas
 
 -- ---- exit
 abbrev pub ended : Awake → QueueState → QueueState
-ended a q = record (rests (leaves a q)) { gone = q.gone ++ set_down q.clock a ∷ [] }
+ended a q = record (turns_idle (leaves a q)) { gone = q.gone ++ set_down q.clock a ∷ [] }
 
 abbrev pub ended_asleep : TaskRecord → QueueState → QueueState
 ended_asleep t q = record q { asleep = without_task t.id q.asleep; gone = q.gone ++ t ∷ [] }

@@ -72,8 +72,8 @@ unfoldable pub in_order : List ℕ → List Awake → List Awake
 in_order ids awake = filter_map (λ id. awake_with id awake) ids
 
 -- the picked tasks leave, and the rest stands in the order that the examination left
-unfoldable pub pull : QueueState → ℕ → Env → List TaskRecord × QueueState
-pull q at env = (
+unfoldable pub take_pull : QueueState → ℕ → Env → List TaskRecord × QueueState
+take_pull q at env = (
   map (set_down (clock_at q at)) (in_order (picked_ids env (views q at)) q.awake),
   record (at_moment q at) { awake = in_order (kept_ids env (views q at)) q.awake },
 )

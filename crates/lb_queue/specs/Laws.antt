@@ -15,7 +15,7 @@ use Rattle.lb_queue.specs.Queue.{QueueState, empty_queue, knows}
 use Rattle.lb_queue.specs.Kept.{AreSound, IsTask, stands}
 use Rattle.lb_queue.specs.Requests.{next_stop, has_owed, has_pending}
 use Rattle.lb_queue.specs.Values.{views}
-use Rattle.lb_queue.specs.Hands.{pull, stop_to}
+use Rattle.lb_queue.specs.Hands.{take_pull, stop_to}
 use Rattle.lb_queue.specs.Calls.{Call, May, MayAll, after_call, after_calls}
 use Rattle.lb_queue.specs.Moves.{AreDistinct, HasMoved, moved_by, brought, taken_along, goes_to, Last, AllPass, Admits, SameTurns, SameTasks, is_of_tasks}
 
@@ -83,9 +83,9 @@ TakenMayRun =
 -- by a pull those leave that the rules pick, in their order and no more than one examines; those that stay stand
 -- in the order that the examination left
 pub record FollowsPicks (q : QueueState) (at : ℕ) (env : Env) : Type 0 where
-  pub taken : ids (pull q at env).0 ≡ picked_ids env (views q at)
-  pub left : awake_ids (pull q at env).1.awake ≡ kept_ids env (views q at)
-  pub few : length (pull q at env).0 ≤ EXAMINED_AT_MOST
+  pub taken : ids (take_pull q at env).0 ≡ picked_ids env (views q at)
+  pub left : awake_ids (take_pull q at env).1.awake ≡ kept_ids env (views q at)
+  pub few : length (take_pull q at env).0 ≤ EXAMINED_AT_MOST
 
 abbrev pub PullsFollowPicks : Type 0
 PullsFollowPicks = (q : QueueState) (at : ℕ) (env : Env) → FollowsPicks q at env

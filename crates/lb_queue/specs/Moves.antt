@@ -12,7 +12,7 @@ use Rattle.lb_queue.specs.declared.answers.Reply.TheVariants.{Done}
 use Rattle.lb_queue.specs.Tasks.{ids, awake_ids, occurs, task_with, is_pending}
 use Rattle.lb_queue.specs.Queue.{QueueState, new_task, is_awake}
 use Rattle.lb_queue.specs.Commands.{wake, sleep, exit, is_bad_mask, request_after, with_mask, with_nice}
-use Rattle.lb_queue.specs.Hands.{leave, take_stop, take_push, pull}
+use Rattle.lb_queue.specs.Hands.{leave, take_stop, take_push, take_pull}
 use Rattle.lb_queue.specs.Calls.{Call}
 use Rattle.lb_queue.specs.Calls.Call.{Declare, Wake, Leave, Sleep, Exit, SetMask, Renice, Tick, TakeStop, TakePush, Take, Land, Turn, CloseLook, EndTurn, AskActive, Kick}
 
@@ -55,7 +55,7 @@ abbrev pub taken_along : QueueState → Call → List TaskRecord
 taken_along q (Leave at id to) = (leave q at id).0
 taken_along q (TakeStop at id to) = (take_stop q at id).0
 taken_along q (TakePush at to) = (take_push q at to).0
-taken_along q (Take at env) = (pull q at env).0
+taken_along q (Take at env) = (take_pull q at env).0
 taken_along q c = []
 
 -- where they go
@@ -86,7 +86,7 @@ moved_by q (Exit at id) = record { tasks = if_done (exit q at id).0 id; from = i
 moved_by q (Leave at id to) = record { tasks = ids (leave q at id).0; from = OnAsleep; to = OnHand }
 moved_by q (TakeStop at id to) = record { tasks = ids (take_stop q at id).0; from = OnAwake; to = OnHand }
 moved_by q (TakePush at to) = record { tasks = ids (take_push q at to).0; from = OnAwake; to = OnHand }
-moved_by q (Take at env) = record { tasks = ids (pull q at env).0; from = OnAwake; to = OnHand }
+moved_by q (Take at env) = record { tasks = ids (take_pull q at env).0; from = OnAwake; to = OnHand }
 moved_by q (Land at cause moment tasks) = record { tasks = ids tasks; from = OnHand; to = OnAwake }
 moved_by q c = record { tasks = []; from = OnHand; to = OnAwake }
 

@@ -102,9 +102,9 @@ tries_of Mc = 1
 tries_of Pkg = 1
 tries_of (Numa d) = 2
 
-abbrev pub kind_of : Option OpenTurn → Kind
-kind_of None = Tick
-kind_of (Some t) = t.kind
+abbrev pub open_kind : Option OpenTurn → Kind
+open_kind None = Tick
+open_kind (Some t) = t.kind
 
 -- the counters of a position after its outcome in a turn of a kind, at some milliseconds
 abbrev pub closed_by : Counters → Kind → Shape → Outcome → Option Bool → ℕ → Counters
@@ -117,7 +117,7 @@ closed_at cs kind shape outcome imb now = slice_set cs shape.position (closed_by
 -- the counters of a position after its outcome in the open turn
 unfoldable pub counters_closed : QueueState → ℕ → Shape → Outcome → Option Bool → Counters
 counters_closed q at shape outcome imb =
-    closed_by (counters_at (unwrap_or q.counters []) shape.position) (kind_of q.open_turn) shape outcome imb (milliseconds (clock_at q at))
+    closed_by (counters_at (unwrap_or q.counters []) shape.position) (open_kind q.open_turn) shape outcome imb (milliseconds (clock_at q at))
 
 unfoldable pub close_look : QueueState → ℕ → Shape → Outcome → Option Bool → QueueState
 close_look q at shape outcome imb =

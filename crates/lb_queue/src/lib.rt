@@ -3,19 +3,19 @@
 #![tactic(auto)]
 
 mod answers;
-mod asked;
 mod awake;
 mod by_id;
 mod hand;
 pub mod laws;
 mod lists;
-mod pulls;
 mod queue;
 mod record;
+mod stops;
 mod sums;
 mod task;
 #[cfg(test)]
 mod tests;
+mod views;
 
 pub use answers::{AskReply, OpenTurn, OutCause, Reply, Stop, Taken, TurnReply};
 pub use awake::{Awake, StopRequest};

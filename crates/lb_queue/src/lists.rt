@@ -15,15 +15,15 @@ ghost use Rattle.lb_queue.specs.Queue.{nobody};
 ghost use Rattle.lb_queue.specs.Requests.{owes, rotated, next_asked, stop_of};
 
 use crate::answers::Stop;
-use crate::asked::next_stop;
 use crate::awake::Awake;
 use crate::by_id::{
     found_task, has_awake, has_task, place_of, place_of_awake, take_awake, take_task,
 };
-use crate::pulls::{look, set_order};
 use crate::record::TaskRecord;
+use crate::stops::next_stop;
 use crate::sums::{Sums, asleep_sums, awake_sums};
 use crate::task::Task;
+use crate::views::{fill_views, set_order};
 use lb_active::active_pick;
 use lb_base::{MAX_CPUS, Mask, NoMemory, TaskView};
 use lb_detach::{Env, Picked, picks};
@@ -235,7 +235,7 @@ impl TaskLists {
         } }
         ensures permitted { IfSome result (λ t. has t.mask to ≡ true) }
     {
-        look(&mut self.views, &self.awake, clock);
+        fill_views(&mut self.views, &self.awake, clock);
         match active_pick(&self.views, to) {
             Some(id) => self.take_awake(id, clock),
             None => None,
@@ -257,7 +257,7 @@ impl TaskLists {
         ensures ids_capacity { vec_capacity picked.new.ids ≡ vec_capacity picked.old.ids }
         ensures order_capacity { vec_capacity picked.new.order ≡ vec_capacity picked.old.order }
     {
-        look(&mut self.views, &self.awake, now);
+        fill_views(&mut self.views, &self.awake, now);
         picks(&self.views, env, picked);
     }
 

@@ -51,7 +51,7 @@ use Rattle.lb_core.specs.Leaving.{Leaving, leaving, out_by}
 use Rattle.lb_core.specs.Rules.{leaves_instead, figures_due}
 use Rattle.lb_core.specs.Sight.{Sight, fig_or_none, by_cpu}
 use Rattle.lb_core.specs.Stage.{draws, queue_due, is_queue, is_owner}
-use Rattle.lb_core.specs.Machine.{Machine, queue_at, course_at, place_at, owned_queue, sight, figures_named, figures_at, masks_at}
+use Rattle.lb_core.specs.Machine.{MachineState, queue_at, course_at, place_at, owned_queue, sight, figures_named, figures_at, masks_at}
 use Rattle.lb_core.specs.Placed.{standing, is_its_place, times, IsPlaced}
 use Rattle.lb_core.specs.Legal.{MayBeAdded}
 use Rattle.lb_core.specs.OpenTurns.{IsVersion, IsAtPosition, TurnIn}
@@ -107,7 +107,7 @@ and_false true = refl
 and_false false = refl
 
 -- a task in a hand stands on no queue
-elsewhere : (m : Machine) (t lane : ℕ) (p : Place) → IsPlaced m → 1 ≤ occurs t (ids (course_at m.courses lane).hand) → same_place p (HandOf lane) ≡ false → occurs t (standing m p) ≡ 0
+elsewhere : (m : MachineState) (t lane : ℕ) (p : Place) → IsPlaced m → 1 ≤ occurs t (ids (course_at m.courses lane).hand) → same_place p (HandOf lane) ≡ false → occurs t (standing m p) ≡ 0
 elsewhere m t lane p placed h n = by_test (is_its_place m (HandOf lane) t) refl (placed.once (HandOf lane) t)
   where
     other : (p q : Place) → same_place (HandOf lane) q ≡ true → same_place p (HandOf lane) ≡ false → same_place p q ≡ false
@@ -132,7 +132,7 @@ nowhere f t xs z = by_test (find (λ x. f x == t) xs) refl
         let h : 1 ≤ occurs t (map f xs) = rw n at k.there in
         absurd (omega arith)
 
-landing_asks : (m : Machine) (lane cpu : ℕ) → IsReady m → cpu < length m.header.cpus → cpu ≡ (course_at m.courses lane).to → LandingAsks (course_at m.courses lane) (queue_at m.queues cpu)
+landing_asks : (m : MachineState) (lane cpu : ℕ) → IsReady m → cpu < length m.header.cpus → cpu ≡ (course_at m.courses lane).to → LandingAsks (course_at m.courses lane) (queue_at m.queues cpu)
 landing_asks m lane cpu k lt e = record {
   to = sym e ∙ sym (k.queues cpu lt).own;
   permitted = λ i d inside. subst (λ (x : ℕ). has (get_or (course_at m.courses lane).hand i d).mask x ≡ true) (sym e ∙ sym (k.queues cpu lt).own) (k.permitted.in_hands lane i d inside);
@@ -146,10 +146,10 @@ landing_asks m lane cpu k lt e = record {
 
 -- ---- turns
 -- where a turn opens, the queue is that of the course's CPU
-abbrev AtTurn : Machine → ℕ → ℕ → Type 0
+abbrev AtTurn : MachineState → ℕ → ℕ → Type 0
 AtTurn m lane cpu = (cpu ≡ (course_at m.courses lane).cpu) × IsVersion m (course_at m.courses lane).version (course_at m.courses lane).masks
 
-fit_of : (m : Machine) (cpu : ℕ) (q : QueueState) (version : ℕ) (masks : List Mask) → FitsDomains (length m.versions) (domains_in_version m q.version cpu) q → IsVersion m version masks → FitCounters q version (shapes_of (domains_of m.header.cpus m.header.distances masks cpu))
+fit_of : (m : MachineState) (cpu : ℕ) (q : QueueState) (version : ℕ) (masks : List Mask) → FitsDomains (length m.versions) (domains_in_version m q.version cpu) q → IsVersion m version masks → FitCounters q version (shapes_of (domains_of m.header.cpus m.header.distances masks cpu))
 fit_of m cpu q version masks k v e = by_counters q.counters k.counters
   where
     by_counters : (o : Option (List Counters)) → IfSome o (λ cs. length cs ≡ domains_in_version m q.version cpu) → MatchOption o (Unit {0}) (λ cs. length (shapes_of (domains_of m.header.cpus m.header.distances masks cpu)) ≡ length cs)
@@ -158,7 +158,7 @@ fit_of m cpu q version masks k v e = by_counters q.counters k.counters
         let same : masks ≡ masks_at m q.version = v.masks_are ∙ ap (masks_at m) e in
         length-map (domains_of m.header.cpus m.header.distances masks cpu) (λ d. d.shape) ∙ ap (λ (x : List Mask). length (domains_of m.header.cpus m.header.distances x cpu)) same ∙ sym c
 
-fits_here : (m : Machine) (lane cpu : ℕ) → AtTurn m lane cpu → IsReady m → FitCounters (queue_at m.queues cpu) (course_at m.courses lane).version (shapes_of (turn_domains m.header (course_at m.courses lane)))
+fits_here : (m : MachineState) (lane cpu : ℕ) → AtTurn m lane cpu → IsReady m → FitCounters (queue_at m.queues cpu) (course_at m.courses lane).version (shapes_of (turn_domains m.header (course_at m.courses lane)))
 fits_here m lane cpu t k =
     let c = course_at m.courses lane in
     subst (λ (u : ℕ). FitCounters (queue_at m.queues cpu) c.version (shapes_of (domains_of m.header.cpus m.header.distances c.masks u))) t.0 (fit_of m cpu (queue_at m.queues cpu) c.version c.masks (k.counts cpu) t.1)
@@ -174,7 +174,7 @@ nodes_few cpus h = all_weaker is_cpu _ (λ row k. (and_parts _ _ k).1) cpus h
 pub few_domains : DomainLaws → (h : Header) (masks : List Mask) (cpu : ℕ) → IsHeader h → length (domains_of h.cpus h.distances masks cpu) ≤ 18
 few_domains laws h masks cpu accepted = laws.few h.cpus h.distances masks cpu (can_be_read h accepted) (nodes_few h.cpus accepted.cpus)
 
-turn_asks : DomainLaws → (m : Machine) (lane cpu : ℕ) → IsReady m → cpu < length m.header.cpus → AtTurn m lane cpu → (s : Sight) → s.header ≡ m.header → s.course ≡ course_at m.courses lane → s.queue ≡ queue_at m.queues cpu → TurnAsks s
+turn_asks : DomainLaws → (m : MachineState) (lane cpu : ℕ) → IsReady m → cpu < length m.header.cpus → AtTurn m lane cpu → (s : Sight) → s.header ≡ m.header → s.course ≡ course_at m.courses lane → s.queue ≡ queue_at m.queues cpu → TurnAsks s
 turn_asks laws m lane cpu k lt t s h c q = rw (h, c, q) (record {
   few =
       let d = course_at m.courses lane in
@@ -190,13 +190,13 @@ abbrev is_did : What → Bool
 is_did (Did r) = true
 is_did w = false
 
-place_asks : DomainLaws → (m : Machine) (lane cpu : ℕ) → cpu ≡ (course_at m.courses lane).cpu → IsAtPosition m lane (course_at m.courses lane) → IsOpenAt (queue_at m.queues cpu).open_turn (turn_domain m.header (course_at m.courses lane)).shape.position
+place_asks : DomainLaws → (m : MachineState) (lane cpu : ℕ) → cpu ≡ (course_at m.courses lane).cpu → IsAtPosition m lane (course_at m.courses lane) → IsOpenAt (queue_at m.queues cpu).open_turn (turn_domain m.header (course_at m.courses lane)).shape.position
 place_asks laws m lane cpu e k =
     let c = course_at m.courses lane in
     let p = laws.order m.header.cpus m.header.distances c.masks c.cpu c.position (k.0.inside c.position k.1) in
     rw (e, k.0.opened, p) k.1
 
-form_asks : DomainLaws → (f : Form) (m : Machine) (lane cpu : ℕ) (w : What) → (course_at m.courses lane).form ≡ f → IsReady m → cpu < length m.header.cpus → TurnIn f m lane (course_at m.courses lane) → draws f m.header (course_at m.courses lane) (queue_at m.queues cpu) lane w ≡ true → is_owner w lane (queue_due f (course_at m.courses lane)) (Queue cpu) ≡ true →
+form_asks : DomainLaws → (f : Form) (m : MachineState) (lane cpu : ℕ) (w : What) → (course_at m.courses lane).form ≡ f → IsReady m → cpu < length m.header.cpus → TurnIn f m lane (course_at m.courses lane) → draws f m.header (course_at m.courses lane) (queue_at m.queues cpu) lane w ≡ true → is_owner w lane (queue_due f (course_at m.courses lane)) (Queue cpu) ≡ true →
     (s : Sight) → s.header ≡ m.header → s.course ≡ course_at m.courses lane → s.queue ≡ queue_at m.queues cpu → (is_did w ≡ true → CommandAsks s.course.command s.queue) → QueueAsks w s
 unfolding draws leaving
 form_asks laws f m lane cpu (Did r) e k lt t d o s h c q a = a refl
@@ -247,7 +247,7 @@ calls_may_be_made laws m e k h = by_owner e.owner e.lane e.prev e.what h
 
 -- ---- decisions
 -- a span has no CPU past the greatest that there can be
-span_below : DomainLaws → (m : Machine) (c : Course) (p : ℕ) → IsReady m → p < length (turn_domains m.header c) → (k : ℕ) → has (get_or (turn_domains m.header c) p no_domain).shape.span k ≡ true → k < 64
+span_below : DomainLaws → (m : MachineState) (c : Course) (p : ℕ) → IsReady m → p < length (turn_domains m.header c) → (k : ℕ) → has (get_or (turn_domains m.header c) p no_domain).shape.span k ≡ true → k < 64
 span_below laws m c p r lt k y = let a = (laws.inside m.header.cpus m.header.distances c.masks c.cpu p lt).in_machine k y in let b = r.accepted.most_cpus in omega arith
 
 spares_in : (f : Form) (h : Header) (c : Course) (q : QueueState) (lane p : ℕ) (x : Mask) (names : List FigName) (d : Decision) → draws f h c q lane (Look p x names d) ≡ true → Spares f h (unnamed c) → SparesLocal h c
@@ -256,7 +256,7 @@ spares_in Position h c q lane p x names d y k = k
 spares_in LandedForm h c q lane p x names d y k = k
 spares_in f h c q lane p x names d y k = absurd (let z : ⊥ = cc in z)
 
-looked_small : (m : Machine) (names : List FigName) → IsReady m → (k : ℕ) → k < 64 → IsSmall (fig_at (by_cpu (figures_named m.figures names)) k)
+looked_small : (m : MachineState) (names : List FigName) → IsReady m → (k : ℕ) → k < 64 → IsSmall (fig_at (by_cpu (figures_named m.figures names)) k)
 looked_small m names k j lt = rw (by_cpu_at (figures_named m.figures names) j lt) (named_small m.figures names j k.small)
 
 -- a CPU whose figure is due is named
@@ -269,7 +269,7 @@ none_named figures k (f ∷ names) h = by_test (f.cpu == k) refl h (none_named f
     by_test true e h go = absurd (let y : ⊥ = cc in y)
     by_test false e h go = rw e (go h)
 
-named_each : (m : Machine) (mask : Mask) (names : List FigName) (k : ℕ) → map (λ (f : FigName). f.cpu) names ≡ members mask → k < 64 → has mask k ≡ true → is_some (find (λ f. f.cpu == k) (figures_named m.figures names)) ≡ true
+named_each : (m : MachineState) (mask : Mask) (names : List FigName) (k : ℕ) → map (λ (f : FigName). f.cpu) names ≡ members mask → k < 64 → has mask k ≡ true → is_some (find (λ f. f.cpu == k) (figures_named m.figures names)) ≡ true
 named_each m mask names k e lt there = by_test (is_some (find (λ f. f.cpu == k) (figures_named m.figures names))) refl
   where
     by_test : (b : Bool) → is_some (find (λ f. f.cpu == k) (figures_named m.figures names)) ≡ b → b ≡ true

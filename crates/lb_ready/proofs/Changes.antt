@@ -18,7 +18,7 @@ use Rattle.lb_core.specs.declared.entry.Entry.{Entry}
 use Rattle.lb_core.specs.Same.{same_owner}
 use Rattle.lb_core.specs.QueueAfter.{queue_after}
 use Rattle.lb_core.specs.CourseAfter.{course_after}
-use Rattle.lb_core.specs.Machine.{Machine, queue_at, course_at, figures_at, entries_at, no_queue, no_course, sight}
+use Rattle.lb_core.specs.Machine.{MachineState, queue_at, course_at, figures_at, entries_at, no_queue, no_course, sight}
 use Rattle.lb_core.specs.Step.{after, versions_after, figures_after, queues_after}
 use Rattle.lb_core.specs.Legal.{MayBeAdded}
 use Rattle.lb_core.proofs.Placing.{lane_there, cpu_there, entry}
@@ -26,30 +26,30 @@ use Rattle.lb_ready.specs.Ready.{HasSizes}
 
 -- ---- what an entry leaves
 -- the course of its lane, and the queue that draws it
-abbrev pub course_left : Machine → Entry → Course
+abbrev pub course_left : MachineState → Entry → Course
 course_left m e = course_after (sight m e) e
 
-abbrev pub queue_left : Machine → Entry → QueueState
+abbrev pub queue_left : MachineState → Entry → QueueState
 queue_left m e = queue_after (sight m e) e
 
 -- ---- courses
-pub course_now : (m : Machine) (e : Entry) → MayBeAdded m e → (P : ℕ → Course → Type 0) → ((l : ℕ) → P l (course_at m.courses l)) → P e.lane (course_left m e) → (l : ℕ) → P l (course_at (after m e).courses l)
+pub course_now : (m : MachineState) (e : Entry) → MayBeAdded m e → (P : ℕ → Course → Type 0) → ((l : ℕ) → P l (course_at m.courses l)) → P e.lane (course_left m e) → (l : ℕ) → P l (course_at (after m e).courses l)
 unfolding after
 course_now m e h P old new l = elim (cases_eq l e.lane) [
   | inl s ↦ let k : course_at (set m.courses e.lane (course_left m e)) l ≡ course_left m e = rw s (get_or-set_same m.courses e.lane _ no_course (lane_there m e h)) in rw (k, s) new
   | inr n ↦ rw (get_or-set_other m.courses e.lane l (course_left m e) no_course n) (old l)
 ]
 
-pub course_of_lane : (m : Machine) (e : Entry) → MayBeAdded m e → course_at (after m e).courses e.lane ≡ course_left m e
+pub course_of_lane : (m : MachineState) (e : Entry) → MayBeAdded m e → course_at (after m e).courses e.lane ≡ course_left m e
 unfolding after
 course_of_lane m e h = get_or-set_same m.courses e.lane _ no_course (lane_there m e h)
 
-pub course_elsewhere : (m : Machine) (e : Entry) (l : ℕ) → (l ≡ e.lane → ⊥) → course_at (after m e).courses l ≡ course_at m.courses l
+pub course_elsewhere : (m : MachineState) (e : Entry) (l : ℕ) → (l ≡ e.lane → ⊥) → course_at (after m e).courses l ≡ course_at m.courses l
 unfolding after
 course_elsewhere m e l n = get_or-set_other m.courses e.lane l (course_left m e) no_course n
 
 -- ---- queues
-pub queue_now : (m : Machine) (o : Owner) (lane prev : ℕ) (w : What) → MayBeAdded m (entry o lane prev w) → (P : ℕ → QueueState → Type 0) → ((cpu : ℕ) → P cpu (queue_at m.queues cpu)) →
+pub queue_now : (m : MachineState) (o : Owner) (lane prev : ℕ) (w : What) → MayBeAdded m (entry o lane prev w) → (P : ℕ → QueueState → Type 0) → ((cpu : ℕ) → P cpu (queue_at m.queues cpu)) →
     ((cpu : ℕ) → o ≡ Queue cpu → cpu < length m.queues → P cpu (queue_left m (entry o lane prev w))) → (cpu : ℕ) → P cpu (queue_at (after m (entry o lane prev w)).queues cpu)
 unfolding after
 queue_now m (Queue own) lane prev w h P old new cpu = elim (cases_eq cpu own) [
@@ -67,7 +67,7 @@ pub length-snoc : {A : Type 0} (xs : List A) (x : A) → length (xs ++ x ∷ [])
 length-snoc xs x = length-append xs (x ∷ [])
 
 -- a queue that draws has one figure more, and the others as many
-pub figures_now : (m : Machine) (o : Owner) (lane prev : ℕ) (w : What) (cpu : ℕ) → length m.queues ≡ length m.figures → MayBeAdded m (entry o lane prev w) →
+pub figures_now : (m : MachineState) (o : Owner) (lane prev : ℕ) (w : What) (cpu : ℕ) → length m.queues ≡ length m.figures → MayBeAdded m (entry o lane prev w) →
     length (figures_at (after m (entry o lane prev w)).figures cpu) ≡ (if same_owner o (Queue cpu) then length (figures_at m.figures cpu) + 1 else length (figures_at m.figures cpu))
 unfolding after
 figures_now m (Queue own) lane prev w cpu e h =
@@ -87,7 +87,7 @@ figures_now m Publisher lane prev w cpu e h = refl
 figures_now m (Lane l) lane prev w cpu e h = refl
 
 -- so each has as many as before, or one more
-pub drawn_more : (m : Machine) (o : Owner) (lane prev : ℕ) (w : What) (cpu : ℕ) → length m.queues ≡ length m.figures → MayBeAdded m (entry o lane prev w) →
+pub drawn_more : (m : MachineState) (o : Owner) (lane prev : ℕ) (w : What) (cpu : ℕ) → length m.queues ≡ length m.figures → MayBeAdded m (entry o lane prev w) →
     (entries_at m cpu ≤ entries_at (after m (entry o lane prev w)) cpu) × (entries_at (after m (entry o lane prev w)) cpu ≤ entries_at m cpu + 1)
 drawn_more m o lane prev w cpu e h = by_test (same_owner o (Queue cpu)) (figures_now m o lane prev w cpu e h)
   where
@@ -125,7 +125,7 @@ figures_same (Queue cpu) t q fs = length-set fs cpu _
 figures_same Publisher t q fs = refl
 figures_same (Lane l) t q fs = refl
 
-pub sizes_kept : (m : Machine) (o : Owner) (lane prev : ℕ) (w : What) → HasSizes m → MayBeAdded m (entry o lane prev w) → HasSizes (after m (entry o lane prev w))
+pub sizes_kept : (m : MachineState) (o : Owner) (lane prev : ℕ) (w : What) → HasSizes m → MayBeAdded m (entry o lane prev w) → HasSizes (after m (entry o lane prev w))
 unfolding after
 sizes_kept m o lane prev w k h =
     let e = entry o lane prev w in

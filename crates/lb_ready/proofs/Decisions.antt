@@ -25,7 +25,7 @@ use Rattle.lb_imbalance.specs.declared.decision.Decision.TheVariants.{NotMine, B
 use Rattle.lb_imbalance.specs.Destination.{may_balance, is_busy}
 use Rattle.lb_imbalance.specs.Balance.{is_level}
 use Rattle.lb_imbalance.specs.Amount.{imbalance_of, is_pressed, one_task, spare_room, half_of_difference, load_to_average, imbalance_as}
-use Rattle.lb_imbalance.specs.Decision.{group_at, all_stats, domain_average, pull_from, pull, pull_from_group, from_busiest, decision_over, decision}
+use Rattle.lb_imbalance.specs.Decision.{group_at, all_stats, domain_average, pull_from, pull_or_balanced, pull_from_group, from_busiest, decision_over, decision}
 use Rattle.lb_imbalance.specs.Conditions.{IsInRange}
 use Rattle.lb_imbalance.specs.Levels.{is_above_cache}
 use Rattle.lb_ready.proofs.Counting.{found_in, without_has, without_lacks, cond_by}
@@ -64,7 +64,7 @@ amount_at shape busy stats b = (imbalance_of shape busy (domain_average stats) (
 
 from_group : (shape : Shape) (groups : List Mask) (figs : List Fig) (busy : Bool) (excluded : Mask) (stats : List Stats) (o : Option ℕ) → busiest_of stats ≡ o →
     Pulls groups figs excluded (amount_at shape busy stats) (from_busiest shape groups figs busy excluded stats o)
-unfolding pull_from_group pull busiest_of first_greatest is_first_greatest may_be_busiest
+unfolding pull_from_group pull_or_balanced busiest_of first_greatest is_first_greatest may_be_busiest
 from_group shape groups figs busy excluded stats None e = tt
 from_group shape groups figs busy excluded stats (Some b) e =
     let f = found_in (is_first_greatest (may_be_busiest stats) (is_busier_at stats) (length stats)) 0 (length stats) b e in

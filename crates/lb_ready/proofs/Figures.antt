@@ -34,7 +34,7 @@ use Rattle.lb_core.specs.declared.entry.Owner.{Owner}
 use Rattle.lb_core.specs.declared.entry.Owner.TheVariants.{Queue}
 use Rattle.lb_core.specs.declared.entry.What.{What}
 use Rattle.lb_core.specs.Sight.{fig_or_none, by_cpu, tickless_in}
-use Rattle.lb_core.specs.Machine.{figures_at, figures_named, Machine, queue_at, no_queue}
+use Rattle.lb_core.specs.Machine.{figures_at, figures_named, MachineState, queue_at, no_queue}
 use Rattle.lb_core.specs.Step.{after}
 use Rattle.lb_core.specs.Legal.{MayBeAdded}
 use Rattle.lb_core.specs.Placed.{times, IsPlaced}
@@ -116,7 +116,7 @@ figure_small laws n cpu k ticket q i a s = record {
     down t y = value_small laws n AsleepRun q.clock t y
 
 -- ---- how many tasks a queue has
-pub lens : (m : Machine) (cpu : ℕ) → IsPlaced m → length m.header.tasks ≤ 4096 → (length (queue_at m.queues cpu).awake ≤ 4096) × (length (queue_at m.queues cpu).asleep ≤ 4096)
+pub lens : (m : MachineState) (cpu : ℕ) → IsPlaced m → length m.header.tasks ≤ 4096 → (length (queue_at m.queues cpu).awake ≤ 4096) × (length (queue_at m.queues cpu).asleep ≤ 4096)
 lens m cpu placed most =
     let a = length_below (length m.header.tasks) (awake_ids (queue_at m.queues cpu).awake) (λ u. stands_once m placed (AwakeAt cpu) u) (λ u ge. none u (AwakeAt cpu) ge) in
     let b = length_below (length m.header.tasks) (ids (queue_at m.queues cpu).asleep) (λ u. stands_once m placed (AsleepAt cpu) u) (λ u ge. none u (AsleepAt cpu) ge) in
@@ -137,7 +137,7 @@ snoc_small [] x (suc n) old k = old n
 snoc_small (y ∷ ys) x zero old k = old 0
 snoc_small (y ∷ ys) x (suc n) old k = snoc_small ys x n (λ j. old (suc j)) k
 
-pub small_kept : (laws : QueueLaws) → (m : Machine) (o : Owner) (lane prev : ℕ) (w : What) → MayBeAdded m (entry o lane prev w) → length m.queues ≡ length m.figures → IsPlaced (after m (entry o lane prev w)) → length m.header.tasks ≤ 4096 →
+pub small_kept : (laws : QueueLaws) → (m : MachineState) (o : Owner) (lane prev : ℕ) (w : What) → MayBeAdded m (entry o lane prev w) → length m.queues ≡ length m.figures → IsPlaced (after m (entry o lane prev w)) → length m.header.tasks ≤ 4096 →
     ((cpu : ℕ) → o ≡ Queue cpu → IsQueueOf (length m.header.cpus) cpu (queue_left m (entry o lane prev w))) → ((cpu n : ℕ) → IsSmall (get_or (figures_at m.figures cpu) n no_fig)) → (cpu n : ℕ) → IsSmall (get_or (figures_at (after m (entry o lane prev w)).figures cpu) n no_fig)
 unfolding after
 small_kept laws m (Queue own) lane prev w h same placed most fits old cpu n =

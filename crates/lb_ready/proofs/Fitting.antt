@@ -27,12 +27,12 @@ use Rattle.lb_core.specs.declared.entry.What.{What}
 use Rattle.lb_core.specs.declared.entry.What.TheVariants.{Row, Adopt, Look, Scan, End, Did, Out, Landed, Turn, Shut, Close, Ask, Kick, Over, Pub}
 use Rattle.lb_core.specs.declared.entry.FigName.{FigName}
 use Rattle.lb_core.specs.Same.{same_kind, same_number}
-use Rattle.lb_core.specs.Course.{is_all_pinned, ticked_cpu, kind_of, turn_domains, shapes_of, source_of, is_pull}
+use Rattle.lb_core.specs.Course.{is_all_pinned, ticked_cpu, turn_kind, turn_domains, shapes_of, source_of, is_pull}
 use Rattle.lb_core.specs.Sight.{Sight, tickless_in}
 use Rattle.lb_core.specs.Stage.{draws}
 use Rattle.lb_core.specs.QueueAfter.{cause_of}
 use Rattle.lb_core.specs.Step.{ended_after}
-use Rattle.lb_core.specs.CourseAfter.{excluding, names as names_of, rests, is_due_at, goes_to, ends_turn, turn_ends, course_by, drew, takes_off, names}
+use Rattle.lb_core.specs.CourseAfter.{excluding, raised_numbers, comes_to_rest, is_due_at, goes_to, turn_ends_by, turn_ends, course_by, drew, takes_off, names}
 use Rattle.lb_core.specs.Leaving.{Leaving}
 use Rattle.lb_core.proofs.EmptyHands.{is_out}
 use Rattle.lb_ready.specs.Ready.{unnamed, KeepsLocal, Names, FitsForm, IsOfMachine, Speaks, Fits, local_group, PullsSparing, Spares}
@@ -51,7 +51,7 @@ none_wide = omega arith
 pub later : (h : Header) (n : ℕ) (c : Course) → Speaks h n c → Speaks h (n + 1) c
 later h n c k = record { counted = let r = k.counted in omega arith; turned = k.turned; pulled = k.pulled; tickless = k.tickless; names = k.names; masks = k.masks; narrow = k.narrow }
 
-rests_fit : (e : Bool) (h : Header) (n : ℕ) (c : Course) → Speaks h n c → Fits e h n (rests c)
+rests_fit : (e : Bool) (h : Header) (n : ℕ) (c : Course) → Speaks h n c → Fits e h n (comes_to_rest c)
 rests_fit e h n c k = record { says = record { counted = k.counted; turned = k.turned; pulled = some_cpu h n c k; tickless = λ j t. absurd (none_tickless j t); names = tt; masks = refl; narrow = none_wide }; form = tt }
 
 -- without a decision and excluded CPUs
@@ -77,8 +77,8 @@ goes_to_fit e h n (Some p) c k = record { says = anew h n c k; form = tt }
 due_fit : (e : Bool) (h : Header) (n : ℕ) (kind : Kind) (cpu : ℕ) (c : Course) → same_kind kind TickTurn ≡ false → cpu < length h.cpus → Speaks h n c → Fits e h n (is_due_at kind cpu c)
 due_fit e h n kind cpu c b lt k = record { says = record { counted = k.counted; turned = lt; pulled = k.pulled; tickless = k.tickless; names = k.names; masks = k.masks; narrow = k.narrow }; form = b }
 
-ends_fit : (h : Header) (n : ℕ) (c : Course) → Speaks h n c → Fits false h n (ends_turn (kind_of c) h c)
-ends_fit h n c k = ends_by (Fits false h n) (kind_of c) h c (rests_fit false h n c k) (λ some. record { says = anew h n c k; form = (refl, some) }) (λ t y. due_fit false h n Nohz t c refl (k.tickless t y) k)
+ends_fit : (h : Header) (n : ℕ) (c : Course) → Speaks h n c → Fits false h n (turn_ends_by (turn_kind c) h c)
+ends_fit h n c k = ends_by (Fits false h n) (turn_kind c) h c (rests_fit false h n c k) (λ some. record { says = anew h n c k; form = (refl, some) }) (λ t y. due_fit false h n Nohz t c refl (k.tickless t y) k)
 
 -- ---- by kind of entry
 -- what an entry brings into the course, where so many tickets were drawn
@@ -99,7 +99,7 @@ adopted_fits Serving h n s lane v kind u same d k =
     ticks : (command : Option Command) → same_number (ticked_cpu command) (Some u) ≡ true → Names h command → u < length h.cpus
     ticks (Some (Tick cpu)) t y = let e = eqb-true cpu u t in rw (← e) y
     ticks command t y = absurd (let y : ⊥ = cc in y)
-adopted_fits Due h n s lane v kind u same d k = let e = eqb-true u s.course.cpu ((and_parts (same_kind kind (kind_of s.course)) (u == s.course.cpu) d).1) in rw e k.turned
+adopted_fits Due h n s lane v kind u same d k = let e = eqb-true u s.course.cpu ((and_parts (same_kind kind (turn_kind s.course)) (u == s.course.cpu) d).1) in rw e k.turned
 adopted_fits f h n s lane v kind u same d k = absurd (let y : ⊥ = cc in y)
 
 pub course_fits : (h : Header) (n : ℕ) (s : Sight) (lane cpu : ℕ) (now : QueueState) (w : What) → length h.cpus ≤ 64 → s.header ≡ h → draws s.course.form s.header s.course s.queue lane w ≡ true → is_out w ≡ false → Brings h n s cpu w →
@@ -110,7 +110,7 @@ course_fits h n s lane cpu now (Adopt v kind u) few same d o b k =
     record { says = record { counted = k.counted; turned = adopted_fits s.course.form h n s lane v kind u same d k; pulled = k.pulled; tickless = k.tickless; names = k.names; masks = k.masks; narrow = k.narrow }; form = tt }
 course_fits h n s lane cpu now (Look p x names d) few same l o b k = record { says = record { counted = k.counted; turned = k.turned; pulled = b; tickless = k.tickless; names = k.names; masks = k.masks; narrow = k.narrow }; form = refl }
 course_fits h n s lane cpu now (Scan names t) few same d o b k =
-    let c : Course = record s.course { figures = s.figs; named = names_of names s.course.named } in
+    let c : Course = record s.course { figures = s.figs; named = raised_numbers names s.course.named } in
     let says : Speaks h n c = record { counted = k.counted; turned = k.turned; pulled = k.pulled; tickless = b.0; names = k.names; masks = k.masks; narrow = k.narrow } in
     scanned_by (Fits false h n) t c (rests_fit false h n c says) (λ u e. record { says = says; form = rw (← b.1, e) refl })
 course_fits h n s lane cpu now (End cpus) few same d o b k = record { says = k; form = refl }
@@ -184,8 +184,8 @@ spares_after f h s lane cpu now (Did r) same y o l k = answered_by (KeepsLocal h
 spares_after Flight h s lane cpu now (Landed ids) same y o l k = lands_by (KeepsLocal h) (cause_of s.course) s.course tt (λ t. tt) (λ i. let z : PullsSparing PullOut h (unnamed s.course) = subst (λ (x : OutCause). PullsSparing x h (unnamed s.course)) i k in λ j q. more_excluded (is_all_pinned s.course.taken) (local_group h s.course) s.course.excluded (source_of s.course.decision) j (z.0 j q) z.1 q)
 spares_after f h s lane cpu now (Landed ids) same y o l k = absurd (let z : ⊥ = cc in z)
 spares_after f h s lane cpu now (Turn ps) same y o l k = goes_to_by (KeepsLocal h) (least ps) (record s.course { positions = ps; counters = counters_found s.queue s.course.at s.course.version (shapes_of (turn_domains s.header s.course)) }) tt (λ p e j q. none_excluded j)
-spares_after f h s lane cpu now Shut same y o l k = rw same (ends_by (KeepsLocal h) (kind_of s.course) h s.course tt (λ some. tt) (λ t q. tt))
-spares_after f h s lane cpu now Over same y o l k = rw same (ends_by (KeepsLocal h) (kind_of s.course) h s.course tt (λ some. tt) (λ t q. tt))
+spares_after f h s lane cpu now Shut same y o l k = rw same (ends_by (KeepsLocal h) (turn_kind s.course) h s.course tt (λ some. tt) (λ t q. tt))
+spares_after f h s lane cpu now Over same y o l k = rw same (ends_by (KeepsLocal h) (turn_kind s.course) h s.course tt (λ some. tt) (λ t q. tt))
 spares_after f h s lane cpu now (Close p w i n) same y o l k = closes_by (KeepsLocal h) w s.course tt tt (λ p q j z. none_excluded j)
 spares_after f h s lane cpu now (Ask r) same y o l k = goes_on_by (KeepsLocal h) s.course tt (λ p q j z. none_excluded j)
 spares_after f h s lane cpu now (Kick r) same y o l k = kicked_by (KeepsLocal h) r s.course tt (λ t q. tt)

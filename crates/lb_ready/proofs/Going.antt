@@ -49,12 +49,12 @@ use Rattle.lb_core.specs.declared.entry.Owner.TheVariants.{Publisher, Lane, Queu
 use Rattle.lb_core.specs.declared.place.Place.{Place}
 use Rattle.lb_core.specs.declared.place.Place.TheVariants.{Awake as AwakeAt, Asleep as AsleepAt, Gone as GoneAt, Hand as HandOf}
 use Rattle.lb_core.specs.Same.{same_numbers, same_number, same_kind, same_reply, same_ask, same_cause, same_word, same_move, same_decision, same_mask, same_place}
-use Rattle.lb_core.specs.Course.{named_at, ticked_cpu, is_tick, kind_of, turn_domain, is_pull, source_of, looks_again, outcome_of, env_by, is_rebuild, task_of}
+use Rattle.lb_core.specs.Course.{named_at, ticked_cpu, is_tick, turn_kind, turn_domain, is_pull, source_of, looks_again, outcome_of, env_by, is_rebuild, task_of}
 use Rattle.lb_core.specs.Sight.{Sight, by_cpu, tickless_in}
 use Rattle.lb_core.specs.Stage.{draws, queue_due, is_owner, stage_allows, is_queue, push_is_due, target_of}
 use Rattle.lb_core.specs.Leaving.{Leaving, leaving, out_by, push_out, served_out, pull_out, wake_out}
 use Rattle.lb_core.specs.Rules.{breaks_figure, breaks_pick, breaks_row, breaks_reply, breaks_version, figures_due, breaks_decision, is_other_out, breaks_flight, breaks_counters, breaks_owed, word_of, positions_due, closed_counters, leaves_instead}
-use Rattle.lb_core.specs.Machine.{Machine, course_at, entries_at, owned_queue, owned_count, masks_for, figs_for, sight, queue_at, figures_named, no_queue, place_at}
+use Rattle.lb_core.specs.Machine.{MachineState, course_at, entries_at, owned_queue, owned_count, masks_for, figs_for, sight, queue_at, figures_named, no_queue, place_at}
 use Rattle.lb_core.specs.Elsewhere.{is_undeclared_owner, stage_at_rest, stage_of_use, ticked_elsewhere, answered_elsewhere, version_unpublished, figure_unpublished, owed_elsewhere, end_is_wrong, is_at, task_elsewhere}
 use Rattle.lb_core.specs.Step.{breaks, first_broken, ended_after}
 use Rattle.lb_core.specs.Legal.{MayBeAdded}
@@ -69,7 +69,7 @@ use Rattle.lb_ready.proofs.Steps.{known_answers}
 
 -- ---- rules by the form
 -- what the step of an entry reads
-abbrev pub seen : Machine → Course → Owner → What → Sight
+abbrev pub seen : MachineState → Course → Owner → What → Sight
 seen m c o w = record { header = m.header; course = c; queue = owned_queue o m; count = owned_count o m; masks = masks_for w m; figs = figs_for w m }
 
 abbrev pub names_wrong : Form → Sight → List FigName → Bool
@@ -85,7 +85,7 @@ pick_wrong f s (Out cause to tasks) = is_other_out (out_by f s.header s.course s
 pick_wrong f s w = false
 
 -- whether the rule is broken, in a form; the last ticket of the lane is right
-abbrev pub breaks_in : Form → Rule → Machine → ℕ → Course → Owner → What → Bool
+abbrev pub breaks_in : Form → Rule → MachineState → ℕ → Course → Owner → What → Bool
 breaks_in f Stage m lane c o w =
     not (is_owner w lane (queue_due f c) o && draws f m.header c (owned_queue o m) lane w) || (is_undeclared_owner m o || stage_at_rest f m o w || stage_of_use m c w)
 breaks_in f RowRule m lane c o w = breaks_row (seen m c o w) w || ticked_elsewhere m lane w
@@ -102,27 +102,27 @@ breaks_in f EndRule m lane c o w = end_is_wrong m w
 breaks_in f r m lane c o w = false
 
 -- no rule is broken
-abbrev pub Keeps : Form → Machine → ℕ → Course → Owner → What → Type 0
+abbrev pub Keeps : Form → MachineState → ℕ → Course → Owner → What → Type 0
 Keeps f m lane c o w = (r : Rule) → breaks_in f r m lane c o w ≡ false
 
 -- the lane's entry, after its last one
-abbrev pub drawn_by : Machine → ℕ → Owner → What → Entry
+abbrev pub drawn_by : MachineState → ℕ → Owner → What → Entry
 drawn_by m lane o w = entry o lane (get_or m.last lane 0) w
 
 pub or_none : (a b : Bool) → a ≡ false → b ≡ false → (a || b) ≡ false
 or_none a b h k = rw (h, k) refl
 
-figure_in : (f : Form) (m : Machine) (c : Course) (o : Owner) (w : What) → figure_wrong c.form (seen m c o w) w ≡ breaks_figure (seen m c o w) w
+figure_in : (f : Form) (m : MachineState) (c : Course) (o : Owner) (w : What) → figure_wrong c.form (seen m c o w) w ≡ breaks_figure (seen m c o w) w
 figure_in f m c o (Look p x names d) = refl
 figure_in f m c o (Scan names t) = refl
 figure_in f m c o w = refl
 
-pick_in : (m : Machine) (c : Course) (o : Owner) (w : What) → pick_wrong c.form (seen m c o w) w ≡ breaks_pick (seen m c o w) w
+pick_in : (m : MachineState) (c : Course) (o : Owner) (w : What) → pick_wrong c.form (seen m c o w) w ≡ breaks_pick (seen m c o w) w
 unfolding leaving
 pick_in m c o (Out cause to tasks) = refl
 pick_in m c o w = refl
 
-pub each_kept : (m : Machine) (lane : ℕ) (o : Owner) (w : What) → lane < length m.courses → m.ended ≡ false → Keeps (course_at m.courses lane).form m lane (course_at m.courses lane) o w → (r : Rule) → breaks m (drawn_by m lane o w) r ≡ false
+pub each_kept : (m : MachineState) (lane : ℕ) (o : Owner) (w : What) → lane < length m.courses → m.ended ≡ false → Keeps (course_at m.courses lane).form m lane (course_at m.courses lane) o w → (r : Rule) → breaks m (drawn_by m lane o w) r ≡ false
 unfolding sight stage_allows
 each_kept m lane o w lt live k Ticket = refl
 each_kept m lane o w lt live k Prev = rw (eq-eqb (get_or m.last lane 0) (get_or m.last lane 0) refl) refl
@@ -143,7 +143,7 @@ each_kept m lane o w lt live k CountersRule = or_none _ _ (k CountersRule) refl
 each_kept m lane o w lt live k Owed = k Owed
 each_kept m lane o w lt live k EndRule = or_none _ _ refl (or_none _ _ live (k EndRule))
 
-pub may_be_added : (m : Machine) (e : Entry) → ((r : Rule) → breaks m e r ≡ false) → MayBeAdded m e
+pub may_be_added : (m : MachineState) (e : Entry) → ((r : Rule) → breaks m e r ≡ false) → MayBeAdded m e
 unfolding first_broken
 may_be_added m e h = rw (h Prev, h Stage, h RowRule, h PlaceRule, h ReplyRule, h Version, h Figure, h DecisionRule, h Pick, h FlightRule, h CountersRule, h Owed, h EndRule) refl
 
@@ -204,24 +204,24 @@ pub out_itself : (o : Option Leaving) (l : Leaving) → o ≡ Some l → is_othe
 out_itself o l e = rw e (or_none _ _ (or_none _ _ (not_not _ (cause_itself l.cause)) (not_not _ (eq-eqb l.to l.to refl))) (not_not _ (numbers_itself (ids l.hand))))
 
 -- ---- the newest figures
-abbrev pub newest : Machine → List ℕ → List FigName
+abbrev pub newest : MachineState → List ℕ → List FigName
 newest m cpus = map (λ cpu. record { cpu = cpu; n = entries_at m cpu }) cpus
 
 -- a serial entry of the lane that keeps all rules, and takes up no row
-pub record IsDue (f : Form) (m : Machine) (lane : ℕ) (c : Course) (o : Owner) (w : What) : Type 0 where
+pub record IsDue (f : Form) (m : MachineState) (lane : ℕ) (c : Course) (o : Owner) (w : What) : Type 0 where
   pub keeps : Keeps f m lane c o w
   pub serial : is_serial m w ≡ true
   pub rowless : (l : ℕ) → row_of w l ≡ []
   pub ranged : is_in_range w ≡ true
   pub lives : ended_after w false ≡ false
 
-pub record Next (f : Form) (m : Machine) (lane : ℕ) (c : Course) : Type 0 where
+pub record Next (f : Form) (m : MachineState) (lane : ℕ) (c : Course) : Type 0 where
   pub owner : Owner
   pub what : What
   pub due : IsDue f m lane c owner what
 
 -- what is known of the lane's course
-pub record Knows (m : Machine) (c : Course) : Type 0 where
+pub record Knows (m : MachineState) (c : Course) : Type 0 where
   pub sizes : HasSizes m
   pub says : Speaks m.header m.ticket c
   pub named : NamesPublished m c
@@ -233,11 +233,11 @@ stage_by a b u r s x y z v w = rw (x, y, z, v, w) refl
 pub same : (n : ℕ) → (n == n) ≡ true
 same n = eq-eqb n n refl
 
-pub queue_there : (m : Machine) (cpu : ℕ) → HasSizes m → cpu < length m.header.cpus → not (ltb cpu (length m.queues)) ≡ false
+pub queue_there : (m : MachineState) (cpu : ℕ) → HasSizes m → cpu < length m.header.cpus → not (ltb cpu (length m.queues)) ≡ false
 queue_there m cpu sizes lt = let z = sizes.queues in not_not _ (lt-ltb cpu (length m.queues) (omega arith))
 
 -- ---- landings, ends of turns and requests
-pub flight_goes : (m : Machine) (lane : ℕ) (c : Course) → Knows m c → c.to < length m.header.cpus → Next Flight m lane c
+pub flight_goes : (m : MachineState) (lane : ℕ) (c : Course) → Knows m c → c.to < length m.header.cpus → Next Flight m lane c
 unfolding draws
 flight_goes m lane c k lt = record { owner = Queue c.to; what = Landed (ids c.hand); due = record { keeps = keeps; serial = refl; rowless = λ l. refl; ranged = refl; lives = refl } }
   where
@@ -246,7 +246,7 @@ flight_goes m lane c k lt = record { owner = Queue c.to; what = Landed (ids c.ha
     keeps FlightRule = not_not _ (numbers_itself (ids c.hand))
     keeps r = refl
 
-pub done_goes : (m : Machine) (lane : ℕ) (c : Course) → Knows m c → Next Done m lane c
+pub done_goes : (m : MachineState) (lane : ℕ) (c : Course) → Knows m c → Next Done m lane c
 unfolding draws
 done_goes m lane c k = record { owner = Queue c.cpu; what = Over; due = record { keeps = keeps; serial = refl; rowless = λ l. refl; ranged = refl; lives = refl } }
   where
@@ -254,7 +254,7 @@ done_goes m lane c k = record { owner = Queue c.cpu; what = Over; due = record {
     keeps Stage = stage_by _ _ _ _ _ (same c.cpu) refl (queue_there m c.cpu k.sizes k.says.turned) refl refl
     keeps r = refl
 
-pub closed_goes : (m : Machine) (lane : ℕ) (c : Course) → Knows m c → Next Closed m lane c
+pub closed_goes : (m : MachineState) (lane : ℕ) (c : Course) → Knows m c → Next Closed m lane c
 unfolding draws
 closed_goes m lane c k = record { owner = Queue (source_of c.decision); what = Ask (ask_active (queue_at m.queues (source_of c.decision)) c.at c.cpu).0; due = record { keeps = keeps; serial = refl; rowless = λ l. refl; ranged = refl; lives = refl } }
   where
@@ -263,7 +263,7 @@ closed_goes m lane c k = record { owner = Queue (source_of c.decision); what = A
     keeps ReplyRule = not_not _ (ask_itself (ask_active (queue_at m.queues (source_of c.decision)) c.at c.cpu).0)
     keeps r = refl
 
-pub kicking_goes : (m : Machine) (lane : ℕ) (c : Course) (t : ℕ) → Knows m c → target_of c ≡ Some t → Next Kicking m lane c
+pub kicking_goes : (m : MachineState) (lane : ℕ) (c : Course) (t : ℕ) → Knows m c → target_of c ≡ Some t → Next Kicking m lane c
 unfolding draws
 kicking_goes m lane c t k e = record { owner = Queue t; what = Kick (kick (queue_at m.queues t) c.at).0; due = record { keeps = keeps; serial = refl; rowless = λ l. refl; ranged = refl; lives = refl } }
   where
@@ -276,7 +276,7 @@ kicking_goes m lane c t k e = record { owner = Queue t; what = Kick (kick (queue
 mask_itself : (x : Mask) → same_mask x x ≡ true
 mask_itself x = same x.bits
 
-pub used_goes : (m : Machine) (lane : ℕ) (c : Course) → Knows m c → Next Used m lane c
+pub used_goes : (m : MachineState) (lane : ℕ) (c : Course) → Knows m c → Next Used m lane c
 unfolding draws
 used_goes m lane c k = by_turn (is_some q.open_turn) refl
   where
@@ -306,37 +306,37 @@ used_goes m lane c k = by_turn (is_some q.open_turn) refl
         keeps r = refl
 
 -- ---- looks and scans
-all_newest : (m : Machine) (cpus : List ℕ) → are_newest m (newest m cpus) ≡ true
+all_newest : (m : MachineState) (cpus : List ℕ) → are_newest m (newest m cpus) ≡ true
 all_newest m [] = refl
 all_newest m (cpu ∷ cpus) = and_from (entries_at m cpu == entries_at m cpu) _ (same (entries_at m cpu)) (all_newest m cpus)
 
-newest_published : (m : Machine) (cpus : List ℕ) → list_any (λ n. ltb (entries_at m n.cpu) n.n) (newest m cpus) ≡ false
+newest_published : (m : MachineState) (cpus : List ℕ) → list_any (λ n. ltb (entries_at m n.cpu) n.n) (newest m cpus) ≡ false
 newest_published m [] = refl
 newest_published m (cpu ∷ cpus) = or_none _ _ (le-ltb (entries_at m cpu) (entries_at m cpu) (omega arith)) (newest_published m cpus)
 
-newest_new : (m : Machine) (c : Course) (cpus : List ℕ) → ((cpu : ℕ) → named_at c cpu ≤ entries_at m cpu) → list_any (λ n. ltb n.n (named_at c n.cpu)) (newest m cpus) ≡ false
+newest_new : (m : MachineState) (c : Course) (cpus : List ℕ) → ((cpu : ℕ) → named_at c cpu ≤ entries_at m cpu) → list_any (λ n. ltb n.n (named_at c n.cpu)) (newest m cpus) ≡ false
 newest_new m c [] h = refl
 newest_new m c (cpu ∷ cpus) h = or_none _ _ (let k = h cpu in le-ltb (entries_at m cpu) (named_at c cpu) k) (newest_new m c cpus h)
 
-newest_cpus : (m : Machine) (cpus : List ℕ) → map (λ n. n.cpu) (newest m cpus) ≡ cpus
+newest_cpus : (m : MachineState) (cpus : List ℕ) → map (λ n. n.cpu) (newest m cpus) ≡ cpus
 newest_cpus m [] = refl
 newest_cpus m (cpu ∷ cpus) = ap (λ (xs : List ℕ). cpu ∷ xs) (newest_cpus m cpus)
 
 -- the figures of these CPUs are named rightly
-names_right : (m : Machine) (c : Course) (cpus due : List ℕ) → due ≡ cpus → NamesPublished m c → (not (same_numbers (map (λ n. n.cpu) (newest m cpus)) due) || list_any (λ n. ltb n.n (named_at c n.cpu)) (newest m cpus)) ≡ false
+names_right : (m : MachineState) (c : Course) (cpus due : List ℕ) → due ≡ cpus → NamesPublished m c → (not (same_numbers (map (λ n. n.cpu) (newest m cpus)) due) || list_any (λ n. ltb n.n (named_at c n.cpu)) (newest m cpus)) ≡ false
 names_right m c cpus due e k = or_none _ _ (not_not (same_numbers (map (λ n. n.cpu) (newest m cpus)) due) (rw (newest_cpus m cpus, e) (numbers_itself cpus))) (newest_new m c cpus k.figures)
 
-abbrev due_in : Form → Machine → Course → List ℕ
+abbrev due_in : Form → MachineState → Course → List ℕ
 due_in f m c = members (figures_due f (seen m c Publisher Over))
 
-abbrev decided_by : Machine → Course → List FigName → Decision
-decided_by m c names = decision (turn_domain m.header c).shape (turn_domain m.header c).groups (by_cpu (figures_named m.figures names)) c.cpu (kind_of c) c.excluded
+abbrev decided_by : MachineState → Course → List FigName → Decision
+decided_by m c names = decision (turn_domain m.header c).shape (turn_domain m.header c).groups (by_cpu (figures_named m.figures names)) c.cpu (turn_kind c) c.excluded
 
-abbrev look_by : Machine → Course → List ℕ → What
+abbrev look_by : MachineState → Course → List ℕ → What
 look_by m c cpus = Look c.position c.excluded (newest m cpus) (decided_by m c (newest m cpus))
 
 -- a look, where the form draws one
-look_goes : (f : Form) (m : Machine) (lane : ℕ) (c : Course) (cpus : List ℕ) → Knows m c → members (figures_due f (seen m c (Lane lane) (look_by m c cpus))) ≡ cpus → draws f m.header c (owned_queue (Lane lane) m) lane (look_by m c cpus) ≡ true →
+look_goes : (f : Form) (m : MachineState) (lane : ℕ) (c : Course) (cpus : List ℕ) → Knows m c → members (figures_due f (seen m c (Lane lane) (look_by m c cpus))) ≡ cpus → draws f m.header c (owned_queue (Lane lane) m) lane (look_by m c cpus) ≡ true →
     stage_at_rest f m (Lane lane) (look_by m c cpus) ≡ false → answered_elsewhere f c m (Lane lane) (look_by m c cpus) ≡ false → Next f m lane c
 look_goes f m lane c cpus k due d r p = record { owner = Lane lane; what = look_by m c cpus; due = record { keeps = keeps; serial = all_newest m cpus; rowless = λ l. refl; ranged = refl; lives = refl } }
   where
@@ -347,11 +347,11 @@ look_goes f m lane c cpus k due d r p = record { owner = Lane lane; what = look_
     keeps DecisionRule = or_none _ _ (or_none _ _ (not_not _ (same c.position)) (not_not _ (mask_itself c.excluded))) (not_not _ (decision_itself (decided_by m c (newest m cpus))))
     keeps r = refl
 
-pub position_goes : (m : Machine) (lane : ℕ) (c : Course) → Knows m c → Next Position m lane c
+pub position_goes : (m : MachineState) (lane : ℕ) (c : Course) → Knows m c → Next Position m lane c
 unfolding draws
 position_goes m lane c k = look_goes Position m lane c (due_in Position m c) k refl refl refl refl
 
-pub scan_goes : (m : Machine) (lane : ℕ) (c : Course) → Knows m c → Next ScanDue m lane c
+pub scan_goes : (m : MachineState) (lane : ℕ) (c : Course) → Knows m c → Next ScanDue m lane c
 unfolding draws
 scan_goes m lane c k = record { owner = Lane lane; what = Scan names t; due = record { keeps = keeps; serial = all_newest m (due_in ScanDue m c); rowless = λ l. refl; ranged = refl; lives = refl } }
   where
@@ -368,10 +368,10 @@ scan_goes m lane c k = record { owner = Lane lane; what = Scan names t; due = re
     keeps r = refl
 
 -- ---- closes
-close_by : Machine → Course → What
+close_by : MachineState → Course → What
 close_by m c = Close c.position (word_of (outcome_of m.header c)) (closed_counters (seen m c (Queue c.cpu) Over)).interval (closed_counters (seen m c (Queue c.cpu) Over)).failures
 
-close_goes : (f : Form) (m : Machine) (lane : ℕ) (c : Course) → Knows m c → is_owner (close_by m c) lane (queue_due f c) (Queue c.cpu) ≡ true → draws f m.header c (queue_at m.queues c.cpu) lane (close_by m c) ≡ true →
+close_goes : (f : Form) (m : MachineState) (lane : ℕ) (c : Course) → Knows m c → is_owner (close_by m c) lane (queue_due f c) (Queue c.cpu) ≡ true → draws f m.header c (queue_at m.queues c.cpu) lane (close_by m c) ≡ true →
     stage_at_rest f m (Queue c.cpu) (close_by m c) ≡ false → answered_elsewhere f c m (Queue c.cpu) (close_by m c) ≡ false → Next f m lane c
 unfolding close_by closed_counters
 close_goes f m lane c k w d r p = record { owner = Queue c.cpu; what = close_by m c; due = record { keeps = keeps; serial = refl; rowless = λ l. refl; ranged = refl; lives = refl } }
@@ -383,7 +383,7 @@ close_goes f m lane c k w d r p = record { owner = Queue c.cpu; what = close_by 
     keeps CountersRule = or_none _ _ (or_none _ _ (not_not _ (word_itself (word_of (outcome_of m.header c)))) (not_not _ (same _))) (not_not _ (same _))
     keeps r = refl
 
-pub landed_goes : (m : Machine) (lane : ℕ) (c : Course) → Knows m c → Next LandedForm m lane c
+pub landed_goes : (m : MachineState) (lane : ℕ) (c : Course) → Knows m c → Next LandedForm m lane c
 unfolding draws close_by
 landed_goes m lane c k = by_test (looks_again m.header c) refl
   where
@@ -395,18 +395,18 @@ landed_goes m lane c k = by_test (looks_again m.header c) refl
 most : (a n : ℕ) → a ≤ n → 1 ≤ n → ltb n (max a 1) ≡ false
 most a n h k = le-ltb n (max a 1) (max-le h k)
 
-pub due_goes : (m : Machine) (lane : ℕ) (c : Course) → Knows m c → same_kind (kind_of c) TickTurn ≡ false → Next Due m lane c
+pub due_goes : (m : MachineState) (lane : ℕ) (c : Course) → Knows m c → same_kind (turn_kind c) TickTurn ≡ false → Next Due m lane c
 unfolding draws
-due_goes m lane c k n = record { owner = Lane lane; what = Adopt (length m.versions) (kind_of c) c.cpu; due = record { keeps = keeps; serial = same (length m.versions); rowless = λ l. refl; ranged = refl; lives = refl } }
+due_goes m lane c k n = record { owner = Lane lane; what = Adopt (length m.versions) (turn_kind c) c.cpu; due = record { keeps = keeps; serial = same (length m.versions); rowless = λ l. refl; ranged = refl; lives = refl } }
   where
-    keeps : Keeps Due m lane c (Lane lane) (Adopt (length m.versions) (kind_of c) c.cpu)
-    keeps Stage = stage_by _ _ _ _ (same_kind (kind_of c) TickTurn && push_is_due c (queue_at m.queues c.cpu)) (same lane) (and_from _ _ (kind_itself (kind_of c)) (same c.cpu)) refl refl (rw n refl)
+    keeps : Keeps Due m lane c (Lane lane) (Adopt (length m.versions) (turn_kind c) c.cpu)
+    keeps Stage = stage_by _ _ _ _ (same_kind (turn_kind c) TickTurn && push_is_due c (queue_at m.queues c.cpu)) (same lane) (and_from _ _ (kind_itself (turn_kind c)) (same c.cpu)) refl refl (rw n refl)
     keeps Version = or_none _ _ (most c.named_version (length m.versions) k.named.version k.sizes.versions) (le-ltb (length m.versions) (length m.versions) (omega arith))
-    keeps Owed = or_none false (same_kind (kind_of c) TickTurn && has_owed (queue_at m.queues c.cpu)) refl (rw n refl)
+    keeps Owed = or_none false (same_kind (turn_kind c) TickTurn && has_owed (queue_at m.queues c.cpu)) refl (rw n refl)
     keeps r = refl
 
 -- ---- tasks that leave
-pub out_goes : (f : Form) (m : Machine) (lane : ℕ) (c : Course) (cpu : ℕ) (l : Leaving) → Knows m c → cpu < length m.header.cpus → out_by f m.header c (queue_at m.queues cpu) ≡ Some l → is_queue (Queue cpu) (queue_due f c) ≡ true →
+pub out_goes : (f : Form) (m : MachineState) (lane : ℕ) (c : Course) (cpu : ℕ) (l : Leaving) → Knows m c → cpu < length m.header.cpus → out_by f m.header c (queue_at m.queues cpu) ≡ Some l → is_queue (Queue cpu) (queue_due f c) ≡ true →
     draws f m.header c (queue_at m.queues cpu) lane (Out l.cause l.to (ids l.hand)) ≡ true → stage_at_rest f m (Queue cpu) (Out l.cause l.to (ids l.hand)) ≡ false → answered_elsewhere f c m (Queue cpu) (Out l.cause l.to (ids l.hand)) ≡ false → Next f m lane c
 out_goes f m lane c cpu l k lt e w d r p = record { owner = Queue cpu; what = Out l.cause l.to (ids l.hand); due = record { keeps = keeps; serial = refl; rowless = λ l. refl; ranged = refl; lives = refl } }
   where
@@ -426,7 +426,7 @@ pull_there (Some NotMine) h c at q p = absurd (let y : ⊥ = cc in y)
 pull_there (Some Balanced) h c at q p = absurd (let y : ⊥ = cc in y)
 pull_there (Some (Pull s k i)) h c at q p = refl
 
-pub looked_goes : (m : Machine) (lane : ℕ) (c : Course) → Knows m c → is_some c.decision ≡ true → Next Looked m lane c
+pub looked_goes : (m : MachineState) (lane : ℕ) (c : Course) → Knows m c → is_some c.decision ≡ true → Next Looked m lane c
 unfolding draws close_by
 looked_goes m lane c k some = by_pull (is_pull c.decision) refl
   where
@@ -451,7 +451,7 @@ served_there asked None c q e h = active_there q.active c.at q (by_owed (has_owe
     by_owed true o h = let k = asked q true ∙ o in absurd (let z : is_some (next_stop q true) ≡ false = rw e refl in let y : ⊥ = cc in y)
     by_owed false o h = (and_parts (is_some q.active) (not c.pushed) h).0
 
-pub serving_goes : (m : Machine) (lane : ℕ) (c : Course) (cpu : ℕ) → Knows m c → cpu < length m.header.cpus → ticked_cpu c.command ≡ Some cpu → Next Serving m lane c
+pub serving_goes : (m : MachineState) (lane : ℕ) (c : Course) (cpu : ℕ) → Knows m c → cpu < length m.header.cpus → ticked_cpu c.command ≡ Some cpu → Next Serving m lane c
 unfolding draws
 serving_goes m lane c cpu k lt t = by_due (has_owed (queue_at m.queues cpu) || push_is_due c (queue_at m.queues cpu)) refl
   where
@@ -482,7 +482,7 @@ known_gone true b g h = refl
 known_gone false true g h = refl
 known_gone false false g h = h
 
-pub record IsKnown (m : Machine) (t : ℕ) : Type 0 where
+pub record IsKnown (m : MachineState) (t : ℕ) : Type 0 where
   pub cpu : ℕ
   pub there : cpu < length m.header.cpus
   pub place : is_at (place_at m t) (Queue cpu) ≡ true
@@ -494,7 +494,7 @@ same_place_itself (AsleepAt a) = eq-eqb a a refl
 same_place_itself (GoneAt a) = eq-eqb a a refl
 same_place_itself (HandOf a) = eq-eqb a a refl
 
-stands : (m : Machine) (t : ℕ) (p : Place) → IsPlaced m → t < length m.header.tasks → place_at m t ≡ p → 1 ≤ occurs t (standing m p)
+stands : (m : MachineState) (t : ℕ) (p : Place) → IsPlaced m → t < length m.header.tasks → place_at m t ≡ p → 1 ≤ occurs t (standing m p)
 stands m t p placed lt e =
     let its : is_its_place m p t ≡ true = and_from _ _ (let l = placed.mapped in lt-ltb t (length m.places) (omega arith)) (rw e (same_place_itself p)) in
     let once : occurs t (standing m p) ≡ 1 = placed.once p t ∙ rw its refl in
@@ -507,13 +507,13 @@ somewhere f t xs h = by_test (find (λ x. f x == t) xs) refl
     by_test None e = let z = found_none f t xs e in absurd (omega arith)
     by_test (Some x) e = refl
 
-cpu_inside : (m : Machine) (cpu : ℕ) → HasSizes m → (queue_at m.queues cpu ≡ no_queue → ⊥) → cpu < length m.header.cpus
+cpu_inside : (m : MachineState) (cpu : ℕ) → HasSizes m → (queue_at m.queues cpu ≡ no_queue → ⊥) → cpu < length m.header.cpus
 cpu_inside m cpu sizes n = elim (cases_lt cpu (length m.queues)) [
   | inl lt ↦ let z = sizes.queues in omega arith
   | inr ge ↦ absurd (n (get_or_past m.queues cpu no_queue ge))
 ]
 
-pub found_at : (m : Machine) (t : ℕ) → HasSizes m → IsPlaced m → ((l : ℕ) → (course_at m.courses l).hand ≡ []) → t < length m.header.tasks → IsKnown m t
+pub found_at : (m : MachineState) (t : ℕ) → HasSizes m → IsPlaced m → ((l : ℕ) → (course_at m.courses l).hand ≡ []) → t < length m.header.tasks → IsKnown m t
 found_at m t sizes placed empty lt = by_place (place_at m t) refl
   where
     by_place : (p : Place) → place_at m t ≡ p → IsKnown m t
@@ -535,7 +535,7 @@ found_at m t sizes placed empty lt = by_place (place_at m t) refl
         absurd (omega arith)
 
 -- ---- the answer's entry
-did_goes : (m : Machine) (lane : ℕ) (c : Course) (cpu : ℕ) → Knows m c → cpu < length m.header.cpus → (is_some c.command && not (is_rebuild c.command)) ≡ true → is_queue (Queue cpu) (ticked_cpu c.command) ≡ true → task_elsewhere (task_of c.command) m (Queue cpu) ≡ false →
+did_goes : (m : MachineState) (lane : ℕ) (c : Course) (cpu : ℕ) → Knows m c → cpu < length m.header.cpus → (is_some c.command && not (is_rebuild c.command)) ≡ true → is_queue (Queue cpu) (ticked_cpu c.command) ≡ true → task_elsewhere (task_of c.command) m (Queue cpu) ≡ false →
     leaves_instead c.command (queue_at m.queues cpu) ≡ false → same_reply (answer_to c.command c.at (queue_at m.queues cpu)).0 NotHere ≡ false → (is_tick c.command && has_owed (queue_at m.queues cpu)) ≡ false → Next Asked m lane c
 unfolding draws
 did_goes m lane c cpu k lt d w p s n o = record { owner = Queue cpu; what = Did (answer_to c.command c.at (queue_at m.queues cpu)).0; due = record { keeps = keeps; serial = refl; rowless = λ l. refl; ranged = refl; lives = refl } }
@@ -547,7 +547,7 @@ did_goes m lane c cpu k lt d w p s n o = record { owner = Queue cpu; what = Did 
     keeps Owed = or_none _ _ o refl
     keeps r = refl
 
-rebuild_goes : (m : Machine) (lane : ℕ) (c : Course) → is_rebuild c.command ≡ true → Next Asked m lane c
+rebuild_goes : (m : MachineState) (lane : ℕ) (c : Course) → is_rebuild c.command ≡ true → Next Asked m lane c
 unfolding draws
 rebuild_goes m lane c r = record { owner = Publisher; what = Pub (length m.versions - 1 + 2); due = record { keeps = keeps; serial = refl; rowless = λ l. refl; ranged = refl; lives = refl } }
   where
@@ -557,14 +557,14 @@ rebuild_goes m lane c r = record { owner = Publisher; what = Pub (length m.versi
     keeps r = refl
 
 -- the queue that knows the task answers
-told_goes : (m : Machine) (lane : ℕ) (c : Course) (t : ℕ) → Knows m c → (f : IsKnown m t) → task_of c.command ≡ Some t → (is_some c.command && not (is_rebuild c.command)) ≡ true → ticked_cpu c.command ≡ None →
+told_goes : (m : MachineState) (lane : ℕ) (c : Course) (t : ℕ) → Knows m c → (f : IsKnown m t) → task_of c.command ≡ Some t → (is_some c.command && not (is_rebuild c.command)) ≡ true → ticked_cpu c.command ≡ None →
     leaves_instead c.command (queue_at m.queues f.cpu) ≡ false → Next Asked m lane c
 told_goes m lane c t k f e d n l =
     did_goes m lane c f.cpu k f.there d (rw n refl) (rw e (not_not _ f.place)) l
     (known_answers c.command c.at (queue_at m.queues f.cpu) (λ id i. let s : t ≡ id = cc in subst (λ (u : ℕ). knows (queue_at m.queues f.cpu) u ≡ true) s f.known)) (rw n refl)
 
 -- a wake leaves the queue, or not
-wake_goes : (m : Machine) (lane : ℕ) (c : Course) (t : ℕ) → Knows m c → c.command ≡ Some (Wake t) → IsKnown m t → Next Asked m lane c
+wake_goes : (m : MachineState) (lane : ℕ) (c : Course) (t : ℕ) → Knows m c → c.command ≡ Some (Wake t) → IsKnown m t → Next Asked m lane c
 unfolding draws
 wake_goes m lane c t k e f = by_away (away (queue_at m.queues f.cpu) t) refl
   where
@@ -574,7 +574,7 @@ wake_goes m lane c t k e f = by_away (away (queue_at m.queues f.cpu) t) refl
         let l = some_leaving (wake_out c.command c.at (queue_at m.queues f.cpu)) (rw e (rw a refl)) in
         out_goes Asked m lane c f.cpu l.0 k f.there l.1 (rw e refl) (rw e refl) refl (rw e (not_not _ f.place))
 
-pub asked_goes : (m : Machine) (lane : ℕ) (c : Course) (command : Option Command) → Knows m c → c.command ≡ command → Names m.header command → is_some command ≡ true → ((t : ℕ) → t < length m.header.tasks → IsKnown m t) → ((cpu : ℕ) → has_owed (queue_at m.queues cpu) ≡ false) → Next Asked m lane c
+pub asked_goes : (m : MachineState) (lane : ℕ) (c : Course) (command : Option Command) → Knows m c → c.command ≡ command → Names m.header command → is_some command ≡ true → ((t : ℕ) → t < length m.header.tasks → IsKnown m t) → ((cpu : ℕ) → has_owed (queue_at m.queues cpu) ≡ false) → Next Asked m lane c
 asked_goes m lane c None k e n h known calm = absurd (let y : ⊥ = cc in y)
 asked_goes m lane c (Some (Wake t)) k e n h known calm = wake_goes m lane c t k e (known t n)
 asked_goes m lane c (Some (Sleep t)) k e n h known calm = told_goes m lane c t k (known t n) (rw e refl) (rw e refl) (rw e refl) (rw e refl)

@@ -20,7 +20,7 @@ use Rattle.lb_core.specs.declared.entry.What.TheVariants.{Row}
 use Rattle.lb_core.specs.declared.history.History.{History}
 use Rattle.lb_core.specs.OfTrace.{of_lane, row_of, rows_drawn, IsHistoryOf}
 use Rattle.lb_core.specs.Course.{opening_course}
-use Rattle.lb_core.specs.Machine.{Machine, opening_queue, start}
+use Rattle.lb_core.specs.Machine.{MachineState, opening_queue, start}
 use Rattle.lb_core.specs.Step.{after}
 use Rattle.lb_core.specs.Legal.{MayFollow}
 use Rattle.lb_core.specs.Ranges.{fit_from}
@@ -101,7 +101,7 @@ as_many (x ∷ xs) ys same =
 
 -- ---- entries and their rows
 -- the rows of the first entry and of the others
-split_rows : (m : Machine) (e : Entry) (es : List Entry) → list_all (is_row m.header) (rows_drawn (e ∷ es)) ≡ true → (list_all (is_row m.header) (row_of e.what e.lane) ≡ true) × (list_all (is_row m.header) (rows_drawn es) ≡ true)
+split_rows : (m : MachineState) (e : Entry) (es : List Entry) → list_all (is_row m.header) (rows_drawn (e ∷ es)) ≡ true → (list_all (is_row m.header) (row_of e.what e.lane) ≡ true) × (list_all (is_row m.header) (rows_drawn es) ≡ true)
 split_rows m e es h = and_parts _ _ (sym (list_all-append (is_row m.header) (row_of e.what e.lane) (rows_drawn es)) ∙ h)
 
 -- ---- how many
@@ -109,7 +109,7 @@ row_counted : (w : What) (lane : ℕ) (rows : List TraceRow) → rows_before w (
 row_counted (Row n at command) lane rows = omega arith
 row_counted w lane rows = refl
 
-few_from : StaysReady → EntriesFall → (es : List Entry) (m : Machine) → IsReady m → MayFollow es m → list_all (is_row m.header) (rows_drawn es) ≡ true → length es ≤ entries_left (length (rows_drawn es)) m
+few_from : StaysReady → EntriesFall → (es : List Entry) (m : MachineState) → IsReady m → MayFollow es m → list_all (is_row m.header) (rows_drawn es) ≡ true → length es ≤ entries_left (length (rows_drawn es)) m
 unfolding after
 few_from stays falls [] m k follow rows = omega arith
 few_from stays falls (e ∷ es) m k follow rows =
@@ -149,7 +149,7 @@ histories_end opens stays falls t history accepted of =
     omega (arith, few, left, rows)
 
 -- ---- in range
-fits_from : (laws : ReadyLaws) (es : List Entry) (m : Machine) → IsReady m → MayFollow es m → list_all (is_row m.header) (rows_drawn es) ≡ true → m.ticket + length es ≤ 2 ^ 40 → fit_from (m.ticket + 1) es ≡ true
+fits_from : (laws : ReadyLaws) (es : List Entry) (m : MachineState) → IsReady m → MayFollow es m → list_all (is_row m.header) (rows_drawn es) ≡ true → m.ticket + length es ≤ 2 ^ 40 → fit_from (m.ticket + 1) es ≡ true
 unfolding after
 fits_from laws [] m k follow rows few = refl
 fits_from laws (e ∷ es) m k follow rows few =

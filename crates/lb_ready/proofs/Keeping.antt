@@ -39,8 +39,8 @@ use Rattle.lb_core.specs.declared.entry.What.{What}
 use Rattle.lb_core.specs.declared.entry.What.TheVariants.{Row, Look, Scan, Did, Out}
 use Rattle.lb_core.specs.declared.entry.Entry.{Entry}
 use Rattle.lb_core.specs.declared.rule.Rule.TheVariants.{Row as RowRule, Decision as DecisionRule, Pick, End as EndRule}
-use Rattle.lb_core.specs.Course.{opening_course, source_of, kind_of, is_pull, turn_domain, turn_domains}
-use Rattle.lb_core.specs.Machine.{Machine, queue_at, course_at, no_course, tasks_at, opening_queue, start, figures_at, figures_named, sight, owned_queue}
+use Rattle.lb_core.specs.Course.{opening_course, source_of, turn_kind, is_pull, turn_domain, turn_domains}
+use Rattle.lb_core.specs.Machine.{MachineState, queue_at, course_at, no_course, tasks_at, opening_queue, start, figures_at, figures_named, sight, owned_queue}
 use Rattle.lb_core.specs.Placed.{IsPlaced, PlacedOpens, PlacedStays}
 use Rattle.lb_core.specs.Stage.{draws}
 use Rattle.lb_core.specs.Sight.{by_cpu}
@@ -90,7 +90,7 @@ zero_at n k = elim (cases_lt k n) [
   | inr ge ↦ get_or_past (replicate n 0) k 0 (let e : length (replicate {A = ℕ} n 0) ≡ n = length-replicate n 0 in omega arith)
 ]
 
-opening_named : (m : Machine) (n : ℕ) → NamesPublished m (opening_course n)
+opening_named : (m : MachineState) (n : ℕ) → NamesPublished m (opening_course n)
 opening_named m n = record { version = omega arith; figures = λ cpu. let e = zero_at n cpu in omega arith }
 
 -- ---- queues
@@ -175,7 +175,7 @@ row_names h n at (Nice t nice) d r = (there (length h.tasks) t d, r)
 row_names h n at (Tick cpu) d r = there (length h.cpus) cpu d
 row_names h n at (Rebuild parts) d r = tt
 
-source_brought : (m : Machine) (names : List FigName) (shape : Shape) (groups : List Mask) (cpu : ℕ) (kind : Kind) (excluded : Mask) (d : Decision) → HasSizes m → 0 < length m.header.cpus →
+source_brought : (m : MachineState) (names : List FigName) (shape : Shape) (groups : List Mask) (cpu : ℕ) (kind : Kind) (excluded : Mask) (d : Decision) → HasSizes m → 0 < length m.header.cpus →
     d ≡ decision shape groups (by_cpu (figures_named m.figures names)) cpu kind excluded → source_of (Some d) < length m.header.cpus
 source_brought m names shape groups cpu kind excluded NotMine sizes some e = some
 source_brought m names shape groups cpu kind excluded Balanced sizes some e = some
@@ -185,20 +185,20 @@ source_brought m names shape groups cpu kind excluded (Pull s k i) sizes some e 
     let z = sizes.figures in
     omega arith
 
-owner_there : (m : Machine) (o : Owner) (lane prev : ℕ) (w : What) → MayBeAdded m (entry o lane prev w) → 0 < length m.queues → cpu_of o < length m.queues
+owner_there : (m : MachineState) (o : Owner) (lane prev : ℕ) (w : What) → MayBeAdded m (entry o lane prev w) → 0 < length m.queues → cpu_of o < length m.queues
 owner_there m (Queue cpu) lane prev w h some = cpu_there m cpu lane prev w h
 owner_there m Publisher lane prev w h some = some
 owner_there m (Lane l) lane prev w h some = some
 
 -- the number of a row is the next of its lane
-pub row_next : (m : Machine) (o : Owner) (lane prev n at : ℕ) (command : Command) → MayBeAdded m (entry o lane prev (Row n at command)) → (course_at m.courses lane).rows ≤ m.ticket → n ≤ m.ticket + 1
+pub row_next : (m : MachineState) (o : Owner) (lane prev n at : ℕ) (command : Command) → MayBeAdded m (entry o lane prev (Row n at command)) → (course_at m.courses lane).rows ≤ m.ticket → n ≤ m.ticket + 1
 unfolding sight
 row_next m o lane prev n at command h less =
     let rows = (course_at m.courses lane).rows + 1 in
     let e = eqb-true n rows (not-false (n == rows) (or_parts (not (n == rows)) _ (unbroken_here m (entry o lane prev (Row n at command)) h RowRule)).0) in
     omega arith
 
-brings : (m : Machine) (o : Owner) (lane prev : ℕ) (w : What) → HasSizes m → 0 < length m.header.cpus → MayBeAdded m (entry o lane prev w) → is_in_range w ≡ true → (course_at m.courses lane).rows ≤ m.ticket → Brings m.header (m.ticket + 1) (sight m (entry o lane prev w)) (cpu_of o) w
+brings : (m : MachineState) (o : Owner) (lane prev : ℕ) (w : What) → HasSizes m → 0 < length m.header.cpus → MayBeAdded m (entry o lane prev w) → is_in_range w ≡ true → (course_at m.courses lane).rows ≤ m.ticket → Brings m.header (m.ticket + 1) (sight m (entry o lane prev w)) (cpu_of o) w
 unfolding sight
 brings m o lane prev (Row n at command) sizes some h r less =
     let said = or_parts (not (n == (course_at m.courses lane).rows + 1)) _ (unbroken_here m (entry o lane prev (Row n at command)) h RowRule) in
@@ -214,17 +214,17 @@ brings m o lane prev w sizes some h r less = tt
 
 -- ---- tasks that leave
 -- the course and the queue after an `out`
-pub record OutFits (m : Machine) (cpu : ℕ) (c : Course) (q : QueueState) : Type 0 where
+pub record OutFits (m : MachineState) (cpu : ℕ) (c : Course) (q : QueueState) : Type 0 where
   pub course : Fits false m.header (m.ticket + 1) c
   pub queue : IsQueueOf (length m.header.cpus) cpu q
 
-live : (m : Machine) (e : Entry) → MayBeAdded m e → m.ended ≡ false
+live : (m : MachineState) (e : Entry) → MayBeAdded m e → m.ended ≡ false
 live m e h = (or_parts m.ended _ (unbroken_elsewhere m e h EndRule)).0
 
 off_fits : (h : Header) (n : ℕ) (o : Option Leaving) (l : Leaving) (c : Course) → o ≡ Some l → l.to < length h.cpus → list_all (λ t. is_task_in (length h.cpus) t) l.hand ≡ true → Speaks h n c → Fits false h n (takes_off o c)
 off_fits h n o l c e to hand k = rw e (record { says = record { counted = k.counted; turned = k.turned; pulled = k.pulled; tickless = k.tickless; names = k.names; masks = hand; narrow = k.narrow }; form = to })
 
-out_fits : (laws : QueueLaws) → (m : Machine) (cpu lane prev : ℕ) (cause : OutCause) (to : ℕ) (ids : List ℕ) → IsReady m → MayBeAdded m (entry (Queue cpu) lane prev (Out cause to ids)) →
+out_fits : (laws : QueueLaws) → (m : MachineState) (cpu lane prev : ℕ) (cause : OutCause) (to : ℕ) (ids : List ℕ) → IsReady m → MayBeAdded m (entry (Queue cpu) lane prev (Out cause to ids)) →
     OutFits m cpu (course_left m (entry (Queue cpu) lane prev (Out cause to ids))) (queue_left m (entry (Queue cpu) lane prev (Out cause to ids)))
 unfolding course_after leaving queue_after sight
 out_fits laws m cpu lane prev cause to ids k h =
@@ -244,7 +244,7 @@ out_fits laws m cpu lane prev cause to ids k h =
     }
 
 -- ---- courses
-course_kept : (m : Machine) (o : Owner) (lane prev : ℕ) (w : What) → IsReady m → MayBeAdded m (entry o lane prev w) → is_in_range w ≡ true → is_out w ≡ false →
+course_kept : (m : MachineState) (o : Owner) (lane prev : ℕ) (w : What) → IsReady m → MayBeAdded m (entry o lane prev w) → is_in_range w ≡ true → is_out w ≡ false →
     Fits (ended_after w false) m.header (m.ticket + 1) (course_left m (entry o lane prev w))
 unfolding course_after sight
 course_kept m o lane prev w k h r n =
@@ -255,7 +255,7 @@ course_kept m o lane prev w k h r n =
     drew_fits _ m.header (m.ticket + 1) o (s.count + 1) _
     (course_fits m.header (m.ticket + 1) s lane (cpu_of o) (queue_after s e) w k.accepted.most_cpus refl (form_lets m e h).1 n (brings m o lane prev w k.sizes some h r says.counted) (later m.header m.ticket s.course says))
 
-courses_kept : (m : Machine) (o : Owner) (lane prev : ℕ) (w : What) → IsReady m → MayBeAdded m (entry o lane prev w) → Fits (ended_after w false) m.header (m.ticket + 1) (course_left m (entry o lane prev w)) →
+courses_kept : (m : MachineState) (o : Owner) (lane prev : ℕ) (w : What) → IsReady m → MayBeAdded m (entry o lane prev w) → Fits (ended_after w false) m.header (m.ticket + 1) (course_left m (entry o lane prev w)) →
     (l : ℕ) → Fits (ended_after w m.ended) m.header (m.ticket + 1) (course_at (after m (entry o lane prev w)).courses l)
 courses_kept m o lane prev w k h new =
     let e = entry o lane prev w in
@@ -263,13 +263,13 @@ courses_kept m o lane prev w k h new =
     subst (λ (b : Bool). (l : ℕ) → Fits (ended_after w b) m.header (m.ticket + 1) (course_at (after m e).courses l)) (sym alive)
     (course_now m e h (λ l c. Fits (ended_after w false) m.header (m.ticket + 1) c) (λ l. later_fits w m.header m.ticket (course_at m.courses l) (subst (λ (b : Bool). Fits b m.header m.ticket (course_at m.courses l)) alive (k.fits l))) new)
 
-new_course : (laws : QueueLaws) → (m : Machine) (o : Owner) (lane prev : ℕ) (w : What) → IsReady m → MayBeAdded m (entry o lane prev w) → is_in_range w ≡ true → Fits (ended_after w false) m.header (m.ticket + 1) (course_left m (entry o lane prev w))
+new_course : (laws : QueueLaws) → (m : MachineState) (o : Owner) (lane prev : ℕ) (w : What) → IsReady m → MayBeAdded m (entry o lane prev w) → is_in_range w ≡ true → Fits (ended_after w false) m.header (m.ticket + 1) (course_left m (entry o lane prev w))
 new_course laws m (Queue cpu) lane prev (Out cause to ids) k h r = (out_fits laws m cpu lane prev cause to ids k h).course
 new_course laws m o lane prev (Out cause to ids) k h r = absurd (let y = (form_lets m (entry o lane prev (Out cause to ids)) h).0 in let z : ⊥ = cc in z)
 new_course laws m o lane prev w k h r = course_kept m o lane prev w k h r refl
 
 -- ---- queues
-new_queue : (laws : QueueLaws) → (m : Machine) (cpu lane prev : ℕ) (w : What) → IsReady m → MayBeAdded m (entry (Queue cpu) lane prev w) → IsQueueOf (length m.header.cpus) cpu (queue_left m (entry (Queue cpu) lane prev w))
+new_queue : (laws : QueueLaws) → (m : MachineState) (cpu lane prev : ℕ) (w : What) → IsReady m → MayBeAdded m (entry (Queue cpu) lane prev w) → IsQueueOf (length m.header.cpus) cpu (queue_left m (entry (Queue cpu) lane prev w))
 unfolding queue_after sight
 new_queue laws m cpu lane prev (Out cause to ids) k h = (out_fits laws m cpu lane prev cause to ids k h).queue
 new_queue laws m cpu lane prev w k h =
@@ -277,7 +277,7 @@ new_queue laws m cpu lane prev w k h =
     let says = (k.fits lane).says in
     queue_fits laws (length m.header.cpus) cpu (sight m (entry (Queue cpu) lane prev w)) w lane refl says.turned says.masks (k.queues cpu lt)
 
-queue_of : (laws : QueueLaws) → (m : Machine) (o : Owner) (lane prev : ℕ) (w : What) → IsReady m → MayBeAdded m (entry o lane prev w) → (cpu : ℕ) → o ≡ Queue cpu → IsQueueOf (length m.header.cpus) cpu (queue_left m (entry o lane prev w))
+queue_of : (laws : QueueLaws) → (m : MachineState) (o : Owner) (lane prev : ℕ) (w : What) → IsReady m → MayBeAdded m (entry o lane prev w) → (cpu : ℕ) → o ≡ Queue cpu → IsQueueOf (length m.header.cpus) cpu (queue_left m (entry o lane prev w))
 queue_of laws m o lane prev w k h cpu e =
     subst (λ (x : Owner). MayBeAdded m (entry x lane prev w) → IsQueueOf (length m.header.cpus) cpu (queue_left m (entry x lane prev w))) (sym e) (new_queue laws m cpu lane prev w k) h
 
@@ -293,13 +293,13 @@ pub can_be_read : (h : Header) → IsHeader h → CanBeRead h.cpus h.distances
 can_be_read h accepted = record { some = let s = accepted.some_cpu in omega arith; few = accepted.most_cpus; good = accepted.machine }
 
 -- the domain of the position in work
-abbrev pub InWork : Machine → Course → Type 0
+abbrev pub InWork : MachineState → Course → Type 0
 InWork m c = c.position < length (turn_domains m.header c)
 
-pub parted : DomainLaws → (m : Machine) (lane : ℕ) → IsReady m → InWork m (course_at m.courses lane) → IsParted (course_at m.courses lane).cpu (turn_domain m.header (course_at m.courses lane))
+pub parted : DomainLaws → (m : MachineState) (lane : ℕ) → IsReady m → InWork m (course_at m.courses lane) → IsParted (course_at m.courses lane).cpu (turn_domain m.header (course_at m.courses lane))
 parted laws m lane k lt = let c = course_at m.courses lane in laws.part m.header.cpus m.header.distances c.masks (can_be_read m.header k.accepted) c.cpu (k.fits lane).says.turned c.position lt
 
-pub look_inside : (f : Form) (m : Machine) (lane p : ℕ) (x : Mask) (names : List FigName) (d : Decision) (q : QueueState) → draws f m.header (course_at m.courses lane) q lane (Look p x names d) ≡ true → TurnIn f m lane (course_at m.courses lane) → InWork m (course_at m.courses lane)
+pub look_inside : (f : Form) (m : MachineState) (lane p : ℕ) (x : Mask) (names : List FigName) (d : Decision) (q : QueueState) → draws f m.header (course_at m.courses lane) q lane (Look p x names d) ≡ true → TurnIn f m lane (course_at m.courses lane) → InWork m (course_at m.courses lane)
 unfolding draws
 look_inside Position m lane p x names d q y t = t.0.inside (course_at m.courses lane).position t.1
 look_inside LandedForm m lane p x names d q y t = t.0.inside (course_at m.courses lane).position t.1
@@ -320,7 +320,7 @@ looked_spares o h c p k = tt
 drew_local : (h : Header) (o : Owner) (n : ℕ) (c : Course) → KeepsLocal h c → KeepsLocal h (drew o n c)
 drew_local h o n c k = drew_by (KeepsLocal h) o n c k (λ u. k)
 
-new_spares : DomainLaws → (m : Machine) (o : Owner) (lane prev : ℕ) (w : What) → IsReady m → MayBeAdded m (entry o lane prev w) → KeepsLocal m.header (course_left m (entry o lane prev w))
+new_spares : DomainLaws → (m : MachineState) (o : Owner) (lane prev : ℕ) (w : What) → IsReady m → MayBeAdded m (entry o lane prev w) → KeepsLocal m.header (course_left m (entry o lane prev w))
 unfolding course_after sight leaving
 new_spares laws m o lane prev (Look p x names d) k h =
     let e = entry o lane prev (Look p x names d) in
@@ -328,8 +328,8 @@ new_spares laws m o lane prev (Look p x names d) k h =
     let lets = form_lets m e h in
     let domain = turn_domain m.header c in
     let inside = look_inside c.form m lane p x names d (sight m e).queue lets.1 (k.turns lane) in
-    let right = decision_is d (decision domain.shape domain.groups (by_cpu (figures_named m.figures names)) c.cpu (kind_of c) c.excluded) (not-false _ ((or_parts _ _ (unbroken_here m e h DecisionRule)).1)) in
-    let apart = source_spared domain.groups domain.shape (by_cpu (figures_named m.figures names)) c.cpu (kind_of c) c.excluded d (parted laws m lane k inside).apart right in
+    let right = decision_is d (decision domain.shape domain.groups (by_cpu (figures_named m.figures names)) c.cpu (turn_kind c) c.excluded) (not-false _ ((or_parts _ _ (unbroken_here m e h DecisionRule)).1)) in
+    let apart = source_spared domain.groups domain.shape (by_cpu (figures_named m.figures names)) c.cpu (turn_kind c) c.excluded d (parted laws m lane k inside).apart right in
     drew_local m.header o ((sight m e).count + 1) _ (look_spares c.form m.header (sight m e) lane (cpu_of o) (queue_left m e) p x names d lets.1 apart (k.spares lane))
 new_spares laws m o lane prev (Out cause to ids) k h =
     let e = entry o lane prev (Out cause to ids) in
@@ -342,7 +342,7 @@ new_spares laws m o lane prev w k h =
     let e = entry o lane prev w in
     drew_local m.header o ((sight m e).count + 1) _ (spares_after (course_at m.courses lane).form m.header (sight m e) lane (cpu_of o) (queue_left m e) w refl (form_lets m e h).1 refl refl (k.spares lane))
 
-counters_now : (laws : QueueLaws) (m : Machine) (o : Owner) (lane prev : ℕ) (w : What) (cpu : ℕ) → o ≡ Queue cpu → AreInRange (queue_at m.queues cpu).counters → AreInRange (queue_left m (entry o lane prev w)).counters
+counters_now : (laws : QueueLaws) (m : MachineState) (o : Owner) (lane prev : ℕ) (w : What) (cpu : ℕ) → o ≡ Queue cpu → AreInRange (queue_at m.queues cpu).counters → AreInRange (queue_left m (entry o lane prev w)).counters
 unfolding queue_after sight
 counters_now laws m (Queue u) lane prev w cpu i a = let e : u ≡ cpu = cc in counters_in laws (sight m (entry (Queue u) lane prev w)) lane w (subst (λ (x : ℕ). AreInRange (queue_at m.queues x).counters) (sym e) a)
 counters_now laws m o lane prev w cpu i a = absurd (let y : ⊥ = cc in y)
@@ -359,12 +359,12 @@ pub record LawsBelow : Type 0 where
   pub counts : TurnsFitAlways
 
 -- what holds of every front
-pub record AtFront (m : Machine) : Type 0 where
+pub record AtFront (m : MachineState) : Type 0 where
   pub permitted : IsPermitted m
   pub turns : (lane : ℕ) → KeepsTurn m lane (course_at m.courses lane)
   pub counts : (cpu : ℕ) → (let q = queue_at m.queues cpu in FitsDomains (length m.versions) (domains_in_version m q.version cpu) q)
 
-at_front : (laws : LawsBelow) (m : Machine) → IsHeader m.header → IsReached m → AtFront m
+at_front : (laws : LawsBelow) (m : MachineState) → IsHeader m.header → IsReached m → AtFront m
 at_front laws m accepted k = subst AtFront k.is (record {
   permitted = laws.permitted m.header k.front accepted k.legal;
   turns = λ lane. laws.turns m.header k.front lane k.legal;
@@ -372,16 +372,16 @@ at_front laws m accepted k = subst AtFront k.is (record {
 })
 
 -- one entry more
-follow_more : (es : List Entry) (m : Machine) (e : Entry) → MayFollow es m → MayBeAdded (run es m) e → MayFollow (es ++ e ∷ []) m
+follow_more : (es : List Entry) (m : MachineState) (e : Entry) → MayFollow es m → MayBeAdded (run es m) e → MayFollow (es ++ e ∷ []) m
 follow_more [] m e l h = (h, tt)
 follow_more (x ∷ es) m e l h = (l.0, follow_more es (after m x) e l.1 h)
 
-reached_after : (m : Machine) (e : Entry) → IsReached m → MayBeAdded m e → IsReached (after m e)
+reached_after : (m : MachineState) (e : Entry) → IsReached m → MayBeAdded m e → IsReached (after m e)
 unfolding after
 reached_after m e k h = record {
   front = k.front ++ e ∷ [];
-  legal = follow_more k.front (start m.header) e k.legal (subst (λ (x : Machine). MayBeAdded x e) (sym k.is) h);
-  is = run-append k.front (e ∷ []) (start m.header) ∙ ap (λ (x : Machine). after x e) k.is;
+  legal = follow_more k.front (start m.header) e k.legal (subst (λ (x : MachineState). MayBeAdded x e) (sym k.is) h);
+  is = run-append k.front (e ∷ []) (start m.header) ∙ ap (λ (x : MachineState). after x e) k.is;
 }
 
 pub ready_start : (laws : LawsBelow) (h : Header) → IsHeader h → IsReady (start h)
@@ -408,7 +408,7 @@ ready_start laws h accepted =
       in_range = opening_in_range h;
     }
 
-pub ready_kept : (laws : LawsBelow) (m : Machine) (o : Owner) (lane prev : ℕ) (w : What) → IsReady m → MayBeAdded m (entry o lane prev w) → is_in_range w ≡ true → IsReady (after m (entry o lane prev w))
+pub ready_kept : (laws : LawsBelow) (m : MachineState) (o : Owner) (lane prev : ℕ) (w : What) → IsReady m → MayBeAdded m (entry o lane prev w) → is_in_range w ≡ true → IsReady (after m (entry o lane prev w))
 unfolding after
 ready_kept laws m o lane prev w k h r =
     let e = entry o lane prev w in

@@ -17,13 +17,13 @@ use Rattle.lb_core.specs.declared.entry.FigName.{FigName}
 use Rattle.lb_core.specs.declared.entry.Owner.{Owner}
 use Rattle.lb_core.specs.declared.entry.Owner.TheVariants.{Publisher, Lane, Queue}
 use Rattle.lb_core.specs.declared.rule.Rule.TheVariants.{Version, Figure, Reply as ReplyRule}
-use Rattle.lb_core.specs.Course.{kind_of, turn_domains, shapes_of, is_rebuild}
+use Rattle.lb_core.specs.Course.{turn_kind, turn_domains, shapes_of, is_rebuild}
 use Rattle.lb_core.specs.Sight.{Sight}
 use Rattle.lb_core.specs.Leaving.{Leaving, leaving}
 use Rattle.lb_core.specs.QueueAfter.{cause_of, queue_after}
 use Rattle.lb_core.specs.CourseAfter.{turn_ends, takes_off, scanned, course_by, names, drew, cpu_of, course_after}
 use Rattle.lb_core.specs.Stage.{draws}
-use Rattle.lb_core.specs.Machine.{Machine, course_at, figures_at, entries_at, owned_count, sight}
+use Rattle.lb_core.specs.Machine.{MachineState, course_at, figures_at, entries_at, owned_count, sight}
 use Rattle.lb_core.specs.Step.{after, versions_after}
 use Rattle.lb_core.specs.Legal.{MayBeAdded}
 use Rattle.lb_core.proofs.Unbroken.{unbroken_here, unbroken_elsewhere}
@@ -65,11 +65,11 @@ course_names (Did r) s cpu now h = answered_by (NamesAlike s.course) s.course.co
 course_names (Out cause to tasks) s cpu now h = takes_off_names (leaving s) s.course
 course_names (Landed tasks) s cpu now h = lands_by (NamesAlike s.course) (cause_of s.course) s.course (itself s.course) (λ t. itself s.course) (λ o. itself s.course)
 course_names (Turn ps) s cpu now h = goes_to_by (NamesAlike s.course) (least ps) (record s.course { positions = ps; counters = counters_found s.queue s.course.at s.course.version (shapes_of (turn_domains s.header s.course)) }) (itself s.course) (λ p e. itself s.course)
-course_names Shut s cpu now h = ends_by (NamesAlike s.course) (kind_of s.course) s.header s.course (itself s.course) (λ some. itself s.course) (λ t y. itself s.course)
+course_names Shut s cpu now h = ends_by (NamesAlike s.course) (turn_kind s.course) s.header s.course (itself s.course) (λ some. itself s.course) (λ t y. itself s.course)
 course_names (Close p w i f) s cpu now h = closes_by (NamesAlike s.course) w s.course (itself s.course) (itself s.course) (λ p y. itself s.course)
 course_names (Ask r) s cpu now h = goes_on_by (NamesAlike s.course) s.course (itself s.course) (λ p y. itself s.course)
 course_names (Kick r) s cpu now h = kicked_by (NamesAlike s.course) r s.course (itself s.course) (λ t y. itself s.course)
-course_names Over s cpu now h = ends_by (NamesAlike s.course) (kind_of s.course) s.header s.course (itself s.course) (λ some. itself s.course) (λ t y. itself s.course)
+course_names Over s cpu now h = ends_by (NamesAlike s.course) (turn_kind s.course) s.header s.course (itself s.course) (λ some. itself s.course) (λ t y. itself s.course)
 course_names w s cpu now h = absurd (let y : ⊥ = cc in y)
 
 pub scanned_names : (t : Option ℕ) (c : Course) → NamesAlike c (scanned t c)
@@ -84,7 +84,7 @@ names_under (f ∷ fs) named drawn a h =
     names_under fs (set named f.cpu f.n) drawn p.1 (set_under named drawn f.cpu f.n le h)
 
 -- ---- the course's names after an entry
-record Named (m : Machine) (w : What) (versions : ℕ) (named_version : ℕ) (named : List ℕ) : Type 0 where
+record Named (m : MachineState) (w : What) (versions : ℕ) (named_version : ℕ) (named : List ℕ) : Type 0 where
   version : named_version ≤ versions
   numbers : Under named (entries_at m)
 
@@ -97,13 +97,13 @@ version_more : (command : Option Command) (v : ℕ) (vs : List (List Mask)) → 
 version_more (Some (Rebuild parts)) v vs r some e = let k = length-snoc vs parts in omega arith
 version_more command v vs r some e = absurd (let y : ⊥ = cc in y)
 
-named_same : (m : Machine) (w : What) (s : Sight) (cpu : ℕ) (now : QueueState) (n : ℕ) → is_nameless w ≡ true → s.course.named_version ≤ n → Under s.course.named (entries_at m) → Named m w n (course_by w s cpu now).named_version (course_by w s cpu now).named
+named_same : (m : MachineState) (w : What) (s : Sight) (cpu : ℕ) (now : QueueState) (n : ℕ) → is_nameless w ≡ true → s.course.named_version ≤ n → Under s.course.named (entries_at m) → Named m w n (course_by w s cpu now).named_version (course_by w s cpu now).named
 named_same m w s cpu now n less v u = let k = course_names w s cpu now less in record { version = rw k.newest_is v; numbers = rw k.numbers u }
 
 pub unpublished : (n v : ℕ) → ltb n v ≡ false → v ≤ n
 unpublished n v h = elim (cases_lt n v) [ inl lt ↦ (let t = lt-ltb n v lt in absurd (let y : ⊥ = cc in y)) | inr ge ↦ ge ]
 
-named_by : (m : Machine) (o : Owner) (lane prev : ℕ) (w : What) (cpu : ℕ) (now : QueueState) → HasSizes m → MayBeAdded m (entry o lane prev w) → NamesPublished m (course_at m.courses lane) →
+named_by : (m : MachineState) (o : Owner) (lane prev : ℕ) (w : What) (cpu : ℕ) (now : QueueState) → HasSizes m → MayBeAdded m (entry o lane prev w) → NamesPublished m (course_at m.courses lane) →
     Named m w (length (versions_after w (course_at m.courses lane).command m.versions)) (course_by w (sight m (entry o lane prev w)) cpu now).named_version (course_by w (sight m (entry o lane prev w)) cpu now).named
 unfolding sight
 named_by m o lane prev (Adopt v kind u) cpu now sizes h k = record { version = unpublished (length m.versions) v (unbroken_elsewhere m (entry o lane prev (Adopt v kind u)) h Version); numbers = k.figures }
@@ -123,7 +123,7 @@ named_by m o lane prev (Pub v) cpu now sizes h k =
 named_by m o lane prev w cpu now sizes h k = named_same m w (sight m (entry o lane prev w)) cpu now (length m.versions) refl k.version k.figures
 
 -- ---- the lane's own entries at a queue
-drew_under : (m m' : Machine) (o : Owner) (n : ℕ) (c : Course) → ((u : ℕ) → o ≡ Queue u → n ≤ entries_at m' u) → Under c.named (entries_at m') → Under (drew o n c).named (entries_at m')
+drew_under : (m m' : MachineState) (o : Owner) (n : ℕ) (c : Course) → ((u : ℕ) → o ≡ Queue u → n ≤ entries_at m' u) → Under c.named (entries_at m') → Under (drew o n c).named (entries_at m')
 drew_under m m' (Queue u) n c le h = set_under c.named (entries_at m') u n (le u refl) h
 drew_under m m' Publisher n c le h = h
 drew_under m m' (Lane l) n c le h = h
@@ -133,7 +133,7 @@ version_same (Queue u) n c = refl
 version_same Publisher n c = refl
 version_same (Lane l) n c = refl
 
-count_now : (m : Machine) (u lane prev : ℕ) (w : What) → HasSizes m → MayBeAdded m (entry (Queue u) lane prev w) → entries_at m u + 1 ≤ entries_at (after m (entry (Queue u) lane prev w)) u
+count_now : (m : MachineState) (u lane prev : ℕ) (w : What) → HasSizes m → MayBeAdded m (entry (Queue u) lane prev w) → entries_at m u + 1 ≤ entries_at (after m (entry (Queue u) lane prev w)) u
 count_now m u lane prev w sizes h =
     let there = cpu_there m u lane prev w h in
     let f = figures_now m (Queue u) lane prev w u (sizes.queues ∙ sym sizes.figures) h in
@@ -142,14 +142,14 @@ count_now m u lane prev w sizes h =
     let some = sizes.published u (let q = sizes.queues in omega arith) in
     omega arith
 
-count_of : (m : Machine) (o : Owner) (lane prev : ℕ) (w : What) → HasSizes m → MayBeAdded m (entry o lane prev w) → (u : ℕ) → o ≡ Queue u → owned_count o m + 1 ≤ entries_at (after m (entry o lane prev w)) u
+count_of : (m : MachineState) (o : Owner) (lane prev : ℕ) (w : What) → HasSizes m → MayBeAdded m (entry o lane prev w) → (u : ℕ) → o ≡ Queue u → owned_count o m + 1 ≤ entries_at (after m (entry o lane prev w)) u
 count_of m (Queue v) lane prev w sizes h u i =
     let e : v ≡ u = cc in
     subst (λ (x : ℕ). entries_at m v + 1 ≤ entries_at (after m (entry (Queue v) lane prev w)) x) e (count_now m v lane prev w sizes h)
 count_of m Publisher lane prev w sizes h u i = absurd (let y : ⊥ = cc in y)
 count_of m (Lane l) lane prev w sizes h u i = absurd (let y : ⊥ = cc in y)
 
-pub names_kept : (m : Machine) (o : Owner) (lane prev : ℕ) (w : What) → HasSizes m → MayBeAdded m (entry o lane prev w) → NamesPublished m (course_at m.courses lane) → NamesPublished (after m (entry o lane prev w)) (course_left m (entry o lane prev w))
+pub names_kept : (m : MachineState) (o : Owner) (lane prev : ℕ) (w : What) → HasSizes m → MayBeAdded m (entry o lane prev w) → NamesPublished m (course_at m.courses lane) → NamesPublished (after m (entry o lane prev w)) (course_left m (entry o lane prev w))
 unfolding course_after after sight
 names_kept m o lane prev w sizes h k =
     let e = entry o lane prev w in
@@ -162,7 +162,7 @@ names_kept m o lane prev w sizes h k =
     }
 
 -- what the other lanes have named stays published
-pub names_stay : (m : Machine) (o : Owner) (lane prev : ℕ) (w : What) (c : Course) → HasSizes m → MayBeAdded m (entry o lane prev w) → NamesPublished m c → NamesPublished (after m (entry o lane prev w)) c
+pub names_stay : (m : MachineState) (o : Owner) (lane prev : ℕ) (w : What) (c : Course) → HasSizes m → MayBeAdded m (entry o lane prev w) → NamesPublished m c → NamesPublished (after m (entry o lane prev w)) c
 unfolding after
 names_stay m o lane prev w c sizes h k = record {
   version = let a = (versions_more w (sight m (entry o lane prev w)).course.command m.versions).0 in let b = k.version in omega arith;

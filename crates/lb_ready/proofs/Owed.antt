@@ -32,10 +32,10 @@ use Rattle.lb_core.specs.Sight.{Sight}
 use Rattle.lb_core.specs.Stage.{draws, queue_due, is_queue, is_owner}
 use Rattle.lb_core.specs.Leaving.{Leaving, leaving, out_by}
 use Rattle.lb_core.specs.QueueAfter.{rest_of, cause_of, queue_by, queue_after, answer_to}
-use Rattle.lb_core.specs.CourseAfter.{lets_go, rests, takes_off, lands, answered, course_by, cpu_of, course_after}
+use Rattle.lb_core.specs.CourseAfter.{lets_go, comes_to_rest, takes_off, lands, answered, course_by, cpu_of, course_after}
 use Rattle.lb_core.specs.Rules.{breaks_pick}
 use Rattle.lb_core.specs.Elsewhere.{owed_elsewhere}
-use Rattle.lb_core.specs.Machine.{Machine, queue_at, course_at, owned_queue, sight}
+use Rattle.lb_core.specs.Machine.{MachineState, queue_at, course_at, owned_queue, sight}
 use Rattle.lb_core.specs.Step.{after}
 use Rattle.lb_core.specs.Legal.{MayBeAdded}
 use Rattle.lb_core.proofs.Unbroken.{unbroken_here, unbroken_elsewhere}
@@ -99,7 +99,7 @@ owed_before laws w s lane n h = h
 off_serves : (o : Option Leaving) (l : Leaving) (c : Course) (cpu : ℕ) → o ≡ Some l → ticked_cpu c.command ≡ Some cpu → is_pulling l.cause ≡ false → Serves (takes_off o c) cpu
 off_serves o l c cpu e t n = rw e (t, n)
 
-back_serves : (b : Bool) (c : Course) (cpu : ℕ) → is_tick c.command ≡ b → ticked_cpu c.command ≡ Some cpu → Serves (cond b (record (lets_go c) { form = Serving }) (rests c)) cpu
+back_serves : (b : Bool) (c : Course) (cpu : ℕ) → is_tick c.command ≡ b → ticked_cpu c.command ≡ Some cpu → Serves (cond b (record (lets_go c) { form = Serving }) (comes_to_rest c)) cpu
 back_serves true c cpu e t = t
 back_serves false c cpu e t = absurd (let k = ap is_some t in let y : ⊥ = cc in y)
 
@@ -108,7 +108,7 @@ lands_serves PullOut c cpu n t = absurd (let y : ⊥ = cc in y)
 lands_serves o c cpu n t = back_serves (is_tick c.command) c cpu refl t
 
 -- the entry's own lane, by its form
-goes_on_serving : (f : Form) (m : Machine) (o : Owner) (lane prev : ℕ) (w : What) (cpu u : ℕ) (now : QueueState) → (course_at m.courses lane).form ≡ f → ServesIn f (unnamed (course_at m.courses lane)) cpu →
+goes_on_serving : (f : Form) (m : MachineState) (o : Owner) (lane prev : ℕ) (w : What) (cpu u : ℕ) (now : QueueState) → (course_at m.courses lane).form ≡ f → ServesIn f (unnamed (course_at m.courses lane)) cpu →
     draws f m.header (course_at m.courses lane) (owned_queue o m) lane w ≡ true → owed_elsewhere m w ≡ false → breaks_pick (sight m (entry o lane prev w)) w ≡ false → has_owed (queue_at m.queues cpu) ≡ true → Serves (course_by w (sight m (entry o lane prev w)) u now) cpu
 unfolding draws sight leaving
 goes_on_serving Serving m o lane prev (Out cause to tasks) cpu u now f k d e p h =
@@ -148,10 +148,10 @@ ticked_owner f h c q lane r o cpu d w t e = absurd (let y : ⊥ = cc in y)
 
 -- ---- every queue
 -- a queue that owes was one that owed, or is ticked
-owned : (m : Machine) (o : Owner) (cpu : ℕ) → o ≡ Queue cpu → has_owed (owned_queue o m) ≡ true → has_owed (queue_at m.queues cpu) ≡ true
+owned : (m : MachineState) (o : Owner) (cpu : ℕ) → o ≡ Queue cpu → has_owed (owned_queue o m) ≡ true → has_owed (queue_at m.queues cpu) ≡ true
 owned m o cpu e h = rw e at h
 
-pub owed_from : (laws : QueueLaws) (m : Machine) (o : Owner) (lane prev : ℕ) (w : What) → MayBeAdded m (entry o lane prev w) → (cpu : ℕ) → has_owed (queue_at (after m (entry o lane prev w)).queues cpu) ≡ true →
+pub owed_from : (laws : QueueLaws) (m : MachineState) (o : Owner) (lane prev : ℕ) (w : What) → MayBeAdded m (entry o lane prev w) → (cpu : ℕ) → has_owed (queue_at (after m (entry o lane prev w)).queues cpu) ≡ true →
     (has_owed (queue_at m.queues cpu) ≡ true) ⊎ (o ≡ Queue cpu) × (ticks w (course_at m.courses lane).command ≡ true)
 unfolding queue_after sight
 owed_from laws m o lane prev w h =
@@ -164,7 +164,7 @@ owed_from laws m o lane prev w h =
     by_tick cpu e false t y = inl (owned m o cpu e (owed_before laws w (sight m (entry o lane prev w)) lane t y))
 
 -- the entry's lane serves on
-serves_on : (m : Machine) (o : Owner) (lane prev : ℕ) (w : What) (cpu : ℕ) → MayBeAdded m (entry o lane prev w) → Serves (course_at m.courses lane) cpu → has_owed (queue_at m.queues cpu) ≡ true → IsServedBy (after m (entry o lane prev w)) cpu
+serves_on : (m : MachineState) (o : Owner) (lane prev : ℕ) (w : What) (cpu : ℕ) → MayBeAdded m (entry o lane prev w) → Serves (course_at m.courses lane) cpu → has_owed (queue_at m.queues cpu) ≡ true → IsServedBy (after m (entry o lane prev w)) cpu
 unfolding course_after sight
 serves_on m o lane prev w cpu h k y =
     let e = entry o lane prev w in
@@ -174,7 +174,7 @@ serves_on m o lane prev w cpu h k y =
     record { lane = lane; serves = rw (course_of_lane m e h) d }
 
 -- a tick that was answered is served
-serves_tick : (m : Machine) (o : Owner) (lane prev : ℕ) (w : What) (cpu : ℕ) → MayBeAdded m (entry o lane prev w) → o ≡ Queue cpu → ticks w (course_at m.courses lane).command ≡ true → IsServedBy (after m (entry o lane prev w)) cpu
+serves_tick : (m : MachineState) (o : Owner) (lane prev : ℕ) (w : What) (cpu : ℕ) → MayBeAdded m (entry o lane prev w) → o ≡ Queue cpu → ticks w (course_at m.courses lane).command ≡ true → IsServedBy (after m (entry o lane prev w)) cpu
 unfolding course_after sight
 serves_tick m o lane prev (Did r) cpu h i t =
     let e = entry o lane prev (Did r) in
@@ -190,7 +190,7 @@ serves_tick m o lane prev (Did r) cpu h i t =
     cpu_is o cpu i = rw i refl
 serves_tick m o lane prev w cpu h i t = absurd (let y : ⊥ = cc in y)
 
-pub owed_kept : (laws : QueueLaws) (m : Machine) (o : Owner) (lane prev : ℕ) (w : What) → ((cpu : ℕ) → has_owed (queue_at m.queues cpu) ≡ true → IsServedBy m cpu) → MayBeAdded m (entry o lane prev w) →
+pub owed_kept : (laws : QueueLaws) (m : MachineState) (o : Owner) (lane prev : ℕ) (w : What) → ((cpu : ℕ) → has_owed (queue_at m.queues cpu) ≡ true → IsServedBy m cpu) → MayBeAdded m (entry o lane prev w) →
     (cpu : ℕ) → has_owed (queue_at (after m (entry o lane prev w)).queues cpu) ≡ true → IsServedBy (after m (entry o lane prev w)) cpu
 owed_kept laws m o lane prev w old h cpu owes = elim (owed_from laws m o lane prev w h cpu owes) [
   | inl y ↦

@@ -37,14 +37,14 @@ use Rattle.lb_core.specs.declared.entry.Entry.{Entry}
 use Rattle.lb_core.specs.declared.place.Place.TheVariants.{Hand as HandOf}
 use Rattle.lb_core.specs.declared.rule.Rule.TheVariants.{Prev, Reply as ReplyRule, Version, Figure, Decision as DecisionRule, Pick, Flight, Counters as CountersRule, End as EndRule}
 use Rattle.lb_core.specs.Same.{same_numbers, same_number, same_reply}
-use Rattle.lb_core.specs.Course.{kind_of, turn_domains, turn_domain, shapes_of, domain_at, outcome_of, flag_of, source_of}
+use Rattle.lb_core.specs.Course.{turn_kind, turn_domains, turn_domain, shapes_of, domain_at, outcome_of, flag_of, source_of}
 use Rattle.lb_core.specs.Sight.{Sight, by_cpu, tickless_in}
 use Rattle.lb_core.specs.Stage.{draws, is_owner}
 use Rattle.lb_core.specs.Leaving.{Leaving, leaving, out_by}
 use Rattle.lb_core.specs.Rules.{figures_due, is_other_out, closed_counters, positions_due}
 use Rattle.lb_core.specs.CourseAfter.{takes_off, course_by, drew, cpu_of, course_after}
 use Rattle.lb_core.specs.QueueAfter.{queue_after}
-use Rattle.lb_core.specs.Machine.{Machine, queue_at, course_at, entries_at, sight}
+use Rattle.lb_core.specs.Machine.{MachineState, queue_at, course_at, entries_at, sight}
 use Rattle.lb_core.specs.Elsewhere.{unserved}
 use Rattle.lb_core.specs.Step.{after}
 use Rattle.lb_core.specs.Legal.{MayBeAdded}
@@ -171,7 +171,7 @@ all_that_occur p (x ∷ xs) each =
     let here : 1 ≤ occurs x (x ∷ xs) = rw one (omega arith) in
     and_from (p x) _ (each x here) (all_that_occur p xs (λ t le. each t (omega (arith, le))))
 
-hand_short : (m : Machine) (lane : ℕ) → IsReady m → list_all is_short (ids (course_at m.courses lane).hand) ≡ true
+hand_short : (m : MachineState) (lane : ℕ) → IsReady m → list_all is_short (ids (course_at m.courses lane).hand) ≡ true
 hand_short m lane k = all_that_occur is_short (ids (course_at m.courses lane).hand) (λ t le. by_test t (is_its_place m (HandOf lane) t) refl (k.placed.once (HandOf lane) t) le)
   where
     by_test : (t : ℕ) (b : Bool) → is_its_place m (HandOf lane) t ≡ b → times m (HandOf lane) t ≡ cond {A = ℕ} (is_its_place m (HandOf lane) t) 1 0 → 1 ≤ times m (HandOf lane) t → is_short t ≡ true
@@ -180,12 +180,12 @@ hand_short m lane k = all_that_occur is_short (ids (course_at m.courses lane).ha
 
 -- ---- the state after the entry
 -- the lane's course after it is of the machine
-record NextCourse (m : Machine) (lane : ℕ) (c : Course) : Type 0 where
+record NextCourse (m : MachineState) (lane : ℕ) (c : Course) : Type 0 where
   ended : Bool
   fits : Fits ended m.header (m.ticket + 1) c
   hand : list_all is_short (ids c.hand) ≡ true
 
-next_course : ReadyLaws → (m : Machine) (o : Owner) (lane prev : ℕ) (w : What) → IsReady m → MayBeAdded m (entry o lane prev w) → is_in_range w ≡ true → NextCourse m lane (course_left m (entry o lane prev w))
+next_course : ReadyLaws → (m : MachineState) (o : Owner) (lane prev : ℕ) (w : What) → IsReady m → MayBeAdded m (entry o lane prev w) → is_in_range w ≡ true → NextCourse m lane (course_left m (entry o lane prev w))
 unfolding after
 next_course laws m o lane prev w k h r =
     let e = entry o lane prev w in
@@ -207,7 +207,7 @@ decision_ok h Balanced a s i = refl
 decision_ok h (Pull source kind imbalance) a s i = and_from _ _ (short source (length h.cpus) s (few_cpus h a)) (long imbalance i)
 
 -- the figures that an entry names, of the CPUs of a mask that has one
-named_fit : (m : Machine) (f : Form) (s : Sight) (names : List FigName) (mask : Mask) (cpu : ℕ) → IsReady m → m.ticket < 2 ^ 40 → figures_due f s ≡ mask → cpu < 64 → has mask cpu ≡ true →
+named_fit : (m : MachineState) (f : Form) (s : Sight) (names : List FigName) (mask : Mask) (cpu : ℕ) → IsReady m → m.ticket < 2 ^ 40 → figures_due f s ≡ mask → cpu < 64 → has mask cpu ≡ true →
     same_numbers (map (λ n. n.cpu) names) (members (figures_due f s)) ≡ true → list_any (λ (n : FigName). ltb (entries_at m n.cpu) n.n) names ≡ false → are_figures names ≡ true
 named_fit m f s names mask cpu k few e lt there same published =
     figures_fit mask cpu names (entries_at m) (numbers_same _ _ same ∙ ap members e) lt there published (λ u. let d = k.sizes.drawn u in omega (arith, d, few))
@@ -220,12 +220,12 @@ target_ok (Some cpu) x h = by_least (least x) refl h
     by_least None e y = absurd (let z : ⊥ = cc in z)
     by_least (Some c) e y = let i = eqb-true cpu c y in let lt = (least_found x c e).1 in le-leb cpu 4294967295 (omega (arith, i, lt))
 
-in_work_short : DomainLaws → (m : Machine) (c : Course) → IsReady m → InWork m c → is_short c.position ≡ true
+in_work_short : DomainLaws → (m : MachineState) (c : Course) → IsReady m → InWork m c → is_short c.position ≡ true
 in_work_short laws m c k inside =
     let few = few_domains laws m.header c.masks c.cpu k.accepted in
     le-leb c.position 4294967295 (omega (arith, inside, few))
 
-close_inside : (f : Form) (m : Machine) (lane p : ℕ) (w : OutcomeWord) (i n : ℕ) (q : QueueState) → draws f m.header (course_at m.courses lane) q lane (Close p w i n) ≡ true → TurnIn f m lane (course_at m.courses lane) → InWork m (course_at m.courses lane)
+close_inside : (f : Form) (m : MachineState) (lane p : ℕ) (w : OutcomeWord) (i n : ℕ) (q : QueueState) → draws f m.header (course_at m.courses lane) q lane (Close p w i n) ≡ true → TurnIn f m lane (course_at m.courses lane) → InWork m (course_at m.courses lane)
 unfolding draws
 close_inside Looked m lane p w i n q y t = t.0.inside (course_at m.courses lane).position t.1
 close_inside LandedForm m lane p w i n q y t = t.0.inside (course_at m.courses lane).position t.1
@@ -256,13 +256,13 @@ told b c r h = refl
 
 -- ---- what an entry says
 -- what is known of the machine and the entry
-pub record Known (m : Machine) (o : Owner) (lane prev : ℕ) (w : What) : Type 0 where
+pub record Known (m : MachineState) (o : Owner) (lane prev : ℕ) (w : What) : Type 0 where
   pub ready : IsReady m
   pub few : m.ticket < 2 ^ 40
   pub may : MayBeAdded m (entry o lane prev w)
   pub row : RowFits m.header w lane
 
-row_in : (m : Machine) (o : Owner) (lane prev n at : ℕ) (command : Command) → Known m o lane prev (Row n at command) → what_fits (Row n at command) ≡ true
+row_in : (m : MachineState) (o : Owner) (lane prev n at : ℕ) (command : Command) → Known m o lane prev (Row n at command) → what_fits (Row n at command) ≡ true
 unfolding what_fits
 row_in m o lane prev n at command k =
     let p = and_parts _ _ (and_parts _ true k.row).0 in
@@ -270,7 +270,7 @@ row_in m o lane prev n at command k =
     let few = k.few in
     and_from _ _ (and_from _ _ (row_long n m.ticket number few) (and_parts _ _ p.0).1) (command_in m.header command k.ready.accepted p.1)
 
-look_in : ReadyLaws → (m : Machine) (o : Owner) (lane prev p : ℕ) (x : Mask) (names : List FigName) (d : Decision) → Known m o lane prev (Look p x names d) → what_fits (Look p x names d) ≡ true
+look_in : ReadyLaws → (m : MachineState) (o : Owner) (lane prev p : ℕ) (x : Mask) (names : List FigName) (d : Decision) → Known m o lane prev (Look p x names d) → what_fits (Look p x names d) ≡ true
 unfolding what_fits sight course_after
 look_in laws m o lane prev p x names d k =
     let e = entry o lane prev (Look p x names d) in
@@ -284,7 +284,7 @@ look_in laws m o lane prev p x names d k =
     let said = or_parts _ _ (unbroken_here m e k.may DecisionRule) in
     let place : p ≡ c.position = eqb-true p c.position (not-false (p == c.position) rule.0) in
     let mask : x ≡ c.excluded = mask_is x c.excluded (not-false _ rule.1) in
-    let decided = decision_is d (decision domain.shape domain.groups (by_cpu s.figs) c.cpu (kind_of c) c.excluded) (not-false _ said.1) in
+    let decided = decision_is d (decision domain.shape domain.groups (by_cpu s.figs) c.cpu (turn_kind c) c.excluded) (not-false _ said.1) in
     let fits = (k.ready.fits lane).says.narrow in
     let cpu = cpu_below m.header c.cpu k.ready.accepted (k.ready.fits lane).says.turned in
     let there = left_has domain.shape.span c.excluded c.cpu fits cpu (group_in_span domain.shape.span domain.groups asks.union 0 (some_group domain.groups c.cpu asks.local) c.cpu asks.local) (asks.kept c.cpu asks.local) in
@@ -292,10 +292,10 @@ look_in laws m o lane prev p x names d k =
     let figures = named_fit m c.form s names (without domain.shape.span c.excluded) c.cpu k.ready k.few (look_due c.form s lane p x names d lets.1) cpu there (not-false _ wrong.0) (unbroken_elsewhere m e k.may Figure) in
     let next = next_course laws m o lane prev (Look p x names d) k.ready k.may refl in
     let source : source_of (Some d) < length m.header.cpus = subst (λ (y : Option Decision). source_of y < length m.header.cpus) (drew_decision o (s.count + 1) (course_by (Look p x names d) s (cpu_of o) (queue_after s e))) next.fits.says.pulled in
-    let amount = amount_in domain.shape domain.groups (by_cpu s.figs) c.cpu (kind_of c) c.excluded d decided (all_in_range domain.shape domain.groups (by_cpu s.figs) c.excluded (all_have_small_sums (by_cpu s.figs) c.excluded domain.groups asks.sums)) in
+    let amount = amount_in domain.shape domain.groups (by_cpu s.figs) c.cpu (turn_kind c) c.excluded d decided (all_in_range domain.shape domain.groups (by_cpu s.figs) c.excluded (all_have_small_sums (by_cpu s.figs) c.excluded domain.groups asks.sums)) in
     and_from (is_short p && is_mask x && are_figures names) (decision_fits d) (and_from (is_short p && is_mask x) (are_figures names) (and_from (is_short p) (is_mask x) (rw place (in_work_short laws.domains m c k.ready inside)) (rw mask (mask_ok c.excluded fits))) figures) (decision_ok m.header d k.ready.accepted source amount)
 
-scan_in : ReadyLaws → (m : Machine) (o : Owner) (lane prev : ℕ) (names : List FigName) (t : Option ℕ) → Known m o lane prev (Scan names t) → what_fits (Scan names t) ≡ true
+scan_in : ReadyLaws → (m : MachineState) (o : Owner) (lane prev : ℕ) (names : List FigName) (t : Option ℕ) → Known m o lane prev (Scan names t) → what_fits (Scan names t) ≡ true
 unfolding what_fits sight
 scan_in laws m o lane prev names t k =
     let e = entry o lane prev (Scan names t) in
@@ -317,7 +317,7 @@ scan_in laws m o lane prev names t k =
     let figures = named_fit m c.form s names (without domain.shape.span c.excluded) c.cpu k.ready k.few due.0 cpu there (not-false _ wrong.0) (unbroken_elsewhere m e k.may Figure) in
     and_from _ _ figures (target_ok t (tickless_in s.figs) (not-false _ (unbroken_here m e k.may DecisionRule)))
 
-out_in : ReadyLaws → (m : Machine) (cpu lane prev : ℕ) (cause : _) (to : ℕ) (tasks : List ℕ) → Known m (Queue cpu) lane prev (Out cause to tasks) → what_fits (Out cause to tasks) ≡ true
+out_in : ReadyLaws → (m : MachineState) (cpu lane prev : ℕ) (cause : _) (to : ℕ) (tasks : List ℕ) → Known m (Queue cpu) lane prev (Out cause to tasks) → what_fits (Out cause to tasks) ≡ true
 unfolding what_fits sight course_after leaving
 out_in laws m cpu lane prev cause to tasks k =
     let e = entry (Queue cpu) lane prev (Out cause to tasks) in
@@ -331,7 +331,7 @@ out_in laws m cpu lane prev cause to tasks k =
     let there : l.to < length m.header.cpus = next.fits.form in
     and_from (is_short to) (list_all is_short tasks) (rw found.2 (short l.to (length m.header.cpus) there (few_cpus m.header k.ready.accepted))) (rw found.3 next.hand)
 
-close_in : ReadyLaws → (m : Machine) (cpu lane prev p : ℕ) (w : OutcomeWord) (i f : ℕ) → Known m (Queue cpu) lane prev (Close p w i f) → what_fits (Close p w i f) ≡ true
+close_in : ReadyLaws → (m : MachineState) (cpu lane prev p : ℕ) (w : OutcomeWord) (i f : ℕ) → Known m (Queue cpu) lane prev (Close p w i f) → what_fits (Close p w i f) ≡ true
 unfolding what_fits sight closed_counters
 close_in laws m cpu lane prev p w i f k =
     let e = entry (Queue cpu) lane prev (Close p w i f) in
@@ -347,7 +347,7 @@ close_in laws m cpu lane prev p w i f k =
     let failures = eqb-true f x.failures (not-false (f == x.failures) rule.1) in
     and_from _ _ (and_from _ _ (rw place (in_work_short laws.domains m c k.ready inside)) (interval_long i x interval counters)) (rw failures (le-leb x.failures 4294967295 counters.failures))
 
-pub what_in : ReadyLaws → (m : Machine) (o : Owner) (lane prev : ℕ) (w : What) → Known m o lane prev w → what_fits w ≡ true
+pub what_in : ReadyLaws → (m : MachineState) (o : Owner) (lane prev : ℕ) (w : What) → Known m o lane prev w → what_fits w ≡ true
 unfolding what_fits sight course_after unserved
 what_in laws m o lane prev (Row n at command) k = row_in m o lane prev n at command k
 what_in laws m o lane prev (Adopt v kind cpu) k =
@@ -375,7 +375,7 @@ what_in laws m o lane prev (Turn ps) k =
     let e = entry o lane prev (Turn ps) in
     let same = mask_is ps (positions_due (sight m e)) (not-false _ (unbroken_here m e k.may CountersRule)) in
     let c = course_at m.courses lane in
-    rw same (mask_ok _ (found_fit (sight m e).queue c.at (kind_of c) c.version (shapes_of (turn_domains m.header c))))
+    rw same (mask_ok _ (found_fit (sight m e).queue c.at (turn_kind c) c.version (shapes_of (turn_domains m.header c))))
 what_in laws m o lane prev Shut k = refl
 what_in laws m (Queue cpu) lane prev (Close p w i f) k = close_in laws m cpu lane prev p w i f k
 what_in laws m o lane prev (Close p w i f) k = absurd (let y = (form_lets m (entry o lane prev (Close p w i f)) k.may).0 in let z : ⊥ = cc in z)
@@ -399,7 +399,7 @@ lane_own (Scan names t) lane number due y = y
 lane_own (End cpus) lane number due y = y
 lane_own w lane number due y = absurd (let z : ⊥ = cc in z)
 
-owner_in : (m : Machine) (o : Owner) (lane prev : ℕ) (w : What) → IsReady m → MayBeAdded m (entry o lane prev w) → owner_fits o lane ≡ true
+owner_in : (m : MachineState) (o : Owner) (lane prev : ℕ) (w : What) → IsReady m → MayBeAdded m (entry o lane prev w) → owner_fits o lane ≡ true
 unfolding owner_fits
 owner_in m o lane prev w k h = by_owner o h
   where
@@ -415,7 +415,7 @@ owner_in m o lane prev w k h = by_owner o h
         and_from _ _ (short cpu (length m.header.cpus) (omega (arith, lt, z)) (few_cpus m.header k.accepted)) (of_lane (Queue cpu) h)
 
 -- the whole entry, at the next ticket
-pub entry_in : ReadyLaws → (m : Machine) (e : Entry) → IsReady m → m.ticket < 2 ^ 40 → MayBeAdded m e → RowFits m.header e.what e.lane → entry_fits (m.ticket + 1) e ≡ true
+pub entry_in : ReadyLaws → (m : MachineState) (e : Entry) → IsReady m → m.ticket < 2 ^ 40 → MayBeAdded m e → RowFits m.header e.what e.lane → entry_fits (m.ticket + 1) e ≡ true
 unfolding entry_fits
 entry_in laws m e k few h r =
     let prev = eqb-true e.prev (get_or m.last e.lane 0) (not-false _ (unbroken_elsewhere m e h Prev)) in

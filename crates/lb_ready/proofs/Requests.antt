@@ -27,7 +27,7 @@ use Rattle.lb_core.specs.declared.place.Place.{Place}
 use Rattle.lb_core.specs.declared.place.Place.TheVariants.{Awake as AwakeAt, Asleep as AsleepAt}
 use Rattle.lb_core.specs.Leaving.{Leaving, out_by}
 use Rattle.lb_core.specs.QueueAfter.{answer_to}
-use Rattle.lb_core.specs.Machine.{Machine, queue_at}
+use Rattle.lb_core.specs.Machine.{MachineState, queue_at}
 use Rattle.lb_core.specs.Placed.{IsPlaced, times, is_its_place}
 use Rattle.lb_ready.specs.Left.{is_asked, asked_count}
 use Rattle.lb_ready.proofs.Counting.{count_within, count_more}
@@ -168,12 +168,12 @@ pub next_served : (laws : QueueLaws) (owed : Bool) (q : QueueState) (s : Stop) (
 next_served laws owed q s at distinct h = served laws (next_asked owed q.awake) owed q s at distinct refl h
 
 -- ---- where tasks stand
-pub stands_once : (m : Machine) → IsPlaced m → (place : Place) (t : ℕ) → times m place t ≤ 1
+pub stands_once : (m : MachineState) → IsPlaced m → (place : Place) (t : ℕ) → times m place t ≤ 1
 stands_once m placed place t = by_test (is_its_place m place t) (placed.once place t)
   where
     by_test : (b : Bool) → times m place t ≡ cond {A = ℕ} b 1 0 → times m place t ≤ 1
     by_test true e = omega arith
     by_test false e = omega arith
 
-pub distinct : (m : Machine) (cpu : ℕ) → IsPlaced m → AreDistinct (queue_at m.queues cpu)
+pub distinct : (m : MachineState) (cpu : ℕ) → IsPlaced m → AreDistinct (queue_at m.queues cpu)
 distinct m cpu placed = record { awake = λ u. stands_once m placed (AwakeAt cpu) u; asleep = λ u. stands_once m placed (AsleepAt cpu) u }

@@ -32,14 +32,14 @@ use Rattle.lb_core.specs.Stage.{target_of, draws}
 use Rattle.lb_core.specs.Leaving.{stop_out, out_by}
 use Rattle.lb_core.specs.Rules.{is_undeclared}
 use Rattle.lb_core.specs.Elsewhere.{is_rest, all_rest, first_pending, is_first_pending, unserved, is_another, ticked_elsewhere}
-use Rattle.lb_core.specs.Machine.{Machine, queue_at, course_at, no_course, start, sight}
+use Rattle.lb_core.specs.Machine.{MachineState, queue_at, course_at, no_course, start, sight}
 use Rattle.lb_core.specs.Legal.{MayBeAdded, MayFollow, run}
 use Rattle.lb_core.specs.Step.{ended_after, after, closing_after, ticked_after}
 use Rattle.lb_core.specs.OfTrace.{row_of, rows_drawn, of_lane}
 use Rattle.lb_core.specs.Serial.{is_serial, AreSerial}
 use Rattle.lb_core.specs.Placed.{is_flight}
 use Rattle.lb_ready.specs.Ready.{Names, FitsForm, Fits, ServesIn, IsReady, unnamed, is_in_range}
-use Rattle.lb_ready.specs.Laws.{rests, OthersRest, GoesOn, ServiceGoesOn, RowsAreTaken, ClosingGoesOn, TracesHaveRuns, OpensReady, StaysReady, EntriesFall}
+use Rattle.lb_ready.specs.Laws.{is_at_rest, OthersRest, GoesOn, ServiceGoesOn, RowsAreTaken, ClosingGoesOn, TracesHaveRuns, OpensReady, StaysReady, EntriesFall}
 use Rattle.lb_ready.specs.Left.{rows_before, entries_left}
 use Rattle.lb_ready.proofs.Counting.{found_in}
 use Rattle.lb_ready.proofs.Going.{Keeps, drawn_by, each_kept, may_be_added, not_not, or_none, Next, Knows, stage_by, same, some_leaving, out_goes, flight_goes, serving_goes, due_goes, used_goes, position_goes, looked_goes, landed_goes, closed_goes, done_goes, scan_goes, kicking_goes, IsKnown, found_at, asked_goes}
@@ -48,7 +48,7 @@ use Rattle.lb_ready.proofs.Keeping.{opening_course_at}
 
 -- ---- a lane that serves a row
 -- what is known of a lane
-knows : AskedIsNext → (m : Machine) (lane : ℕ) → IsReady m → Knows m (course_at m.courses lane)
+knows : AskedIsNext → (m : MachineState) (lane : ℕ) → IsReady m → Knows m (course_at m.courses lane)
 knows asked m lane k = record { asked = asked; sizes = k.sizes; says = (k.fits lane).says; named = k.named lane }
 
 ticked_of : (h : Header) (command : Option Command) → Names h command → is_tick command ≡ true → (cpu : ℕ) × (cpu < length h.cpus) × (ticked_cpu command ≡ Some cpu)
@@ -59,7 +59,7 @@ target_there : (o : Option ℕ) → is_some o ≡ true → (t : ℕ) × (o ≡ S
 target_there None h = absurd (let y : ⊥ = cc in y)
 target_there (Some t) h = (t, refl)
 
-next_in : (f : Form) (m : Machine) (lane : ℕ) (c : Course) → is_rest f ≡ false → Knows m c → FitsForm false m.header f (unnamed c) → (f ≡ Asked → ((t : ℕ) → t < length m.header.tasks → IsKnown m t) × ((cpu : ℕ) → has_owed (queue_at m.queues cpu) ≡ false)) → Next f m lane c
+next_in : (f : Form) (m : MachineState) (lane : ℕ) (c : Course) → is_rest f ≡ false → Knows m c → FitsForm false m.header f (unnamed c) → (f ≡ Asked → ((t : ℕ) → t < length m.header.tasks → IsKnown m t) × ((cpu : ℕ) → has_owed (queue_at m.queues cpu) ≡ false)) → Next f m lane c
 next_in Rest m lane c b k form calm = absurd (let y : ⊥ = cc in y)
 next_in Asked m lane c b k form calm = let a = calm refl in asked_goes m lane c c.command k refl k.says.names form a.0 a.1
 next_in Flight m lane c b k form calm = flight_goes m lane c k form
@@ -89,13 +89,13 @@ asks_not Serving c cpu h s = let y : ⊥ = cc in y
 asks_not Flight c cpu h s = let y : ⊥ = cc in y
 asks_not f c cpu h s = s
 
-hands_empty : (m : Machine) (lane : ℕ) → IsReady m → OthersRest m lane → (course_at m.courses lane).form ≡ Asked → (l : ℕ) → (course_at m.courses l).hand ≡ []
+hands_empty : (m : MachineState) (lane : ℕ) → IsReady m → OthersRest m lane → (course_at m.courses lane).form ≡ Asked → (l : ℕ) → (course_at m.courses l).hand ≡ []
 hands_empty m lane k others f l = elim (cases_eq l lane) [
   | inl e ↦ k.hands l (let g : (course_at m.courses l).form ≡ Asked = rw e f in rw g refl)
   | inr n ↦ k.hands l (rest_flies_not _ (others l n))
 ]
 
-nothing_owed : (m : Machine) (lane : ℕ) → IsReady m → OthersRest m lane → (course_at m.courses lane).form ≡ Asked → (cpu : ℕ) → has_owed (queue_at m.queues cpu) ≡ false
+nothing_owed : (m : MachineState) (lane : ℕ) → IsReady m → OthersRest m lane → (course_at m.courses lane).form ≡ Asked → (cpu : ℕ) → has_owed (queue_at m.queues cpu) ≡ false
 nothing_owed m lane k others f cpu = by_test (has_owed (queue_at m.queues cpu)) refl
   where
     by_test : (b : Bool) → has_owed (queue_at m.queues cpu) ≡ b → has_owed (queue_at m.queues cpu) ≡ false
@@ -108,13 +108,13 @@ nothing_owed m lane k others f cpu = by_test (has_owed (queue_at m.queues cpu)) 
     by_test false e = e
 
 -- a lane that does not rest is one of the machine
-lane_inside : (m : Machine) (lane : ℕ) → rests m lane ≡ false → lane < length m.courses
+lane_inside : (m : MachineState) (lane : ℕ) → is_at_rest m lane ≡ false → lane < length m.courses
 lane_inside m lane b = elim (cases_lt lane (length m.courses)) [
   | inl lt ↦ lt
-  | inr ge ↦ let e : rests m lane ≡ true = ap (λ (c : Course). is_rest c.form) (get_or_past m.courses lane no_course ge) in absurd (let y : ⊥ = cc in y)
+  | inr ge ↦ let e : is_at_rest m lane ≡ true = ap (λ (c : Course). is_rest c.form) (get_or_past m.courses lane no_course ge) in absurd (let y : ⊥ = cc in y)
 ]
 
-goes_by : (m : Machine) (lane : ℕ) → lane < length m.courses → m.ended ≡ false → (n : Next (course_at m.courses lane).form m lane (course_at m.courses lane)) → (g : GoesOn m lane) × (g.entry.what ≡ n.what)
+goes_by : (m : MachineState) (lane : ℕ) → lane < length m.courses → m.ended ≡ false → (n : Next (course_at m.courses lane).form m lane (course_at m.courses lane)) → (g : GoesOn m lane) × (g.entry.what ≡ n.what)
 goes_by m lane lt live n = (
   record {
     entry = drawn_by m lane n.owner n.what;
@@ -163,7 +163,7 @@ all_at [] h = refl
 all_at (c ∷ cs) h = and_from (is_rest c.form) _ (h 0) (all_at cs (λ l. h (suc l)))
 
 -- an entry of a lane at rest
-at_rest : (m : Machine) (lane : ℕ) (o : Owner) (w : What) → lane < length m.courses → m.ended ≡ false → rests m lane ≡ true → Keeps Rest m lane (course_at m.courses lane) o w → MayBeAdded m (drawn_by m lane o w)
+at_rest : (m : MachineState) (lane : ℕ) (o : Owner) (w : What) → lane < length m.courses → m.ended ≡ false → is_at_rest m lane ≡ true → Keeps Rest m lane (course_at m.courses lane) o w → MayBeAdded m (drawn_by m lane o w)
 at_rest m lane o w lt live r k =
     let f = rest_is (course_at m.courses lane).form r in
     may_be_added m (drawn_by m lane o w) (each_kept m lane o w lt live (subst (λ (x : Form). Keeps x m lane (course_at m.courses lane) o w) (sym f) k))
@@ -250,7 +250,7 @@ pub record RowsFit (h : Header) (ticked : List (Option ℕ)) (rows : List Row) :
   pub free : list_all (is_free ticked) rows ≡ true
   pub agree : ticks_agree rows ≡ true
 
-free_row : (m : Machine) (r : Row) (n : ℕ) → is_free m.ticked r ≡ true → ticked_elsewhere m r.lane (RowEntry n r.at r.command) ≡ false
+free_row : (m : MachineState) (r : Row) (n : ℕ) → is_free m.ticked r ≡ true → ticked_elsewhere m r.lane (RowEntry n r.at r.command) ≡ false
 free_row m r n h = by_command r.command (not-true _ h)
   where
     by_command : (command : Command) → ticks_another m.ticked r.lane command ≡ false → ticked_elsewhere m r.lane (RowEntry n r.at command) ≡ false
@@ -314,14 +314,14 @@ same_closing (Out cause to tasks) f b h = refl
 same_closing w f b h = refl
 
 -- the entries from here on, up to the end
-pub record Rest_of (m : Machine) (rows : List Row) : Type 0 where
+pub record Rest_of (m : MachineState) (rows : List Row) : Type 0 where
   pub entries : List Entry
   pub legal : MayFollow entries m
   pub serial : AreSerial entries m
   pub ended : (run entries m).ended ≡ true
   pub drawn : rows_drawn entries ≡ rows
 
-before : (m : Machine) (e : Entry) (rows : List Row) → MayBeAdded m e → is_serial m e.what ≡ true → (rest : Rest_of (after m e) rows) → Rest_of m (row_of e.what e.lane ++ rows)
+before : (m : MachineState) (e : Entry) (rows : List Row) → MayBeAdded m e → is_serial m e.what ≡ true → (rest : Rest_of (after m e) rows) → Rest_of m (row_of e.what e.lane ++ rows)
 before m e rows h s rest = record {
   entries = e ∷ rest.entries;
   legal = (h, rest.legal);
@@ -331,28 +331,28 @@ before m e rows h s rest = record {
 }
 
 -- what the run keeps: one lane alone may be busy, and rows to come can be taken up
-pub record IsRunning (m : Machine) (lane : ℕ) (rows : List Row) : Type 0 where
+pub record IsRunning (m : MachineState) (lane : ℕ) (rows : List Row) : Type 0 where
   pub ready : IsReady m
   pub live : m.ended ≡ false
   pub others : OthersRest m lane
   pub fit : RowsFit m.header m.ticked rows
   pub begun : (rows ≡ []) ⊎ (m.closing ≡ false)
 
-others_rest : (m : Machine) (e : Entry) (lane : ℕ) → e.lane ≡ lane → OthersRest m lane → OthersRest (after m e) lane
+others_rest : (m : MachineState) (e : Entry) (lane : ℕ) → e.lane ≡ lane → OthersRest m lane → OthersRest (after m e) lane
 others_rest m e lane own others l n = rw (course_elsewhere m e l (λ i. n (i ∙ own))) (others l n)
 
-abbrev AllRest : Machine → Type 0
-AllRest m = (l : ℕ) → rests m l ≡ true
+abbrev AllRest : MachineState → Type 0
+AllRest m = (l : ℕ) → is_at_rest m l ≡ true
 
-all_from : (m : Machine) (lane : ℕ) → rests m lane ≡ true → OthersRest m lane → (l : ℕ) → rests m l ≡ true
+all_from : (m : MachineState) (lane : ℕ) → is_at_rest m lane ≡ true → OthersRest m lane → (l : ℕ) → is_at_rest m l ≡ true
 all_from m lane r others l = elim (cases_eq l lane) [ inl e ↦ rw e r | inr n ↦ others l n ]
 
 -- the run goes on, where so many entries are left at most
 abbrev Goes : ℕ → Type 0
-Goes k = (m : Machine) (lane : ℕ) (rows : List Row) → entries_left (length rows) m < k → IsRunning m lane rows → Rest_of m rows
+Goes k = (m : MachineState) (lane : ℕ) (rows : List Row) → entries_left (length rows) m < k → IsRunning m lane rows → Rest_of m rows
 
 -- after an entry that takes up no row
-after_rowless : (laws : RunLaws) → (k : ℕ) → Goes k → (m : Machine) (lane : ℕ) (rows : List Row) → entries_left (length rows) m < suc k → IsReady m → RowsFit m.header m.ticked rows → OthersRest m lane → (g : GoesOn m lane) →
+after_rowless : (laws : RunLaws) → (k : ℕ) → Goes k → (m : MachineState) (lane : ℕ) (rows : List Row) → entries_left (length rows) m < suc k → IsReady m → RowsFit m.header m.ticked rows → OthersRest m lane → (g : GoesOn m lane) →
     (after m g.entry).ended ≡ false → (rows ≡ []) ⊎ ((after m g.entry).closing ≡ false) → Rest_of m rows
 unfolding after
 after_rowless laws k go m lane rows lt ready fit others g live begun =
@@ -370,18 +370,18 @@ after_rowless laws k go m lane rows lt ready fit others g live begun =
     subst (λ (rs : List Row). Rest_of m (rs ++ rows)) (g.rowless e.lane) (before m e rows g.may g.serial rest)
 
 -- a lane serves its row
-goes_serving : (laws : RunLaws) → (k : ℕ) → Goes k → (m : Machine) (lane : ℕ) (rows : List Row) → entries_left (length rows) m < suc k → IsRunning m lane rows → rests m lane ≡ false → Rest_of m rows
+goes_serving : (laws : RunLaws) → (k : ℕ) → Goes k → (m : MachineState) (lane : ℕ) (rows : List Row) → entries_left (length rows) m < suc k → IsRunning m lane rows → is_at_rest m lane ≡ false → Rest_of m rows
 unfolding after sight
 goes_serving laws k go m lane rows lt r busy =
     let g = service_goes_on laws.asked m lane r.ready r.live busy r.others in
     let e = g.0.entry in
     let lives : ended_after e.what m.ended ≡ false = ap (λ (b : Bool). ended_after e.what b) r.live ∙ g.1 in
-    let form : is_rest (course_at m.courses e.lane).form ≡ false = ap (rests m) g.0.own ∙ busy in
+    let form : is_rest (course_at m.courses e.lane).form ≡ false = ap (is_at_rest m) g.0.own ∙ busy in
     let closing : closing_after e.what (course_at m.courses e.lane).form m.closing ≡ m.closing = same_closing e.what (course_at m.courses e.lane).form m.closing form in
     after_rowless laws k go m lane rows lt r.ready r.fit r.others g.0 lives (elim r.begun [ inl n ↦ inl n | inr c ↦ inr (closing ∙ c) ])
 
 -- all rest, and no row is to come
-goes_closing : (laws : RunLaws) → (k : ℕ) → Goes k → (m : Machine) → entries_left 0 m < suc k → IsReady m → m.ended ≡ false → RowsFit m.header m.ticked [] → AllRest m → Rest_of m []
+goes_closing : (laws : RunLaws) → (k : ℕ) → Goes k → (m : MachineState) → entries_left 0 m < suc k → IsReady m → m.ended ≡ false → RowsFit m.header m.ticked [] → AllRest m → Rest_of m []
 goes_closing laws k go m lt ready live fit rest = by_end (after m g.entry).ended refl
   where
     g : GoesOn m 0
@@ -398,7 +398,7 @@ goes_closing laws k go m lt ready live fit rest = by_end (after m g.entry).ended
     by_end false e = after_rowless laws k go m 0 [] lt ready fit (λ l n. rest l) (closing_goes_on laws.asked m ready live rest) e (inl refl)
 
 -- all rest, and a row is taken up
-goes_taking : (laws : RunLaws) → (k : ℕ) → Goes k → (m : Machine) (r : Row) (rows : List Row) → entries_left (suc (length rows)) m < suc k → IsReady m → m.ended ≡ false → m.closing ≡ false → RowsFit m.header m.ticked (r ∷ rows) → AllRest m → Rest_of m (r ∷ rows)
+goes_taking : (laws : RunLaws) → (k : ℕ) → Goes k → (m : MachineState) (r : Row) (rows : List Row) → entries_left (suc (length rows)) m < suc k → IsReady m → m.ended ≡ false → m.closing ≡ false → RowsFit m.header m.ticked (r ∷ rows) → AllRest m → Rest_of m (r ∷ rows)
 unfolding after
 goes_taking laws k go m r rows lt ready live closing fit rest =
     let n = (course_at m.courses r.lane).rows + 1 in
@@ -418,16 +418,16 @@ goes_taking laws k go m r rows lt ready live closing fit rest =
 
 goes : (laws : RunLaws) → (k : ℕ) → Goes k
 goes laws zero m lane rows lt r = absurd (omega arith)
-goes laws (suc k) m lane rows lt r = by_rest (rests m lane) refl (goes laws k)
+goes laws (suc k) m lane rows lt r = by_rest (is_at_rest m lane) refl (goes laws k)
   where
-    at_rest : (rows : List Row) → entries_left (length rows) m < suc k → IsRunning m lane rows → rests m lane ≡ true → Goes k → Rest_of m rows
+    at_rest : (rows : List Row) → entries_left (length rows) m < suc k → IsRunning m lane rows → is_at_rest m lane ≡ true → Goes k → Rest_of m rows
     at_rest [] lt r e go = goes_closing laws k go m lt r.ready r.live r.fit (all_from m lane e r.others)
     at_rest (row ∷ rows) lt r e go = elim r.begun [
       | inl n ↦ absurd (let y : ⊥ = cc in y)
       | inr c ↦ goes_taking laws k go m row rows lt r.ready r.live c r.fit (all_from m lane e r.others)
     ]
 
-    by_rest : (b : Bool) → rests m lane ≡ b → Goes k → Rest_of m rows
+    by_rest : (b : Bool) → is_at_rest m lane ≡ b → Goes k → Rest_of m rows
     by_rest false e go = goes_serving laws k go m lane rows lt r e
     by_rest true e go = at_rest rows lt r e go
 
@@ -449,7 +449,7 @@ all_none_ticked : (n : ℕ) (rows : List Row) → list_all (is_free (replicate n
 all_none_ticked n [] = refl
 all_none_ticked n (r ∷ rows) = and_from (is_free (replicate n None) r) _ (none_ticked n r) (all_none_ticked n rows)
 
-start_rests : (h : Header) (l : ℕ) → rests (start h) l ≡ true
+start_rests : (h : Header) (l : ℕ) → is_at_rest (start h) l ≡ true
 start_rests h l = let c = opening_course_at h l in ap (λ (x : Course). is_rest x.form) c.1
 
 start_runs : (laws : RunLaws) → (t : Trace) → IsTrace t → IsRunning (start t.header) 0 t.rows

@@ -21,7 +21,7 @@ use Rattle.lb_queue.specs.declared.answers.Reply.{Reply}
 use Rattle.lb_queue.specs.declared.answers.Reply.TheVariants.{NotHere}
 use Rattle.lb_queue.specs.Queue.{QueueState, away, knows}
 use Rattle.lb_queue.specs.Requests.{next_stop}
-use Rattle.lb_queue.specs.Hands.{leave, take_stop, take_push, pull, taken_by, land}
+use Rattle.lb_queue.specs.Hands.{leave, take_stop, take_push, take_pull, taken_by, land}
 use Rattle.lb_queue.specs.Tasks.{is_pending, task_with}
 use Rattle.lb_queue.specs.Commands.{wakes, wake, sleeps, sleep, exits, exit, is_bad_mask, unless_bad, request_after, sets_mask, set_mask, renices, renice, with_mask, with_nice}
 use Rattle.lb_queue.specs.Moves.{Last, AllPass, Admits, Allows, is_of_tasks, taken_along}
@@ -46,7 +46,7 @@ pub record OfEach (P : Leaving → Type 0) (f : Form) (h : Header) (c : Course) 
   pub wake : (t to : ℕ) → f ≡ Asked → c.command ≡ Some (Wake t) → away q t ≡ Some to → P (gone WakeOut to None (leave q c.at t))
   pub stop : (s : Stop) (owed : Bool) → (f ≡ Rest) ⊎ (f ≡ Serving) → next_stop q owed ≡ Some s → P (gone StopOut s.to None (take_stop q c.at s.id))
   pub push : (to : ℕ) → f ≡ Serving → next_stop q true ≡ None → q.active ≡ Some to → P (gone PushOut to None (take_push q c.at to))
-  pub pulls : (env : Env) → f ≡ Looked → env_of h c ≡ Some env → P (gone PullOut env.to (Some (taken_by q c.at env)) (pull q c.at env))
+  pub pulls : (env : Env) → f ≡ Looked → env_of h c ≡ Some env → P (gone PullOut env.to (Some (taken_by q c.at env)) (take_pull q c.at env))
 
 it_is : (P : Leaving → Type 0) (x l : Leaving) → Some x ≡ Some l → P x → P l
 it_is P x l e k = let s : x ≡ l = cc in subst P s k

@@ -38,15 +38,15 @@ use Rattle.lb_core.specs.declared.entry.What.TheVariants.{Row, Adopt, Look, Scan
 use Rattle.lb_core.specs.declared.entry.Entry.{Entry}
 use Rattle.lb_core.specs.declared.place.Place.TheVariants.{Awake as AwakeAt}
 use Rattle.lb_core.specs.declared.rule.Rule.TheVariants.{Decision as DecisionRule, Pick, End as EndRule}
-use Rattle.lb_core.specs.Course.{is_tick, is_newly, kind_of, turn_domains, is_all_pinned, source_of, is_pull, shapes_of}
+use Rattle.lb_core.specs.Course.{is_tick, is_newly, turn_kind, turn_domains, is_all_pinned, source_of, is_pull, shapes_of}
 use Rattle.lb_core.specs.Sight.{tickless_in, Sight}
 use Rattle.lb_core.specs.Stage.{target_of, draws, push_is_due, is_settled}
 use Rattle.lb_core.specs.Leaving.{Leaving, leaving, out_by}
-use Rattle.lb_core.specs.CourseAfter.{goes_to, goes_on, kicks_next, ends_turn, turn_ends, after_sleep, left_idle, answered, takes_off, lands, scanned, kicked, closes, names as names_of, course_by, drew, cpu_of, course_after}
+use Rattle.lb_core.specs.CourseAfter.{goes_to, goes_on, kicks_next, turn_ends_by, turn_ends, after_sleep, left_idle, answered, takes_off, lands, scanned, kicked, closes, raised_numbers, course_by, drew, cpu_of, course_after}
 use Rattle.lb_core.specs.Rules.{breaks_decision}
 use Rattle.lb_core.specs.QueueAfter.{rest_of, cause_of, queue_by, queue_after}
 use Rattle.lb_core.specs.Same.{same_kind}
-use Rattle.lb_core.specs.Machine.{Machine, queue_at, course_at, no_queue, no_course, sight, owned_queue}
+use Rattle.lb_core.specs.Machine.{MachineState, queue_at, course_at, no_queue, no_course, sight, owned_queue}
 use Rattle.lb_core.specs.Step.{after, ended_after}
 use Rattle.lb_core.specs.Legal.{MayBeAdded}
 use Rattle.lb_core.specs.Placed.{IsPlaced, is_its_place}
@@ -92,7 +92,7 @@ cond_work : (b : Bool) (c d : Course) (n : ℕ) → work_of c < n → work_of d 
 cond_work true c d n h k = h
 cond_work false c d n h k = k
 
-ends_work : (k : Kind) (h : Header) (c : Course) → work_of (ends_turn k h c) < 1 + work_after k c.cpu c.figures
+ends_work : (k : Kind) (h : Header) (c : Course) → work_of (turn_ends_by k h c) < 1 + work_after k c.cpu c.figures
 ends_work TickTurn h c = cond_work (ltb 1 c.awake && ltb 0 (length (turn_domains h c))) _ _ _ (omega arith) (omega arith)
 ends_work Idle h c = omega arith
 ends_work Nohz h c =
@@ -101,7 +101,7 @@ ends_work Nohz h c =
 
 pub turn_ends_work : (h : Header) (c : Course) → work_of (turn_ends h c) < work_at_end c
 unfolding turn_ends
-turn_ends_work h c = ends_work (kind_of c) h c
+turn_ends_work h c = ends_work (turn_kind c) h c
 
 pub kicked_work : (r : AskReply) (c : Course) → work_of (kicked r c) < 1 + 12483 * count_where (has (tickless_in c.figures)) 64
 kicked_work New c =
@@ -138,7 +138,7 @@ answered_work command cpu before now c = omega arith
 pub closes_work : (w : OutcomeWord) (c : Course) → work_of (closes w c) ≤ 1 + work_above c
 closes_work AskingWord c = omega arith
 closes_work NotMineWord c = omega arith
-closes_work MovedWord c = let k = goes_on_work c in let w = cond_work (is_newly (kind_of c)) (goes_to None c) (goes_on c) (2 + work_above c) (omega arith) (omega arith) in omega arith
+closes_work MovedWord c = let k = goes_on_work c in let w = cond_work (is_newly (turn_kind c)) (goes_to None c) (goes_on c) (2 + work_above c) (omega arith) (omega arith) in omega arith
 closes_work w c = let k = goes_on_work c in omega arith
 
 -- ---- tasks in the hand
@@ -220,8 +220,8 @@ falls Serving s lane cpu now (Adopt v k u) d o f =
     let e : k ≡ TickTurn = kind_is k TickTurn ((and_parts (same_kind k TickTurn) _ d).0) in
     rw e (omega arith)
 falls Due s lane cpu now (Adopt v k u) d o f =
-    let p = and_parts (same_kind k (kind_of s.course)) (u == s.course.cpu) d in
-    let e : k ≡ kind_of s.course = kind_is k (kind_of s.course) p.0 in
+    let p = and_parts (same_kind k (turn_kind s.course)) (u == s.course.cpu) d in
+    let e : k ≡ turn_kind s.course = kind_is k (turn_kind s.course) p.0 in
     let g : u ≡ s.course.cpu = eqb-true u s.course.cpu p.1 in
     rw (e, g) (omega arith)
 falls Used s lane cpu now (Turn ps) d o f = let k = goes_first_work ps (record s.course { positions = ps; counters = counters_found s.queue s.course.at s.course.version (shapes_of (turn_domains s.header s.course)) }) refl in omega arith
@@ -235,7 +235,7 @@ falls LandedForm s lane cpu now (Look p x names d) w o f =
 falls LandedForm s lane cpu now (Close p w i n) d o f = let k = closes_work w s.course in let l = landed_most (is_all_pinned s.course.taken) (sources_left s.course.excluded) (work_above s.course) in omega arith
 falls Closed s lane cpu now (Ask r) d o f = let k = goes_on_work s.course in omega arith
 falls Done s lane cpu now Over d o f = let k = turn_ends_work s.header s.course in omega arith
-falls ScanDue s lane cpu now (Scan names t) d o f = let k = scanned_work t (record s.course { figures = s.figs; named = names_of names s.course.named }) in omega arith
+falls ScanDue s lane cpu now (Scan names t) d o f = let k = scanned_work t (record s.course { figures = s.figs; named = raised_numbers names s.course.named }) in omega arith
 falls Kicking s lane cpu now (Kick r) d o f = let k = kicked_work r s.course in omega arith
 falls f s lane cpu now (Out cause to tasks) d o n = absurd (let y : ⊥ = cc in y)
 falls f s lane cpu now w d o n = absurd (let y : ⊥ = cc in y)
@@ -319,7 +319,7 @@ out_falls laws tasks f h c q lane l cause to ids d e distinct few =
     }) e (λ u a. out_asks_nobody laws u f h c q l e a) (out_asks laws tasks f h c q l e)
 
 -- ---- the machine
-few_asked : (m : Machine) (cpu : ℕ) → IsPlaced m → Few (length m.header.tasks) (queue_at m.queues cpu)
+few_asked : (m : MachineState) (cpu : ℕ) → IsPlaced m → Few (length m.header.tasks) (queue_at m.queues cpu)
 few_asked m cpu placed u h = inside (is_its_place m (AwakeAt cpu) u) refl (placed.once (AwakeAt cpu) u) (asked_there (queue_at m.queues cpu).awake u h)
   where
     inside : (b : Bool) → is_its_place m (AwakeAt cpu) u ≡ b → occurs u (awake_ids (queue_at m.queues cpu).awake) ≡ cond {A = ℕ} (is_its_place m (AwakeAt cpu) u) 1 0 → 1 ≤ occurs u (awake_ids (queue_at m.queues cpu).awake) → u < length m.header.tasks
@@ -331,7 +331,7 @@ free_source c shape groups figs cpu kind NotMine e = tt
 free_source c shape groups figs cpu kind Balanced e = tt
 free_source c shape groups figs cpu kind (Pull s k i) e = let f = source_found shape groups figs cpu kind c.excluded s k i e in (f.free, f.numbered)
 
-decided : (m : Machine) (e : Entry) (w : What) → breaks_decision (sight m e) w ≡ false → Decided (course_at m.courses e.lane) w
+decided : (m : MachineState) (e : Entry) (w : What) → breaks_decision (sight m e) w ≡ false → Decided (course_at m.courses e.lane) w
 unfolding sight
 decided m e (Look p x names d) h = free_source (course_at m.courses e.lane) _ _ _ _ _ d (decision_is d _ (not-false _ ((or_parts _ _ h).1)))
 decided m e w h = tt
@@ -344,7 +344,7 @@ requests_kept laws tasks (Landed ids) s lane o = let k = land_asks laws tasks s.
 requests_kept laws tasks w s lane o = omega arith
 
 -- what all queues are asked
-abbrev requests : Machine → ℕ
+abbrev requests : MachineState → ℕ
 requests m = sum_by (asked_count (length m.header.tasks)) m.queues
 
 rows_left : (w : What) (rows : ℕ) → 811405 * rows + row_gain w ≤ 811405 * rows_before w rows
@@ -356,7 +356,7 @@ end_left (End cpus) = refl
 end_left w = refl
 
 -- by what becomes of the lane's work and of the requests
-falls_by : (m : Machine) (e : Entry) (rows asked served : ℕ) → MayBeAdded m e → requests (after m e) + served ≤ requests m + asked →
+falls_by : (m : MachineState) (e : Entry) (rows asked served : ℕ) → MayBeAdded m e → requests (after m e) + served ≤ requests m + asked →
     work_of (course_left m e) + 2 * asked < work_of (course_at m.courses e.lane) + 2 * served + row_gain e.what + end_gain e.what → entries_left rows (after m e) < entries_left (rows_before e.what rows) m
 unfolding after
 falls_by m e rows asked served h r w =
@@ -367,7 +367,7 @@ falls_by m e rows asked served h r w =
     let d : cond {A = ℕ} m.ended 0 1 ≡ 1 = rw live refl in
     omega arith
 
-requests_by : (m : Machine) (o : Owner) (lane prev : ℕ) (w : What) (served asked : ℕ) → MayBeAdded m (entry o lane prev w) →
+requests_by : (m : MachineState) (o : Owner) (lane prev : ℕ) (w : What) (served asked : ℕ) → MayBeAdded m (entry o lane prev w) →
     asked_count (length m.header.tasks) (queue_left m (entry o lane prev w)) + served ≤ asked_count (length m.header.tasks) (owned_queue o m) + asked → (is_no_queue o ≡ true → served ≡ 0) →
     requests (after m (entry o lane prev w)) + served ≤ requests m + asked
 unfolding after
@@ -376,7 +376,7 @@ requests_by m (Queue cpu) lane prev w served asked h le z =
     omega arith
 requests_by m o lane prev w served asked h le z = let n = z refl in omega arith
 
-other_falls : (laws : QueueLaws) (m : Machine) (o : Owner) (lane prev : ℕ) (w : What) (rows : ℕ) → is_out w ≡ false → MayBeAdded m (entry o lane prev w) → entries_left rows (after m (entry o lane prev w)) < entries_left (rows_before w rows) m
+other_falls : (laws : QueueLaws) (m : MachineState) (o : Owner) (lane prev : ℕ) (w : What) (rows : ℕ) → is_out w ≡ false → MayBeAdded m (entry o lane prev w) → entries_left rows (after m (entry o lane prev w)) < entries_left (rows_before w rows) m
 unfolding course_after queue_after sight
 other_falls laws m o lane prev w rows stays h =
     let e = entry o lane prev w in
@@ -388,7 +388,7 @@ other_falls laws m o lane prev w rows stays h =
     let g = same_work o (s.count + 1) (course_by w s (cpu_of o) (queue_after s e)) in
     falls_by m e rows (may_ask w) 0 h r (omega arith)
 
-out_lowers : (laws : QueueLaws) (m : Machine) (o : Owner) (lane prev : ℕ) (cause : OutCause) (to : ℕ) (ids : List ℕ) (rows : ℕ) → IsPlaced m → MayBeAdded m (entry o lane prev (Out cause to ids)) → entries_left rows (after m (entry o lane prev (Out cause to ids))) < entries_left rows m
+out_lowers : (laws : QueueLaws) (m : MachineState) (o : Owner) (lane prev : ℕ) (cause : OutCause) (to : ℕ) (ids : List ℕ) (rows : ℕ) → IsPlaced m → MayBeAdded m (entry o lane prev (Out cause to ids)) → entries_left rows (after m (entry o lane prev (Out cause to ids))) < entries_left rows m
 unfolding course_after leaving queue_after sight
 out_lowers laws m (Queue cpu) lane prev cause to ids rows placed h =
     let e = entry (Queue cpu) lane prev (Out cause to ids) in
@@ -407,7 +407,7 @@ out_lowers laws m (Queue cpu) lane prev cause to ids rows placed h =
     falls_by m e rows 0 f.served h r (omega arith)
 out_lowers laws m o lane prev cause to ids rows placed h = absurd (let k = (form_lets m (entry o lane prev (Out cause to ids)) h).0 in let y : ⊥ = cc in y)
 
-pub entries_fall : (laws : QueueLaws) (m : Machine) (e : Entry) (rows : ℕ) → IsPlaced m → MayBeAdded m e → entries_left rows (after m e) < entries_left (rows_before e.what rows) m
+pub entries_fall : (laws : QueueLaws) (m : MachineState) (e : Entry) (rows : ℕ) → IsPlaced m → MayBeAdded m e → entries_left rows (after m e) < entries_left (rows_before e.what rows) m
 entries_fall laws m e rows placed h = by_kind e.owner e.lane e.prev e.what h
   where
     by_kind : (o : Owner) (lane prev : ℕ) (w : What) → MayBeAdded m (entry o lane prev w) → entries_left rows (after m (entry o lane prev w)) < entries_left (rows_before w rows) m

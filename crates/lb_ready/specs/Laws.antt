@@ -12,7 +12,7 @@ use Rattle.lb_core.specs.declared.entry.What.TheVariants.{Row as RowEntry}
 use Rattle.lb_core.specs.declared.history.History.{History}
 use Rattle.lb_core.specs.declared.entry.What.{What}
 use Rattle.lb_core.specs.Elsewhere.{is_rest, ticked_elsewhere}
-use Rattle.lb_core.specs.Machine.{Machine, queue_at, course_at, start, sight}
+use Rattle.lb_core.specs.Machine.{MachineState, queue_at, course_at, start, sight}
 use Rattle.lb_core.specs.Step.{after, ended_after}
 use Rattle.lb_core.specs.Legal.{MayBeAdded}
 use Rattle.lb_core.specs.OfTrace.{row_of, IsHistoryOf}
@@ -28,7 +28,7 @@ OpensReady = (h : Header) → IsHeader h → IsReady (start h)
 
 -- an entry that may be added, and is in range, keeps the machine ready
 abbrev pub StaysReady : Type 0
-StaysReady = (m : Machine) (e : Entry) → IsReady m → MayBeAdded m e → is_in_range e.what ≡ true → IsReady (after m e)
+StaysReady = (m : MachineState) (e : Entry) → IsReady m → MayBeAdded m e → is_in_range e.what ≡ true → IsReady (after m e)
 
 -- what is in the ranges of its text is in the range that a machine asks for
 abbrev pub ReadsInRange : Type 0
@@ -36,29 +36,29 @@ ReadsInRange = (w : What) → what_fits w ≡ true → is_in_range w ≡ true
 
 -- every entry that may be added lowers the number of entries that are left
 abbrev pub EntriesFall : Type 0
-EntriesFall = (m : Machine) (e : Entry) (rows : ℕ) → IsReady m → MayBeAdded m e → entries_left rows (after m e) < entries_left (rows_before e.what rows) m
+EntriesFall = (m : MachineState) (e : Entry) (rows : ℕ) → IsReady m → MayBeAdded m e → entries_left rows (after m e) < entries_left (rows_before e.what rows) m
 
 -- an entry that may be added to a ready machine meets what the calls of its queue ask
 abbrev pub CallsMayBeMade : Type 0
-CallsMayBeMade = (m : Machine) (e : Entry) → IsReady m → MayBeAdded m e → QueueAsks e.what (sight m e)
+CallsMayBeMade = (m : MachineState) (e : Entry) → IsReady m → MayBeAdded m e → QueueAsks e.what (sight m e)
 
 -- and a look what a decision asks, a scan what the search for a target asks
 abbrev pub LooksMayBeDecided : Type 0
-LooksMayBeDecided = (m : Machine) (e : Entry) → IsReady m → MayBeAdded m e → LookAsks e.what (sight m e)
+LooksMayBeDecided = (m : MachineState) (e : Entry) → IsReady m → MayBeAdded m e → LookAsks e.what (sight m e)
 
 abbrev pub StopsMayBeTaken : Type 0
-StopsMayBeTaken = (m : Machine) (cpu : ℕ) → IsReady m → cpu < length m.header.cpus → StopAsks (queue_at m.queues cpu)
+StopsMayBeTaken = (m : MachineState) (cpu : ℕ) → IsReady m → cpu < length m.header.cpus → StopAsks (queue_at m.queues cpu)
 
 -- ---- a serial run is never stuck
-abbrev pub rests : Machine → ℕ → Bool
-rests m lane = is_rest (course_at m.courses lane).form
+abbrev pub is_at_rest : MachineState → ℕ → Bool
+is_at_rest m lane = is_rest (course_at m.courses lane).form
 
 -- every other lane is at rest
-abbrev pub OthersRest : Machine → ℕ → Type 0
-OthersRest m lane = (l : ℕ) → (l ≡ lane → ⊥) → rests m l ≡ true
+abbrev pub OthersRest : MachineState → ℕ → Type 0
+OthersRest m lane = (l : ℕ) → (l ≡ lane → ⊥) → is_at_rest m l ≡ true
 
 -- a serial entry of the lane may be added, and takes up no row
-pub record GoesOn (m : Machine) (lane : ℕ) : Type 0 where
+pub record GoesOn (m : MachineState) (lane : ℕ) : Type 0 where
   pub entry : Entry
   pub own : entry.lane ≡ lane
   pub may : MayBeAdded m entry
@@ -68,12 +68,12 @@ pub record GoesOn (m : Machine) (lane : ℕ) : Type 0 where
 
 -- a lane that serves its row, while the others rest, goes on, and does not end the history
 abbrev pub ServiceGoesOn : Type 0
-ServiceGoesOn = (m : Machine) (lane : ℕ) → IsReady m → m.ended ≡ false → rests m lane ≡ false → OthersRest m lane → (g : GoesOn m lane) × (ended_after g.entry.what false ≡ false)
+ServiceGoesOn = (m : MachineState) (lane : ℕ) → IsReady m → m.ended ≡ false → is_at_rest m lane ≡ false → OthersRest m lane → (g : GoesOn m lane) × (ended_after g.entry.what false ≡ false)
 
 -- where all rest and the closing has not begun, every row that is accepted may be taken up
 abbrev pub RowsAreTaken : Type 0
 RowsAreTaken =
-    (m : Machine) (row : Row) → IsReady m → m.ended ≡ false → m.closing ≡ false → ((l : ℕ) → rests m l ≡ true) → is_row m.header row ≡ true →
+    (m : MachineState) (row : Row) → IsReady m → m.ended ≡ false → m.closing ≡ false → ((l : ℕ) → is_at_rest m l ≡ true) → is_row m.header row ≡ true →
     let c = course_at m.courses row.lane in
     ticked_elsewhere m row.lane (RowEntry (c.rows + 1) row.at row.command) ≡ false →
     let entry : Entry = record { owner = Lane row.lane; lane = row.lane; prev = slice_index_or m.last row.lane 0; what = RowEntry (c.rows + 1) row.at row.command } in
@@ -81,7 +81,7 @@ RowsAreTaken =
 
 -- where all rest, lane 0 goes on closing the history, up to its end
 abbrev pub ClosingGoesOn : Type 0
-ClosingGoesOn = (m : Machine) → IsReady m → m.ended ≡ false → ((l : ℕ) → rests m l ≡ true) → GoesOn m 0
+ClosingGoesOn = (m : MachineState) → IsReady m → m.ended ≡ false → ((l : ℕ) → is_at_rest m l ≡ true) → GoesOn m 0
 
 -- ---- serial histories
 abbrev pub TracesHaveRuns : Type 0
@@ -99,4 +99,4 @@ EntriesFit = (t : Trace) (history : History) → IsTrace t → IsHistoryOf t his
 -- so does each entry that may be added to a ready machine of fewer than 2^40 tickets, where its row, if it
 -- takes one up, is accepted
 abbrev pub EntryFits : Type 0
-EntryFits = (m : Machine) (e : Entry) → IsReady m → m.ticket < 2 ^ 40 → MayBeAdded m e → list_all (is_row m.header) (row_of e.what e.lane) ≡ true → entry_fits (m.ticket + 1) e ≡ true
+EntryFits = (m : MachineState) (e : Entry) → IsReady m → m.ticket < 2 ^ 40 → MayBeAdded m e → list_all (is_row m.header) (row_of e.what e.lane) ≡ true → entry_fits (m.ticket + 1) e ≡ true

@@ -19,10 +19,10 @@ use Rattle.lb_core.specs.declared.course.Form.TheVariants.{Rest, Asked, Flight, 
 use Rattle.lb_core.specs.declared.entry.CpuFig.{CpuFig}
 use Rattle.lb_core.specs.declared.entry.What.{What}
 use Rattle.lb_core.specs.declared.entry.What.TheVariants.{Row}
-use Rattle.lb_core.specs.Course.{is_tick, kind_of, is_all_pinned, is_pull, source_of}
+use Rattle.lb_core.specs.Course.{is_tick, turn_kind, is_all_pinned, is_pull, source_of}
 use Rattle.lb_core.specs.Sight.{tickless_in}
 use Rattle.lb_core.specs.QueueAfter.{cause_of}
-use Rattle.lb_core.specs.Machine.{Machine}
+use Rattle.lb_core.specs.Machine.{MachineState}
 use Rattle.lb_ready.specs.Ready.{unnamed}
 
 -- how many numbers below n pass a test
@@ -62,7 +62,7 @@ work_after Nohz cpu figures = turn_work * kicks_above cpu figures
 
 -- from the end of the turn on
 abbrev pub work_at_end : Course → ℕ
-work_at_end c = 1 + work_after (kind_of c) c.cpu c.figures
+work_at_end c = 1 + work_after (turn_kind c) c.cpu c.figures
 
 -- after the position in work
 abbrev pub work_above : Course → ℕ
@@ -96,7 +96,7 @@ work_in Rest c = work_of_tick c
 work_in Asked c = row_work - 1
 work_in Flight c = work_in_flight (cause_of c) c
 work_in Serving c = work_serving c
-work_in Due c = turn_work + work_after (kind_of c) c.cpu c.figures
+work_in Due c = turn_work + work_after (turn_kind c) c.cpu c.figures
 work_in Used c = turn_work - 2 + work_at_end c
 work_in Position c = 3 * sources_left c.excluded + 3 + work_above c
 work_in Looked c = (if is_pull c.decision then work_pulling c + 5 else 2) + work_above c
@@ -121,7 +121,7 @@ asked_count tasks q = count_where (is_asked q.awake) tasks
 
 -- ---- the machine
 -- with so many rows to come
-abbrev pub entries_left : ℕ → Machine → ℕ
+abbrev pub entries_left : ℕ → MachineState → ℕ
 entries_left rows m =
     row_work * rows + sum_by work_of m.courses + 2 * sum_by (asked_count (length m.header.tasks)) m.queues + (if m.ended then 0 else 1)
 

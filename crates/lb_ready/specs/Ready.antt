@@ -30,11 +30,11 @@ use Rattle.lb_core.specs.declared.entry.What.{What}
 use Rattle.lb_core.specs.declared.entry.What.TheVariants.{Row}
 use Rattle.lb_core.specs.declared.entry.Entry.{Entry}
 use Rattle.lb_core.specs.Same.{same_kind}
-use Rattle.lb_core.specs.Course.{ticked_cpu, is_tick, kind_of, turn_domains, turn_domain, is_pull, source_of, named_at}
+use Rattle.lb_core.specs.Course.{ticked_cpu, is_tick, turn_kind, turn_domains, turn_domain, is_pull, source_of, named_at}
 use Rattle.lb_core.specs.Sight.{tickless_in}
 use Rattle.lb_core.specs.Stage.{target_of}
 use Rattle.lb_core.specs.QueueAfter.{cause_of}
-use Rattle.lb_core.specs.Machine.{Machine, queue_at, course_at, figures_at, entries_at, start}
+use Rattle.lb_core.specs.Machine.{MachineState, queue_at, course_at, figures_at, entries_at, start}
 use Rattle.lb_core.specs.Placed.{IsPlaced, HandsRest}
 use Rattle.lb_core.specs.Legal.{run, IsLegalFront}
 use Rattle.lb_core.specs.Permitted.{IsPermitted}
@@ -50,7 +50,7 @@ is_in_range w = true
 -- ---- sizes
 -- what the machine has one of for each CPU or lane; there is a version, and each CPU has a figure; and
 -- what is counted is at most the last ticket
-pub record HasSizes (m : Machine) : Type 0 where
+pub record HasSizes (m : MachineState) : Type 0 where
   pub queues : length m.queues ≡ length m.header.cpus
   pub figures : length m.figures ≡ length m.header.cpus
   pub courses : length m.courses ≡ m.header.lanes
@@ -82,7 +82,7 @@ abbrev pub FitsForm : Bool → Header → Form → Course → Type 0
 FitsForm ended h Asked c = is_some c.command ≡ true
 FitsForm ended h Flight c = c.to < length h.cpus
 FitsForm ended h Serving c = is_tick c.command ≡ true
-FitsForm ended h Due c = same_kind (kind_of c) TickTurn ≡ false
+FitsForm ended h Due c = same_kind (turn_kind c) TickTurn ≡ false
 FitsForm ended h Looked c = is_some c.decision ≡ true
 FitsForm ended h ScanDue c = (c.excluded ≡ no_cpus) × (0 < length (turn_domains h c))
 FitsForm ended h Kicking c = is_some (target_of c) ≡ true
@@ -150,13 +150,13 @@ abbrev pub Serves : Course → ℕ → Type 0
 Serves c cpu = ServesIn c.form (unnamed c) cpu
 
 -- a lane serves the tick of this CPU
-pub record IsServedBy (m : Machine) (cpu : ℕ) : Type 0 where
+pub record IsServedBy (m : MachineState) (cpu : ℕ) : Type 0 where
   pub lane : ℕ
   pub serves : Serves (course_at m.courses lane) cpu
 
 -- ---- versions and figures
 -- what a lane has named was published
-pub record NamesPublished (m : Machine) (c : Course) : Type 0 where
+pub record NamesPublished (m : MachineState) (c : Course) : Type 0 where
   pub version : c.named_version ≤ length m.versions
   pub figures : (cpu : ℕ) → named_at c cpu ≤ entries_at m cpu
 
@@ -210,7 +210,7 @@ pub record IsSmall (f : Fig) : Type 0 where
 
 -- ---- the machine
 -- it is the state after a legal front
-pub record IsReached (m : Machine) : Type 0 where
+pub record IsReached (m : MachineState) : Type 0 where
   pub front : List Entry
   pub legal : IsLegalFront m.header front
   pub is : run front (start m.header) ≡ m
@@ -219,7 +219,7 @@ pub record IsReached (m : Machine) : Type 0 where
 -- place, and may be there or is asked to leave. `hands`: a hand is empty but in flight. `fits`, `named`,
 -- `turns` and `spares` are of each lane; `queues`, `owed`, `small`, `counts` and `in_range` of each CPU:
 -- its queue, who serves its owed requests, its figures, and its counters, as many as it has domains.
-pub record IsReady (m : Machine) : Type 0 where
+pub record IsReady (m : MachineState) : Type 0 where
   pub reached : IsReached m
   pub accepted : IsHeader m.header
   pub sizes : HasSizes m

@@ -18,7 +18,7 @@ use Rattle.lb_busiest.specs.Sources.{may_be_source, has_more, source_of}
 use Rattle.lb_imbalance.specs.Destination.{is_idle_in, first_idle, balancer_of}
 use Rattle.lb_imbalance.specs.Balance.{is_level}
 use Rattle.lb_imbalance.specs.Amount.{imbalance_of}
-use Rattle.lb_imbalance.specs.Decision.{all_stats, domain_average, pull as pull_of, pull_from_group, decision_over, decision}
+use Rattle.lb_imbalance.specs.Decision.{all_stats, domain_average, take_pull as pull_of, pull_from_group, decision_over, decision}
 use Rattle.lb_levels.specs.Rows.{distances_of}
 use Rattle.lb_levels.specs.Spans.{levels_of, span_of}
 use Rattle.lb_domain.specs.Domains.{cut_span, firsts, is_kept, domains_of}
@@ -28,7 +28,7 @@ use Rattle.lb_queue.specs.Values.{value_of, view_at, views}
 use Rattle.lb_queue.specs.Figures.{figure}
 use Rattle.lb_queue.specs.Commands.{wake, sleep, exit, set_mask, renice}
 use Rattle.lb_queue.specs.Requests.{has_pending, has_owed, next_asked, rotated, tick, ask_active, kick}
-use Rattle.lb_queue.specs.Hands.{leave, take_stop, pushed, take_push, in_order, pull, taken_by, land}
+use Rattle.lb_queue.specs.Hands.{leave, take_stop, pushed, take_push, in_order, take_pull, taken_by, land}
 use Rattle.lb_queue.specs.Turns.{counters_found, due_positions, positions_found, counters_closed, close_look}
 use Rattle.lb_core.specs.Course.{outcome_of}
 use Rattle.lb_core.specs.Sight.{by_cpu, tickless_in}
@@ -53,7 +53,7 @@ unfolding
     is_idle_in first_idle balancer_of is_level imbalance_of all_stats domain_average pull_of pull_from_group decision_over decision
     distances_of levels_of span_of cut_span firsts is_kept domains_of
     pick_back somebody_runs joined left_by away value_of view_at views figure wake sleep exit set_mask renice
-    has_pending has_owed next_asked rotated tick ask_active kick leave take_stop pushed take_push in_order pull taken_by land
+    has_pending has_owed next_asked rotated tick ask_active kick leave take_stop pushed take_push in_order take_pull taken_by land
     counters_found due_positions positions_found counters_closed close_look
     outcome_of by_cpu tickless_in draws stage_allows leaving closed_counters queue_after turn_ends course_after
     opening_queue start sight first_pending unserved first_broken after
@@ -69,7 +69,7 @@ unfolding
     is_idle_in first_idle balancer_of is_level imbalance_of all_stats domain_average pull_of pull_from_group decision_over decision
     distances_of levels_of span_of cut_span firsts is_kept domains_of
     pick_back somebody_runs joined left_by away value_of view_at views figure wake sleep exit set_mask renice
-    has_pending has_owed next_asked rotated tick ask_active kick leave take_stop pushed take_push in_order pull taken_by land
+    has_pending has_owed next_asked rotated tick ask_active kick leave take_stop pushed take_push in_order take_pull taken_by land
     counters_found due_positions positions_found counters_closed close_look
     outcome_of by_cpu tickless_in draws stage_allows leaving closed_counters queue_after turn_ends course_after
     opening_queue start sight first_pending unserved first_broken after
@@ -85,7 +85,7 @@ unfolding
     is_idle_in first_idle balancer_of is_level imbalance_of all_stats domain_average pull_of pull_from_group decision_over decision
     distances_of levels_of span_of cut_span firsts is_kept domains_of
     pick_back somebody_runs joined left_by away value_of view_at views figure wake sleep exit set_mask renice
-    has_pending has_owed next_asked rotated tick ask_active kick leave take_stop pushed take_push in_order pull taken_by land
+    has_pending has_owed next_asked rotated tick ask_active kick leave take_stop pushed take_push in_order take_pull taken_by land
     counters_found due_positions positions_found counters_closed close_look
     outcome_of by_cpu tickless_in draws stage_allows leaving closed_counters queue_after turn_ends course_after
     opening_queue start sight first_pending unserved first_broken after
@@ -101,7 +101,7 @@ unfolding
     is_idle_in first_idle balancer_of is_level imbalance_of all_stats domain_average pull_of pull_from_group decision_over decision
     distances_of levels_of span_of cut_span firsts is_kept domains_of
     pick_back somebody_runs joined left_by away value_of view_at views figure wake sleep exit set_mask renice
-    has_pending has_owed next_asked rotated tick ask_active kick leave take_stop pushed take_push in_order pull taken_by land
+    has_pending has_owed next_asked rotated tick ask_active kick leave take_stop pushed take_push in_order take_pull taken_by land
     counters_found due_positions positions_found counters_closed close_look
     outcome_of by_cpu tickless_in draws stage_allows leaving closed_counters queue_after turn_ends course_after
     opening_queue start sight first_pending unserved first_broken after
@@ -117,7 +117,7 @@ unfolding
     is_idle_in first_idle balancer_of is_level imbalance_of all_stats domain_average pull_of pull_from_group decision_over decision
     distances_of levels_of span_of cut_span firsts is_kept domains_of
     pick_back somebody_runs joined left_by away value_of view_at views figure wake sleep exit set_mask renice
-    has_pending has_owed next_asked rotated tick ask_active kick leave take_stop pushed take_push in_order pull taken_by land
+    has_pending has_owed next_asked rotated tick ask_active kick leave take_stop pushed take_push in_order take_pull taken_by land
     counters_found due_positions positions_found counters_closed close_look
     outcome_of by_cpu tickless_in draws stage_allows leaving closed_counters queue_after turn_ends course_after
     opening_queue start sight first_pending unserved first_broken after
@@ -133,7 +133,7 @@ unfolding
     is_idle_in first_idle balancer_of is_level imbalance_of all_stats domain_average pull_of pull_from_group decision_over decision
     distances_of levels_of span_of cut_span firsts is_kept domains_of
     pick_back somebody_runs joined left_by away value_of view_at views figure wake sleep exit set_mask renice
-    has_pending has_owed next_asked rotated tick ask_active kick leave take_stop pushed take_push in_order pull taken_by land
+    has_pending has_owed next_asked rotated tick ask_active kick leave take_stop pushed take_push in_order take_pull taken_by land
     counters_found due_positions positions_found counters_closed close_look
     outcome_of by_cpu tickless_in draws stage_allows leaving closed_counters queue_after turn_ends course_after
     opening_queue start sight first_pending unserved first_broken after

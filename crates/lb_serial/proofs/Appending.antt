@@ -7,7 +7,7 @@ use Rattle.lb_core.specs.declared.entry.Owner.TheVariants.{Lane}
 use Rattle.lb_core.specs.declared.entry.What.{What}
 use Rattle.lb_core.specs.declared.entry.What.TheVariants.{Row as RowEntry}
 use Rattle.lb_core.specs.declared.entry.Entry.{Entry}
-use Rattle.lb_core.specs.Machine.{Machine}
+use Rattle.lb_core.specs.Machine.{MachineState}
 use Rattle.lb_core.specs.Step.{after}
 use Rattle.lb_core.specs.Legal.{MayBeAdded, run, MayFollow}
 use Rattle.lb_core.specs.OfTrace.{row_of, rows_drawn}
@@ -15,15 +15,15 @@ use Rattle.lb_serial.specs.declared.front.Front.{Front}
 use Rattle.lb_serial.specs.Fronts.{with_entry}
 use Rattle.lb_core.specs.Serial.{is_serial, AreSerial}
 
-pub run_one : (es : List Entry) (e : Entry) (m : Machine) → run (es ++ e ∷ []) m ≡ after (run es m) e
+pub run_one : (es : List Entry) (e : Entry) (m : MachineState) → run (es ++ e ∷ []) m ≡ after (run es m) e
 run_one [] e m = refl
 run_one (x ∷ es) e m = run_one es e (after m x)
 
-pub may_follow_one : (es : List Entry) (e : Entry) (m : Machine) → MayFollow es m → MayBeAdded (run es m) e → MayFollow (es ++ e ∷ []) m
+pub may_follow_one : (es : List Entry) (e : Entry) (m : MachineState) → MayFollow es m → MayBeAdded (run es m) e → MayFollow (es ++ e ∷ []) m
 may_follow_one [] e m legal h = (h, tt)
 may_follow_one (x ∷ es) e m legal h = (legal.0, may_follow_one es e (after m x) legal.1 h)
 
-pub serial_one : (es : List Entry) (e : Entry) (m : Machine) → AreSerial es m → is_serial (run es m) e.what ≡ true → AreSerial (es ++ e ∷ []) m
+pub serial_one : (es : List Entry) (e : Entry) (m : MachineState) → AreSerial es m → is_serial (run es m) e.what ≡ true → AreSerial (es ++ e ∷ []) m
 serial_one [] e m serial h = (h, tt)
 serial_one (x ∷ es) e m serial h = (serial.0, serial_one es e (after m x) serial.1 h)
 

@@ -28,8 +28,8 @@ use Rattle.lb_core.specs.declared.entry.Entry.{Entry}
 use Rattle.lb_core.specs.declared.place.Place.{Place}
 use Rattle.lb_core.specs.Course.{task_of}
 use Rattle.lb_core.specs.QueueAfter.{answer_to, queue_after}
-use Rattle.lb_core.specs.CourseAfter.{rests, goes_to, turn_ends, after_sleep, drew, course_after}
-use Rattle.lb_core.specs.Machine.{Machine, entries_at, start, sight}
+use Rattle.lb_core.specs.CourseAfter.{comes_to_rest, goes_to, turn_ends, after_sleep, drew, course_after}
+use Rattle.lb_core.specs.Machine.{MachineState, entries_at, start, sight}
 use Rattle.lb_core.specs.Step.{after}
 use Rattle.lb_core.specs.Legal.{MayBeAdded}
 use Rattle.lb_core.specs.Placed.{IsPlaced, PlacedAlways}
@@ -45,7 +45,7 @@ use Rattle.lb_serial.proofs.Replies.{left_empty, answered_is, answer_calm, answe
 use Rattle.lb_serial.proofs.Unbroken.{may_be_added, row_breaks, did_breaks, use_breaks, turn_breaks, over_breaks, end_breaks}
 
 -- ---- one more entry
-abbrev reached : (f : Front) (c : Course) → IsFront f c → Machine
+abbrev reached : (f : Front) (c : Course) → IsFront f c → MachineState
 reached f c front = small_machine f.history.header (length f.history.entries) f.queue.state front.figures c front.places
 
 abbrev next_entry : Front → Owner → What → Entry
@@ -67,7 +67,7 @@ drawn f c c' b o w figures places front added serial step calm rows hand named =
       serial = serial_one es e (start h) front.serial (rw front.leaves serial);
       figures = figures;
       places = places;
-      leaves = run_one es e (start h) ∙ ap (λ (m : Machine). after m e) front.leaves ∙ step ∙ ap (λ (n : ℕ). small_machine h n b.state figures c' places) (sym (length-append es (e ∷ [])));
+      leaves = run_one es e (start h) ∙ ap (λ (m : MachineState). after m e) front.leaves ∙ step ∙ ap (λ (n : ℕ). small_machine h n b.state figures c' places) (sym (length-append es (e ∷ [])));
       calm = calm;
       rows = (let l = ap (λ (x : List TraceRow). length x) (rows_one es e) in let k = length-append (rows_drawn es) (row_of w 0) in omega (arith, front.rows));
       hand = hand;
@@ -163,7 +163,7 @@ did_drawn law f row b asked fits is =
     let c' = record c { form = Asked; at = row.at; command = Some command } in
     let due = left_empty q.awake answer.1.awake in
     let front = subst (λ (x : Course). IsFront f x) (at_row c row.at command asked.form asked.at asked.command) asked.front in
-    let placed = subst (λ (m : Machine). IsPlaced m) front.leaves (law h f.history.entries front.accepted front.legal) in
+    let placed = subst (λ (m : MachineState). IsPlaced m) front.leaves (law h f.history.entries front.accepted front.legal) in
     let here = λ (t : ℕ) (e : task_of (Some command) ≡ Some t). is_here h n q front.figures c' front.places t front.hand placed (declared_task (length h.tasks) command t fits.declared e) in
     let m = reached f c' front in
     let e = next_entry f (Queue 0) (Did answer.0) in
@@ -293,7 +293,7 @@ over_after : (h : Header) (n : ℕ) (q : QueueState) (figures : List (List Fig))
     let e : Entry = record { owner = Queue 0; lane = 0; prev = n; what = Over } in
     let c' = record c { form = Done; kind = Some Idle; cpu = 0 } in
     let m = small_machine h n q figures c' places in
-    after m e ≡ small_machine h (n + 1) (end_turn q c.at) (after m e).figures (drew (Queue 0) (entries_at m 0 + 1) (rests c')) places
+    after m e ≡ small_machine h (n + 1) (end_turn q c.at) (after m e).figures (drew (Queue 0) (entries_at m 0 + 1) (comes_to_rest c')) places
 unfolding after sight course_after queue_after turn_ends
 over_after h n q figures c places = refl
 
@@ -309,7 +309,7 @@ over_drawn f at b turning is =
     let front = subst (λ (x : Course). IsFront f x) (at_turn turning.course Done at turning.turn) turning.front in
     let m = reached f c front in
     let e = next_entry f (Queue 0) Over in
-    let c' = drew (Queue 0) (entries_at m 0 + 1) (rests c) in
+    let c' = drew (Queue 0) (entries_at m 0 + 1) (comes_to_rest c) in
     record {
       course = c';
       front = drawn f c c' b (Queue 0) Over (after m e).figures front.places front
@@ -340,6 +340,6 @@ end_drawn f rest =
     let e = next_entry f (Lane 0) (End no_cpus) in
     let added = may_be_added m e (end_breaks h n q front.figures c front.places front.calm) in
     record {
-      legal = (may_follow_one es e (start h) front.legal (rw front.leaves added), ap (λ (x : Machine). x.ended) (run_one es e (start h) ∙ ap (λ (x : Machine). after x e) front.leaves) ∙ end_after h n q front.figures c front.places);
+      legal = (may_follow_one es e (start h) front.legal (rw front.leaves added), ap (λ (x : MachineState). x.ended) (run_one es e (start h) ∙ ap (λ (x : MachineState). after x e) front.leaves) ∙ end_after h n q front.figures c front.places);
       serial = serial_one es e (start h) front.serial refl;
     }

@@ -13,7 +13,7 @@ use Rattle.lb_core.specs.declared.entry.Owner.TheVariants.{Queue}
 use Rattle.lb_core.specs.declared.place.Place.{Place}
 use Rattle.lb_core.specs.declared.place.Place.TheVariants.{Awake as AwakeAt, Asleep as AsleepAt, Gone as GoneAt, Hand as HandOf}
 use Rattle.lb_core.specs.Same.{same_place}
-use Rattle.lb_core.specs.Machine.{Machine, place_at}
+use Rattle.lb_core.specs.Machine.{MachineState, place_at}
 use Rattle.lb_core.specs.Elsewhere.{is_at}
 use Rattle.lb_core.specs.Placed.{times, is_its_place, IsPlaced}
 use Rattle.lb_serial.specs.Fronts.{small_machine}
@@ -56,10 +56,10 @@ same_place_itself (AsleepAt cpu) = eq-eqb cpu cpu refl
 same_place_itself (GoneAt cpu) = eq-eqb cpu cpu refl
 same_place_itself (HandOf lane) = eq-eqb lane lane refl
 
-its_place : (m : Machine) (t : ℕ) → t < length m.places → is_its_place m (place_at m t) t ≡ true
+its_place : (m : MachineState) (t : ℕ) → t < length m.places → is_its_place m (place_at m t) t ≡ true
 its_place m t lt = rw (lt-ltb t (length m.places) lt) (same_place_itself (place_at m t))
 
-once : (m : Machine) (t : ℕ) → IsPlaced m → t < length m.header.tasks → times m (place_at m t) t ≡ 1
+once : (m : MachineState) (t : ℕ) → IsPlaced m → t < length m.header.tasks → times m (place_at m t) t ≡ 1
 once m t placed lt = placed.once (place_at m t) t ∙ ap (λ (b : Bool). cond {A = ℕ} b 1 0) (its_place m t (let k = placed.mapped in omega arith))
 
 pub is_here : (h : Header) (n : ℕ) (q : QueueState) (figures : List (List Fig)) (c : Course) (places : List Place) (t : ℕ) → c.hand ≡ [] → IsPlaced (small_machine h n q figures c places) → t < length h.tasks → IsHere q (place_at (small_machine h n q figures c places) t) t

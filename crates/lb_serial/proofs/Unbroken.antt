@@ -31,7 +31,7 @@ use Rattle.lb_core.specs.Course.{task_of}
 use Rattle.lb_core.specs.Stage.{draws, stage_allows}
 use Rattle.lb_core.specs.QueueAfter.{answer_to}
 use Rattle.lb_core.specs.Rules.{is_undeclared}
-use Rattle.lb_core.specs.Machine.{Machine, sight, place_at}
+use Rattle.lb_core.specs.Machine.{MachineState, sight, place_at}
 use Rattle.lb_core.specs.Elsewhere.{ticked_elsewhere, first_pending, unserved}
 use Rattle.lb_core.specs.Step.{breaks, first_broken}
 use Rattle.lb_core.specs.Legal.{MayBeAdded}
@@ -41,7 +41,7 @@ use Rattle.lb_serial.proofs.Known.{IsHere}
 use Rattle.lb_serial.proofs.Replies.{stays, wake_here, sleep_here, exit_here}
 use Rattle.lb_serial.proofs.NoDomains.{no_domains}
 
-pub may_be_added : (m : Machine) (e : Entry) → ((r : Rule) → breaks m e r ≡ false) → MayBeAdded m e
+pub may_be_added : (m : MachineState) (e : Entry) → ((r : Rule) → breaks m e r ≡ false) → MayBeAdded m e
 unfolding first_broken
 may_be_added m e h = rw (h Prev, h Stage, h RowRule, h PlaceRule, h ReplyRule, h Version, h Figure, h DecisionRule, h Pick, h Flight, h CountersRule, h Owed, h EndRule) refl
 

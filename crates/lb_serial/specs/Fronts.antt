@@ -18,7 +18,7 @@ use Rattle.lb_core.specs.declared.entry.Owner.{Owner}
 use Rattle.lb_core.specs.declared.entry.What.{What}
 use Rattle.lb_core.specs.declared.history.History.{History}
 use Rattle.lb_core.specs.declared.place.Place.{Place}
-use Rattle.lb_core.specs.Machine.{Machine, start}
+use Rattle.lb_core.specs.Machine.{MachineState, start}
 use Rattle.lb_core.specs.Legal.{run, IsLegalFront, IsLegalHistory}
 use Rattle.lb_trace.specs.Accepted.{IsHeader}
 use Rattle.lb_core.specs.OfTrace.{rows_drawn}
@@ -47,7 +47,7 @@ pub record IsCalm (q : QueueState) : Type 0 where
 
 -- ---- the machine
 -- a machine of one CPU and one lane after n entries
-abbrev pub small_machine : Header → ℕ → QueueState → List (List Fig) → Course → List Place → Machine
+abbrev pub small_machine : Header → ℕ → QueueState → List (List Fig) → Course → List Place → MachineState
 small_machine h n q figures c places =
     record {
       header = h;

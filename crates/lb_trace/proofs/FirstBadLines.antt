@@ -5,7 +5,7 @@ use Rattle.lb_fields.specs.Parts.{parts}
 use Rattle.lb_trace.specs.declared.trace.Code.{Code}
 use Rattle.lb_trace.specs.declared.kind.LineKind.{LineKind}
 use Rattle.lb_trace.specs.declared.reading.Reading.{Reading}
-use Rattle.lb_trace.specs.Kinds.{kind_of}
+use Rattle.lb_trace.specs.Kinds.{line_kind}
 use Rattle.lb_trace.specs.Tests.{Tests, byte_tests, kind_tests, line_tests, end_tests}
 use Rattle.lb_trace.specs.Grammar.{◌>>=◌, line_at, ended, on_line, lines_from, after_line}
 use Rattle.lb_trace.specs.FirstBad.{or_as_before, next_tests, is_bad, IsFirstCode}
@@ -47,8 +47,8 @@ pub line_next : (r s : Reading) (line : List ℕ) → line_at r false line ≡ O
 unfolding line_at line_tests
 line_next r s line e =
     let fields = parts 44 line in
-    let h = passes (line_tests r false line) (after_line r (kind_of fields) fields) s e in
-    ap (λ (t : Reading). t.line) h.same ∙ next_line r (byte_tests r false line) (kind_of fields) fields h.good
+    let h = passes (line_tests r false line) (after_line r (line_kind fields) fields) s e in
+    ap (λ (t : Reading). t.line) h.same ∙ next_line r (byte_tests r false line) (line_kind fields) fields h.good
 
 pub line_bad : (r : Reading) (cut : Bool) (line : List ℕ) (code : Code) → line_at r cut line ≡ Err code
     → IsFirstCode (line_tests r cut line) code

@@ -7,7 +7,7 @@ use Rattle.lb_trace.specs.declared.trace.TheConstants.{MAX_BYTES}
 use Rattle.lb_trace.specs.declared.kind.LineKind.{LineKind}
 use Rattle.lb_trace.specs.declared.kind.LineKind.TheVariants as kinds
 use Rattle.lb_trace.specs.declared.reading.Reading.{Reading}
-use Rattle.lb_trace.specs.Kinds.{kind_of}
+use Rattle.lb_trace.specs.Kinds.{line_kind}
 use Rattle.lb_trace.specs.Tests.{byte_tests, kind_tests, line_tests}
 use Rattle.lb_trace.specs.Grammar.{after, after_line, line_at, nothing_read, trace_of}
 use Rattle.lb_trace.specs.FirstBad.{is_bad}
@@ -64,6 +64,6 @@ unfolding line_at line_tests
 sound_line r s line short h e =
     let fields = parts COMMA line in
     let few = few_fields COMMA line in
-    let passed = passes (line_tests r false line) (after_line r (kind_of fields) fields) s e in
+    let passed = passes (line_tests r false line) (after_line r (line_kind fields) fields) s e in
     let good = (both_good (byte_tests r false line) _ passed.good).1 in
-    subst IsSound (sym passed.same) (sound_kind r (kind_of fields) fields (omega (arith, few, short)) h good)
+    subst IsSound (sym passed.same) (sound_kind r (line_kind fields) fields (omega (arith, few, short)) h good)

@@ -15,7 +15,7 @@ use Rattle.lb_trace.specs.declared.line_error.LineError.TheVariants as faults
 use Rattle.lb_trace.specs.declared.kind.LineKind.{LineKind}
 use Rattle.lb_trace.specs.declared.kind.LineKind.TheVariants as kinds
 use Rattle.lb_trace.specs.declared.reading.Reading.{Reading}
-use Rattle.lb_trace.specs.Kinds.{kind_of}
+use Rattle.lb_trace.specs.Kinds.{line_kind}
 use Rattle.lb_trace.specs.Values.{number, lanes_in, cpu_of, distances_in, masks_from, task_of, row_of}
 use Rattle.lb_trace.specs.Tests.{unless_bad, value_tests, line_tests, end_tests}
 
@@ -46,7 +46,7 @@ after_line r (Some kind) fields = after r kind fields
 
 -- what was read with a line more, or the line's first code
 unfoldable pub line_at : Reading → Bool → List ℕ → Result Reading Code
-line_at r cut line = unless_bad (line_tests r cut line) (after_line r (kind_of (parts COMMA line)) (parts COMMA line))
+line_at r cut line = unless_bad (line_tests r cut line) (after_line r (line_kind (parts COMMA line)) (parts COMMA line))
 
 -- the text ends here
 unfoldable pub ended : Reading → Result Reading Code

@@ -34,5 +34,5 @@ abbrev pub kind_named : List ℕ → Option LineKind
 kind_named word = kind_beside word words
 
 -- the kind of a line, by its fields
-unfoldable pub kind_of : List (List ℕ) → Option LineKind
-kind_of fields = option_and_then kind_named (field_at fields 0)
+unfoldable pub line_kind : List (List ℕ) → Option LineKind
+line_kind fields = option_and_then kind_named (field_at fields 0)

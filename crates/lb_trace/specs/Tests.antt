@@ -8,7 +8,7 @@ use Rattle.lb_trace.specs.declared.trace.Code.{Code}
 use Rattle.lb_trace.specs.declared.trace.Code.TheVariants as bad
 use Rattle.lb_trace.specs.declared.kind.LineKind.{LineKind}
 use Rattle.lb_trace.specs.declared.reading.Reading.{Reading}
-use Rattle.lb_trace.specs.Kinds.{kind_of}
+use Rattle.lb_trace.specs.Kinds.{line_kind}
 use Rattle.lb_trace.specs.Places.{is_first, can_stand, is_past_rows, has_fields}
 use Rattle.lb_trace.specs.Spelling.{misspells_number, misspells_list}
 use Rattle.lb_trace.specs.Naming.{misnames, names_no_cpu, overlaps, masks_badly, ticks_badly}
@@ -61,7 +61,7 @@ kind_tests r (Some kind) fields = place_tests r kind fields ++ value_tests r kin
 
 -- all of a line's tests
 unfoldable pub line_tests : Reading → Bool → List ℕ → Tests
-line_tests r cut line = byte_tests r cut line ++ kind_tests r (kind_of (parts COMMA line)) (parts COMMA line)
+line_tests r cut line = byte_tests r cut line ++ kind_tests r (line_kind (parts COMMA line)) (parts COMMA line)
 
 -- those of a text that ends here
 unfoldable pub end_tests : Reading → Tests

@@ -1,6 +1,6 @@
 ghost use Rattle.std.specs.Prelude.{◌≡◌};
 ghost use Rattle.csv.specs.Records.{fields_of};
-ghost use Rattle.lb_trace.specs.Kinds.{kind_named, kind_of};
+ghost use Rattle.lb_trace.specs.Kinds.{kind_named, line_kind};
 
 use csv::ByteRecord;
 
@@ -64,9 +64,9 @@ fn kind_named(word: &[u8]) -> Option<LineKind>
 }
 
 /// The kind of a line, by its fields.
-#[tactic(auto, unfolding(crate::specs::Kinds::kind_of))]
-pub fn kind_of(fields: &ByteRecord) -> Option<LineKind>
-    ensures { result ≡ kind_of (fields_of fields.now) }
+#[tactic(auto, unfolding(crate::specs::Kinds::line_kind))]
+pub fn line_kind(fields: &ByteRecord) -> Option<LineKind>
+    ensures { result ≡ line_kind (fields_of fields.now) }
 {
     let word = fields.get(0)?;
     kind_named(word)

@@ -5,14 +5,14 @@ ghost use Rattle.lb_fields.specs.Parts.{is_plain};
 ghost use Rattle.lb_fields.specs.Standing.{Stands};
 ghost use Rattle.lb_trace.specs.declared.kind.LineKind.TheVariants as kinds;
 ghost use Rattle.lb_trace.specs.declared.reading.Reading.{Reading as Read};
-ghost use Rattle.lb_trace.specs.Kinds.{kind_of};
+ghost use Rattle.lb_trace.specs.Kinds.{line_kind};
 ghost use Rattle.lb_trace.specs.Places.{has_machine, can_stand, is_past_rows, row_has_fields, has_fields};
 ghost use Rattle.lb_trace.specs.Tests.{Tests, unless_bad, byte_tests, kind_tests};
 ghost use Rattle.lb_trace.specs.Grammar.{after_line, line_at, ended, nothing_read, Steps, TakesLine};
 ghost use Rattle.lb_trace.specs.Sound.{IsSound};
 ghost use Rattle.lb_trace.specs.Ticked.{AreTicked};
 
-use crate::kind::{LineKind, RowKind, kind_of};
+use crate::kind::{LineKind, RowKind, line_kind};
 use crate::line_error::LineError;
 use crate::machine::nodes_of;
 use crate::trace::{Code, CpuRows, Distances, MAX_ROWS, MAX_TASKS, Masks, Rows, TaskRows};
@@ -181,11 +181,11 @@ impl Reading {
         requires sound { IsSound self.old }
         requires lanes { length ticked.old ≡ MAX_CPUS }
         requires ticked { AreTicked self.old.rows ticked.old }
-        ensures step { Steps result self.new (unless_bad (kind_tests self.old (kind_of (fields_of fields.now)) (fields_of fields.now))
-            (after_line self.old (kind_of (fields_of fields.now)) (fields_of fields.now))) }
+        ensures step { Steps result self.new (unless_bad (kind_tests self.old (line_kind (fields_of fields.now)) (fields_of fields.now))
+            (after_line self.old (line_kind (fields_of fields.now)) (fields_of fields.now))) }
         ensures ticked { OnOk result (AreTicked self.new.rows ticked.new) }
     {
-        let kind = kind_of(fields).ok_or(Code::Kind)?;
+        let kind = line_kind(fields).ok_or(Code::Kind)?;
         if !self.can_stand(kind) {
             return Err(LineError::Bad(Code::Order));
         }

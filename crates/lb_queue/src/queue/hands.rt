@@ -16,7 +16,7 @@ use lb_pelt::Run;
 impl Queue {
     ghost use Rattle.lb_queue.specs.Tasks.{ids};
     ghost use Rattle.lb_queue.specs.Queue.{away, knows};
-    ghost use Rattle.lb_queue.specs.Hands.{loaded, leave, take_stop, stop_to, pushed, take_push, pull, taken_by, land};
+    ghost use Rattle.lb_queue.specs.Hands.{loaded, leave, take_stop, stop_to, pushed, take_push, take_pull, taken_by, land};
 
     /// A task that has to wake elsewhere leaves in a hand that goes there, and has room for it.
     pub fn leave(&mut self, at: u64, id: u32, hand: &mut Hand)
@@ -85,8 +85,8 @@ impl Queue {
         requires ids_room { length self.old.state.awake ≤ vec_capacity picked.old.ids }
         requires order_room { length self.old.state.awake ≤ vec_capacity picked.old.order }
         ensures answer { result ≡ taken_by self.old.state at env.now }
-        ensures step { self.new.state ≡ (pull self.old.state at env.now).1 }
-        ensures hand { hand.new ≡ loaded self.old.state at (pull self.old.state at env.now).0 hand.old }
+        ensures step { self.new.state ≡ (take_pull self.old.state at env.now).1 }
+        ensures hand { hand.new ≡ loaded self.old.state at (take_pull self.old.state at env.now).0 hand.old }
         ensures ids_capacity { vec_capacity picked.new.ids ≡ vec_capacity picked.old.ids }
         ensures order_capacity { vec_capacity picked.new.order ≡ vec_capacity picked.old.order }
         ensures booked { self.new.booked ≡ self.old.booked }

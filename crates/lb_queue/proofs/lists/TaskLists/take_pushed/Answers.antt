@@ -11,7 +11,7 @@ use Rattle.lb_queue.proofs.lists.TaskLists.take_pushed.Goals as goal
 pub returns-in-Some-clause-permitted : goal.returns-in-Some-clause-permitted
 returns-in-Some-clause-permitted c =
     let l = the_view c.self.inside in
-    let seen = c.deref-2.ensures.value ∙ c.look.ensures.items
+    let seen = c.deref-2.ensures.value ∙ c.fill_views.ensures.items
     ∙ ap (λ (xs : List Awake). map (view_at c.args.clock) (reverse xs)) c.deref.ensures.value in
     pushed_there c.args.to c.args.clock c.args.clock l.awake c.in-Some.id c.take_awake.result
     (once_turned l.awake l.asleep l.gone c.self.invariant.sound)

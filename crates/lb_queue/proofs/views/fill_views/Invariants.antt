@@ -1,6 +1,6 @@
 use Rattle.std.proofs.Common.{◌≡◌, vec_capacity, vec_len, take, map}
 use Rattle.lb_queue.specs.Values.{view_at}
-use Rattle.lb_queue.proofs.pulls.look.Given as goal
+use Rattle.lb_queue.proofs.views.fill_views.Given as goal
 
 abbrev pub invariant-loop-a : goal.invariant-loop-a
 invariant-loop-a l = (l.views.items ≡ map (view_at l.now) (take l.a-index l.awake)) × (vec_len l.views ≡ l.a-index)

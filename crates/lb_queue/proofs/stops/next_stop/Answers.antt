@@ -1,7 +1,7 @@
 use Rattle.std.proofs.Common.{◌∙◌, sym, ap}
 use Rattle.lb_queue.specs.Requests.{stop_of}
 use Rattle.lb_queue.proofs.Leasts.{next_is, next_none, all_go}
-use Rattle.lb_queue.proofs.asked.next_stop.Goals as goal
+use Rattle.lb_queue.proofs.stops.next_stop.Goals as goal
 
 pub returns-in-Some-clause-value : goal.returns-in-Some-clause-value
 returns-in-Some-clause-value c = c.stop_of.ensures.value

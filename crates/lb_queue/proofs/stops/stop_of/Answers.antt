@@ -6,7 +6,7 @@ use Rattle.lb_queue.specs.Requests.{stop_of}
 use Rattle.lb_queue.proofs.Search.{find_of_position, find_of_no_position}
 use Rattle.lb_queue.proofs.Turned.{find_turned}
 use Rattle.lb_queue.proofs.Ids.{key}
-use Rattle.lb_queue.proofs.asked.stop_of.Goals as goal
+use Rattle.lb_queue.proofs.stops.stop_of.Goals as goal
 
 pub returns-in-Some-clause-value : goal.returns-in-Some-clause-value
 returns-in-Some-clause-value c =

@@ -2,7 +2,7 @@ use Rattle.std.proofs.Common.{◌∙◌, ◌==◌, ℕ, ap, List}
 use Rattle.std.specs.Prelude.{unwrap_or, option_and_then, position, slice_get, length, ◌-◌}
 use Rattle.lb_queue.specs.declared.awake.Awake.{Awake}
 use Rattle.lb_queue.proofs.Order.{order_set}
-use Rattle.lb_queue.proofs.pulls.set_order.Goals as goal
+use Rattle.lb_queue.proofs.views.set_order.Goals as goal
 
 pub returns-clause-items : goal.returns-clause-items
 returns-clause-items c =

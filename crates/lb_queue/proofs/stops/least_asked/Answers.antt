@@ -1,5 +1,5 @@
 use Rattle.lb_queue.proofs.Leasts.{least_more}
-use Rattle.lb_queue.proofs.asked.least_asked.Goals as goal
+use Rattle.lb_queue.proofs.stops.least_asked.Goals as goal
 
 pub loop-a-preserved : goal.loop-a-preserved
 loop-a-preserved c =

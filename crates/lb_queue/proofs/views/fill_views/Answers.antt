@@ -1,7 +1,7 @@
 use Rattle.std.proofs.Common.{◌∙◌, map, reverse, sym, ap, take_all}
 use Rattle.lb_queue.specs.Values.{view_at}
 use Rattle.lb_queue.proofs.Turned.{map_reverse}
-use Rattle.lb_queue.proofs.pulls.look.Goals as goal
+use Rattle.lb_queue.proofs.views.fill_views.Goals as goal
 
 pub returns-clause-items : goal.returns-clause-items
 returns-clause-items c =

@@ -10,7 +10,7 @@ use lb_base::TaskView;
 
 // What a pull at a moment sees of the awake tasks, from the front to the back. They are kept from the
 // back to the front.
-pub(crate) fn look(views: &mut Vec<TaskView>, awake: &[Awake], now: u64)
+pub(crate) fn fill_views(views: &mut Vec<TaskView>, awake: &[Awake], now: u64)
     requires { length awake.now ≤ vec_capacity views.old }
     ensures items { views.new.items ≡ map (view_at now) (reverse awake.now) }
     ensures capacity { vec_capacity views.new ≡ vec_capacity views.old }
