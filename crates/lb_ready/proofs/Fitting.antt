@@ -32,7 +32,7 @@ use Rattle.lb_core.specs.Sight.{Sight, tickless_in}
 use Rattle.lb_core.specs.Stage.{draws}
 use Rattle.lb_core.specs.QueueAfter.{cause_of}
 use Rattle.lb_core.specs.Step.{ended_after}
-use Rattle.lb_core.specs.CourseAfter.{excluding, raised_numbers, comes_to_rest, is_due_at, goes_to, turn_ends_by, turn_ends, course_by, drew, takes_off, names}
+use Rattle.lb_core.specs.CourseAfter.{excluding, raised_numbers, comes_to_rest, is_due_at, goes_to, turn_ends_by, turn_ends, course_by, drew, takes_off, raised_numbers}
 use Rattle.lb_core.specs.Leaving.{Leaving}
 use Rattle.lb_core.proofs.EmptyHands.{is_out}
 use Rattle.lb_ready.specs.Ready.{unnamed, KeepsLocal, Names, FitsForm, IsOfMachine, Speaks, Fits, local_group, PullsSparing, Spares}
@@ -179,7 +179,7 @@ pub spares_after : (f : Form) (h : Header) (s : Sight) (lane cpu : ℕ) (now : Q
 unfolding draws turn_ends
 spares_after f h s lane cpu now (Look p x fs d) same y o l k = absurd (let z : ⊥ = cc in z)
 spares_after f h s lane cpu now (Out cause to ids) same y o l k = absurd (let z : ⊥ = cc in z)
-spares_after f h s lane cpu now (Scan fs t) same y o l k = scanned_by (KeepsLocal h) t (record s.course { figures = s.figs; named = names fs s.course.named }) tt (λ u e. tt)
+spares_after f h s lane cpu now (Scan fs t) same y o l k = scanned_by (KeepsLocal h) t (record s.course { figures = s.figs; named = raised_numbers fs s.course.named }) tt (λ u e. tt)
 spares_after f h s lane cpu now (Did r) same y o l k = answered_by (KeepsLocal h) s.course.command cpu s.queue now s.course tt tt (λ u e. tt)
 spares_after Flight h s lane cpu now (Landed ids) same y o l k = lands_by (KeepsLocal h) (cause_of s.course) s.course tt (λ t. tt) (λ i. let z : PullsSparing PullOut h (unnamed s.course) = subst (λ (x : OutCause). PullsSparing x h (unnamed s.course)) i k in λ j q. more_excluded (is_all_pinned s.course.taken) (local_group h s.course) s.course.excluded (source_of s.course.decision) j (z.0 j q) z.1 q)
 spares_after f h s lane cpu now (Landed ids) same y o l k = absurd (let z : ⊥ = cc in z)

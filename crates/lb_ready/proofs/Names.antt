@@ -21,7 +21,7 @@ use Rattle.lb_core.specs.Course.{turn_kind, turn_domains, shapes_of, is_rebuild}
 use Rattle.lb_core.specs.Sight.{Sight}
 use Rattle.lb_core.specs.Leaving.{Leaving, leaving}
 use Rattle.lb_core.specs.QueueAfter.{cause_of, queue_after}
-use Rattle.lb_core.specs.CourseAfter.{turn_ends, takes_off, scanned, course_by, names, drew, cpu_of, course_after}
+use Rattle.lb_core.specs.CourseAfter.{turn_ends, takes_off, scanned, course_by, raised_numbers, drew, cpu_of, course_after}
 use Rattle.lb_core.specs.Stage.{draws}
 use Rattle.lb_core.specs.Machine.{MachineState, course_at, figures_at, entries_at, owned_count, sight}
 use Rattle.lb_core.specs.Step.{after, versions_after}
@@ -76,7 +76,7 @@ pub scanned_names : (t : Option ℕ) (c : Course) → NamesAlike c (scanned t c)
 scanned_names t c = scanned_by (NamesAlike c) t c (itself c) (λ u e. itself c)
 
 -- ---- numbers
-names_under : (fs : List FigName) (named : List ℕ) (drawn : ℕ → ℕ) → list_any (λ (f : FigName). ltb (drawn f.cpu) f.n) fs ≡ false → Under named drawn → Under (names fs named) drawn
+names_under : (fs : List FigName) (named : List ℕ) (drawn : ℕ → ℕ) → list_any (λ (f : FigName). ltb (drawn f.cpu) f.n) fs ≡ false → Under named drawn → Under (raised_numbers fs named) drawn
 names_under [] named drawn a h = h
 names_under (f ∷ fs) named drawn a h =
     let p = or_parts (ltb (drawn f.cpu) f.n) _ a in
@@ -111,7 +111,7 @@ named_by m o lane prev (Look p x fs d) cpu now sizes h k = record { version = k.
 named_by m o lane prev (Scan fs t) cpu now sizes h k =
     let e = entry o lane prev (Scan fs t) in
     let s = sight m e in
-    let n = scanned_names t (record s.course { figures = s.figs; named = names fs s.course.named }) in
+    let n = scanned_names t (record s.course { figures = s.figs; named = raised_numbers fs s.course.named }) in
     record { version = rw n.newest_is k.version; numbers = rw n.numbers (names_under fs (course_at m.courses lane).named (entries_at m) (unbroken_elsewhere m e h Figure) k.figures) }
 named_by m o lane prev (Pub v) cpu now sizes h k =
     let e = entry o lane prev (Pub v) in
