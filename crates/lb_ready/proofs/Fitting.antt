@@ -32,7 +32,7 @@ use Rattle.lb_core.specs.Sight.{Sight, tickless_in}
 use Rattle.lb_core.specs.Stage.{draws}
 use Rattle.lb_core.specs.QueueAfter.{cause_of}
 use Rattle.lb_core.specs.Step.{ended_after}
-use Rattle.lb_core.specs.CourseAfter.{excluding, raised_numbers, comes_to_rest, is_due_at, goes_to, turn_ends_by, turn_ends, course_by, drew, takes_off, raised_numbers}
+use Rattle.lb_core.specs.CourseAfter.{excluding, raised_numbers, comes_to_rest, is_due_at, goes_to, turn_ends_by, turn_ends, course_by, drew, takes_off}
 use Rattle.lb_core.specs.Leaving.{Leaving}
 use Rattle.lb_core.proofs.EmptyHands.{is_out}
 use Rattle.lb_ready.specs.Ready.{unnamed, KeepsLocal, Names, FitsForm, IsOfMachine, Speaks, Fits, local_group, PullsSparing, Spares}
