@@ -18,7 +18,7 @@ use Rattle.lb_busiest.specs.Sources.{may_be_source, has_more, source_of}
 use Rattle.lb_imbalance.specs.Destination.{is_idle_in, first_idle, balancer_of}
 use Rattle.lb_imbalance.specs.Balance.{is_level}
 use Rattle.lb_imbalance.specs.Amount.{imbalance_of}
-use Rattle.lb_imbalance.specs.Decision.{all_stats, domain_average, take_pull as pull_of, pull_from_group, decision_over, decision}
+use Rattle.lb_imbalance.specs.Decision.{all_stats, domain_average, pull_or_balanced, pull_from_group, decision_over, decision}
 use Rattle.lb_levels.specs.Rows.{distances_of}
 use Rattle.lb_levels.specs.Spans.{levels_of, span_of}
 use Rattle.lb_domain.specs.Domains.{cut_span, firsts, is_kept, domains_of}
@@ -51,7 +51,7 @@ unfolding
     refuses task_at left_before refused_at taken refused free ends examined ids_at picked_ids kept_ids average_after
     is_tickless tickless_cpus idle_count any_marked stats_of is_busier may_be_busiest is_busier_at busiest_of
     may_be_source has_more source_of
-    is_idle_in first_idle balancer_of is_level imbalance_of all_stats domain_average pull_of pull_from_group decision_over decision
+    is_idle_in first_idle balancer_of is_level imbalance_of all_stats domain_average pull_or_balanced pull_from_group decision_over decision
     distances_of levels_of span_of cut_span firsts is_kept domains_of
     pick_back somebody_runs joined left_by away value_of view_at views figure wake sleep exit set_mask renice
     has_pending has_owed next_asked rotated tick ask_active kick leave take_stop pushed take_push in_order take_pull taken_by land
@@ -67,7 +67,7 @@ unfolding
     refuses task_at left_before refused_at taken refused free ends examined ids_at picked_ids kept_ids average_after
     is_tickless tickless_cpus idle_count any_marked stats_of is_busier may_be_busiest is_busier_at busiest_of
     may_be_source has_more source_of
-    is_idle_in first_idle balancer_of is_level imbalance_of all_stats domain_average pull_of pull_from_group decision_over decision
+    is_idle_in first_idle balancer_of is_level imbalance_of all_stats domain_average pull_or_balanced pull_from_group decision_over decision
     distances_of levels_of span_of cut_span firsts is_kept domains_of
     pick_back somebody_runs joined left_by away value_of view_at views figure wake sleep exit set_mask renice
     has_pending has_owed next_asked rotated tick ask_active kick leave take_stop pushed take_push in_order take_pull taken_by land
@@ -83,7 +83,7 @@ unfolding
     refuses task_at left_before refused_at taken refused free ends examined ids_at picked_ids kept_ids average_after
     is_tickless tickless_cpus idle_count any_marked stats_of is_busier may_be_busiest is_busier_at busiest_of
     may_be_source has_more source_of
-    is_idle_in first_idle balancer_of is_level imbalance_of all_stats domain_average pull_of pull_from_group decision_over decision
+    is_idle_in first_idle balancer_of is_level imbalance_of all_stats domain_average pull_or_balanced pull_from_group decision_over decision
     distances_of levels_of span_of cut_span firsts is_kept domains_of
     pick_back somebody_runs joined left_by away value_of view_at views figure wake sleep exit set_mask renice
     has_pending has_owed next_asked rotated tick ask_active kick leave take_stop pushed take_push in_order take_pull taken_by land
@@ -99,7 +99,7 @@ unfolding
     refuses task_at left_before refused_at taken refused free ends examined ids_at picked_ids kept_ids average_after
     is_tickless tickless_cpus idle_count any_marked stats_of is_busier may_be_busiest is_busier_at busiest_of
     may_be_source has_more source_of
-    is_idle_in first_idle balancer_of is_level imbalance_of all_stats domain_average pull_of pull_from_group decision_over decision
+    is_idle_in first_idle balancer_of is_level imbalance_of all_stats domain_average pull_or_balanced pull_from_group decision_over decision
     distances_of levels_of span_of cut_span firsts is_kept domains_of
     pick_back somebody_runs joined left_by away value_of view_at views figure wake sleep exit set_mask renice
     has_pending has_owed next_asked rotated tick ask_active kick leave take_stop pushed take_push in_order take_pull taken_by land
@@ -115,7 +115,7 @@ unfolding
     refuses task_at left_before refused_at taken refused free ends examined ids_at picked_ids kept_ids average_after
     is_tickless tickless_cpus idle_count any_marked stats_of is_busier may_be_busiest is_busier_at busiest_of
     may_be_source has_more source_of
-    is_idle_in first_idle balancer_of is_level imbalance_of all_stats domain_average pull_of pull_from_group decision_over decision
+    is_idle_in first_idle balancer_of is_level imbalance_of all_stats domain_average pull_or_balanced pull_from_group decision_over decision
     distances_of levels_of span_of cut_span firsts is_kept domains_of
     pick_back somebody_runs joined left_by away value_of view_at views figure wake sleep exit set_mask renice
     has_pending has_owed next_asked rotated tick ask_active kick leave take_stop pushed take_push in_order take_pull taken_by land
@@ -131,7 +131,7 @@ unfolding
     refuses task_at left_before refused_at taken refused free ends examined ids_at picked_ids kept_ids average_after
     is_tickless tickless_cpus idle_count any_marked stats_of is_busier may_be_busiest is_busier_at busiest_of
     may_be_source has_more source_of
-    is_idle_in first_idle balancer_of is_level imbalance_of all_stats domain_average pull_of pull_from_group decision_over decision
+    is_idle_in first_idle balancer_of is_level imbalance_of all_stats domain_average pull_or_balanced pull_from_group decision_over decision
     distances_of levels_of span_of cut_span firsts is_kept domains_of
     pick_back somebody_runs joined left_by away value_of view_at views figure wake sleep exit set_mask renice
     has_pending has_owed next_asked rotated tick ask_active kick leave take_stop pushed take_push in_order take_pull taken_by land
@@ -147,7 +147,7 @@ unfolding
     refuses task_at left_before refused_at taken refused free ends examined ids_at picked_ids kept_ids average_after
     is_tickless tickless_cpus idle_count any_marked stats_of is_busier may_be_busiest is_busier_at busiest_of
     may_be_source has_more source_of
-    is_idle_in first_idle balancer_of is_level imbalance_of all_stats domain_average pull_of pull_from_group decision_over decision
+    is_idle_in first_idle balancer_of is_level imbalance_of all_stats domain_average pull_or_balanced pull_from_group decision_over decision
     distances_of levels_of span_of cut_span firsts is_kept domains_of
     pick_back somebody_runs joined left_by away value_of view_at views figure wake sleep exit set_mask renice
     has_pending has_owed next_asked rotated tick ask_active kick leave take_stop pushed take_push in_order take_pull taken_by land
@@ -163,7 +163,7 @@ unfolding
     refuses task_at left_before refused_at taken refused free ends examined ids_at picked_ids kept_ids average_after
     is_tickless tickless_cpus idle_count any_marked stats_of is_busier may_be_busiest is_busier_at busiest_of
     may_be_source has_more source_of
-    is_idle_in first_idle balancer_of is_level imbalance_of all_stats domain_average pull_of pull_from_group decision_over decision
+    is_idle_in first_idle balancer_of is_level imbalance_of all_stats domain_average pull_or_balanced pull_from_group decision_over decision
     distances_of levels_of span_of cut_span firsts is_kept domains_of
     pick_back somebody_runs joined left_by away value_of view_at views figure wake sleep exit set_mask renice
     has_pending has_owed next_asked rotated tick ask_active kick leave take_stop pushed take_push in_order take_pull taken_by land
@@ -179,7 +179,7 @@ unfolding
     refuses task_at left_before refused_at taken refused free ends examined ids_at picked_ids kept_ids average_after
     is_tickless tickless_cpus idle_count any_marked stats_of is_busier may_be_busiest is_busier_at busiest_of
     may_be_source has_more source_of
-    is_idle_in first_idle balancer_of is_level imbalance_of all_stats domain_average pull_of pull_from_group decision_over decision
+    is_idle_in first_idle balancer_of is_level imbalance_of all_stats domain_average pull_or_balanced pull_from_group decision_over decision
     distances_of levels_of span_of cut_span firsts is_kept domains_of
     pick_back somebody_runs joined left_by away value_of view_at views figure wake sleep exit set_mask renice
     has_pending has_owed next_asked rotated tick ask_active kick leave take_stop pushed take_push in_order take_pull taken_by land
@@ -195,7 +195,7 @@ unfolding
     refuses task_at left_before refused_at taken refused free ends examined ids_at picked_ids kept_ids average_after
     is_tickless tickless_cpus idle_count any_marked stats_of is_busier may_be_busiest is_busier_at busiest_of
     may_be_source has_more source_of
-    is_idle_in first_idle balancer_of is_level imbalance_of all_stats domain_average pull_of pull_from_group decision_over decision
+    is_idle_in first_idle balancer_of is_level imbalance_of all_stats domain_average pull_or_balanced pull_from_group decision_over decision
     distances_of levels_of span_of cut_span firsts is_kept domains_of
     pick_back somebody_runs joined left_by away value_of view_at views figure wake sleep exit set_mask renice
     has_pending has_owed next_asked rotated tick ask_active kick leave take_stop pushed take_push in_order take_pull taken_by land
@@ -211,7 +211,7 @@ unfolding
     refuses task_at left_before refused_at taken refused free ends examined ids_at picked_ids kept_ids average_after
     is_tickless tickless_cpus idle_count any_marked stats_of is_busier may_be_busiest is_busier_at busiest_of
     may_be_source has_more source_of
-    is_idle_in first_idle balancer_of is_level imbalance_of all_stats domain_average pull_of pull_from_group decision_over decision
+    is_idle_in first_idle balancer_of is_level imbalance_of all_stats domain_average pull_or_balanced pull_from_group decision_over decision
     distances_of levels_of span_of cut_span firsts is_kept domains_of
     pick_back somebody_runs joined left_by away value_of view_at views figure wake sleep exit set_mask renice
     has_pending has_owed next_asked rotated tick ask_active kick leave take_stop pushed take_push in_order take_pull taken_by land
@@ -227,7 +227,7 @@ unfolding
     refuses task_at left_before refused_at taken refused free ends examined ids_at picked_ids kept_ids average_after
     is_tickless tickless_cpus idle_count any_marked stats_of is_busier may_be_busiest is_busier_at busiest_of
     may_be_source has_more source_of
-    is_idle_in first_idle balancer_of is_level imbalance_of all_stats domain_average pull_of pull_from_group decision_over decision
+    is_idle_in first_idle balancer_of is_level imbalance_of all_stats domain_average pull_or_balanced pull_from_group decision_over decision
     distances_of levels_of span_of cut_span firsts is_kept domains_of
     pick_back somebody_runs joined left_by away value_of view_at views figure wake sleep exit set_mask renice
     has_pending has_owed next_asked rotated tick ask_active kick leave take_stop pushed take_push in_order take_pull taken_by land
@@ -243,7 +243,7 @@ unfolding
     refuses task_at left_before refused_at taken refused free ends examined ids_at picked_ids kept_ids average_after
     is_tickless tickless_cpus idle_count any_marked stats_of is_busier may_be_busiest is_busier_at busiest_of
     may_be_source has_more source_of
-    is_idle_in first_idle balancer_of is_level imbalance_of all_stats domain_average pull_of pull_from_group decision_over decision
+    is_idle_in first_idle balancer_of is_level imbalance_of all_stats domain_average pull_or_balanced pull_from_group decision_over decision
     distances_of levels_of span_of cut_span firsts is_kept domains_of
     pick_back somebody_runs joined left_by away value_of view_at views figure wake sleep exit set_mask renice
     has_pending has_owed next_asked rotated tick ask_active kick leave take_stop pushed take_push in_order take_pull taken_by land
