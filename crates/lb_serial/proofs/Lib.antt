@@ -1,9 +1,3 @@
-pub mod Appending
-pub mod NoDomains
-pub mod CalmQueues
-pub mod Known
-pub mod Replies
-pub mod Unbroken
-pub mod Drawing
+pub mod Next
+pub mod Turns
 pub mod Starting
-pub mod Trials

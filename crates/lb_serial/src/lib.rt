@@ -2,10 +2,7 @@
 //! before the next is taken up (docs/rules/lanes.md).
 #![tactic(auto)]
 
-mod front;
+mod history;
 mod run;
 
-pub use run::serial;
-
-#[cfg(test)]
-mod tests;
+pub use history::serial;

@@ -1,60 +1,85 @@
-//! The serial run.
-ghost use Rattle.std.specs.Prelude.{◌≡◌, ◌≤◌, [], length, All, IfOk};
-ghost use Rattle.lb_queue.specs.Queue.{empty_queue};
-ghost use Rattle.lb_core.specs.Machine.{tasks_at};
-ghost use Rattle.lb_serial.specs.Served.{IsServed, IsServedTask};
-ghost use Rattle.lb_serial.specs.Fronts.{IsAtRest};
-ghost use Rattle.lb_core.specs.Serial.{IsSerialHistory};
+//! The entries that were drawn so far, and the state that they leave.
+ghost use Rattle.std.specs.Prelude.{◌≡◌, ◌<◌, ◌+◌, [], ◌∷◌, drop, length, IfOk, OnOk, IsTrue, ◌↔◌, option_copied, true};
+ghost use Rattle.lb_trace.specs.Accepted.{IsHeader};
+ghost use Rattle.lb_core.specs.declared.entry.Entry.{Entry};
+ghost use Rattle.lb_core.specs.Machine.{start};
+ghost use Rattle.lb_ready.specs.Laws.{OthersRest, is_at_rest};
+ghost use Rattle.lb_state.specs.Drawn.{IsDrawn};
 
-use crate::front::Front;
 use lb_base::{Items, NoMemory};
-use lb_core::History;
-use lb_queue::Queue;
-use lb_trace::{MAX_TASKS, TaskRow, Trace};
+use lb_core::{Form, History};
+use lb_state::State;
+use lb_trace::{Header, Row, Trace};
 use std::alloc::Global;
 
-// The queue of CPU 0 before any entry: each task sleeps there.
-fn opening_queue(alloc: Global, tasks: &[TaskRow]) -> Result<Queue, NoMemory>
-    requires tasks { All IsServedTask tasks.now }
-    requires most { length tasks.now ≤ MAX_TASKS }
-    ensures { IfOk result (λ q. q.state ≡ record (empty_queue 0 1) { asleep = tasks_at 0 0 tasks.now }) }
-{
-    let mut queue = Queue::new(alloc, 0, 1)?;
-    for (i, task) in tasks.iter().enumerate() {
-        queue.declare(i as u32, task.nice, task.mask)?;
-    }
-    Ok(queue)
+/// A front of a serial history, and the state of the machine after it.
+#[derive(Drop)]
+pub struct Run {
+    pub history: History,
+    pub state: State,
 }
 
-// The front without entries.
-fn start(alloc: Global, trace: &Trace) -> Result<Front, NoMemory>
-    requires { IsServed trace.now }
-    ensures rest { IfOk result (λ f. IsAtRest f) }
-    ensures entries { IfOk result (λ f. f.history.entries ≡ []) }
-    ensures header { IfOk result (λ f. f.history.header ≡ trace.now.header) }
-{
-    Ok(Front {
-        history: History {
-            header: trace.header.copy(alloc)?,
-            entries: Items::new(alloc),
-        },
-        queue: opening_queue(alloc, trace.header.tasks.as_slice())?,
-    })
-}
+impl Run {
+    ghost use Rattle.lb_serial.specs.Fronts.{with_entry, IsAtRest};
 
-/// The serial history of a trace: the rows in file order, each with all that follows it up to rest,
-/// and the end (docs/rules/lanes.md). It serves the traces of one CPU and one lane whose rows wake,
-/// put to sleep or end tasks.
-pub fn serial(alloc: Global, trace: &Trace) -> Result<History, NoMemory>
-    requires { IsServed trace.now }
-    ensures { IfOk result (λ history. IsSerialHistory trace.now history) }
-{
-    let mut front = start(alloc, trace)?;
-    for (i, row) in trace.rows.as_slice().iter().enumerate() {
-        front.serve(alloc, i as u64 + 1, row)?;
+    /// Nothing is drawn yet.
+    pub fn start(alloc: Global, header: &Header) -> Result<Run, NoMemory>
+        requires { IsHeader header.now }
+        ensures { IfOk result (λ run. run ≡ record { history = record { header = header.now; entries = [] }; state = start header.now }) }
+    {
+        Ok(Run {
+            history: History {
+                header: header.copy(alloc)?,
+                entries: Items::new(alloc),
+            },
+            state: State::start(alloc, header)?,
+        })
     }
-    front.end()?;
-    let Front { history, queue } = front;
-    drop(queue);
-    Ok(history)
+
+    /// The lane draws its next entry; at rest it takes up this row, if one is given. The other lanes
+    /// rest.
+    pub fn draw(&mut self, alloc: Global, lane: u32, row: Option<&Row>) -> Result<(), NoMemory>
+        requires lane { lane < length self.old.state.courses }
+        requires others { OthersRest self.old.state lane }
+        ensures { (e : Entry) → IsDrawn self.old.state lane (option_copied row.entry) e → OnOk result (self.new ≡ with_entry self.old e) }
+    {
+        match self.state.draw(alloc, lane, row)? {
+            Some(entry) => self.history.entries.push(entry),
+            None => Ok(()),
+        }
+    }
+
+    // Whether the lane has no row in service.
+    fn is_at_rest(&self, lane: u32) -> bool
+        requires { lane < length self.now.state.courses }
+        ensures { result ≡ is_at_rest self.now.state lane }
+    {
+        matches!(self.state.course(lane).form, Form::Rest)
+    }
+
+    // Serves the row of the trace at this place, from 0: its lane takes it up, and goes on until it rests.
+    fn serve(&mut self, alloc: Global, trace: &Trace, place: usize) -> Result<(), NoMemory>
+        requires place { place < length trace.now.rows }
+        requires rest { IsAtRest trace.now (drop place trace.now.rows) self.old }
+        ensures { OnOk result (IsAtRest trace.now (drop (place + 1) trace.now.rows) self.new) }
+    {
+        let row = trace.rows.get(place);
+        let lane = row.lane;
+        self.draw(alloc, lane, Some(row))?;
+        while !self.is_at_rest(lane) {
+            self.draw(alloc, lane, None)?;
+        }
+        Ok(())
+    }
+
+    /// Serves the rows of the trace in file order, each to its end.
+    pub fn serve_rows(&mut self, alloc: Global, trace: &Trace) -> Result<(), NoMemory>
+        requires { IsAtRest trace.now trace.now.rows self.old }
+        ensures { OnOk result (IsAtRest trace.now [] self.new) }
+    {
+        for place in 0..trace.rows.len() {
+            self.serve(alloc, trace, place)?;
+        }
+        Ok(())
+    }
 }

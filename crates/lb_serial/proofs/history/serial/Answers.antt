@@ -1,0 +1,26 @@
+use Rattle.std.proofs.Common.{[], sym, ◌∙◌}
+use Rattle.lb_serial.proofs.Next.{all_drawn}
+use Rattle.lb_serial.proofs.Turns.{turned, closes_on}
+use Rattle.lb_serial.proofs.Starting.{starts}
+use Rattle.lb_serial.proofs.history.serial.Goals as goal
+
+pub serve_rows-requires : goal.serve_rows-requires
+serve_rows-requires c = starts c.serial_runs.ensures.traces c.histories_end.ensures c.args.trace.now c.requires
+    c.in_ok-run.run' c.in_ok-run.ensures
+
+pub draw-requires-clause-lane : goal.draw-requires-clause-lane
+draw-requires-clause-lane c = (closes_on c.args.trace.now c.loop-alloc.run c.loop-alloc.invariant
+    (sym c.has_ended.ensures ∙ c.loop-alloc-test.true)).there
+
+pub loop-alloc-smaller : goal.loop-alloc-smaller
+loop-alloc-smaller c =
+    let w = closes_on c.args.trace.now c.loop-alloc.run c.loop-alloc.invariant (sym c.has_ended.ensures ∙ c.loop-alloc-test.true) in
+    (turned _ _ _ _ _ c.draw.new.self w c.in_ok-draw.ensures).1
+
+pub loop-alloc-preserved : goal.loop-alloc-preserved
+loop-alloc-preserved c =
+    let w = closes_on c.args.trace.now c.loop-alloc.run c.loop-alloc.invariant (sym c.has_ended.ensures ∙ c.loop-alloc-test.true) in
+    (turned _ _ _ _ _ c.draw.new.self w c.in_ok-draw.ensures).0
+
+pub returns : goal.returns
+returns c = all_drawn c.args.trace.now [] c.loop-alloc.run c.loop-alloc.invariant.front (sym c.has_ended.ensures ∙ c.loop-alloc-test.false)

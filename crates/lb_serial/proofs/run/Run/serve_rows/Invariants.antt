@@ -1,0 +1,6 @@
+use Rattle.std.proofs.Common.{drop}
+use Rattle.lb_serial.specs.Fronts.{IsAtRest}
+use Rattle.lb_serial.proofs.run.Run.serve_rows.Given as goal
+
+abbrev pub invariant-loop-place : goal.invariant-loop-place
+invariant-loop-place l = IsAtRest l.trace (drop l.place l.trace.rows) l.self

@@ -1,0 +1,10 @@
+pub mod Members
+pub mod Logs
+mod Views
+mod Sums
+mod Keeping
+mod Closing
+mod Closed
+mod BareKeeping
+mod SeatLists
+mod Learnt

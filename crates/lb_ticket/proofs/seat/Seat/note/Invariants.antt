@@ -1,0 +1,4 @@
+use Rattle.lb_ticket.proofs.seat.Seat.note.Given as goal
+
+abbrev pub ghosts-note_as : goal.ghosts-note_as
+ghosts-note_as g a = record { picked = a.k }

@@ -1,0 +1,15 @@
+use Rattle.std.proofs.Common.{arith}
+use Rattle.lb_ticket.proofs.BareKeeping.{bare_notes}
+use Rattle.lb_ticket.proofs.steps.note_as.Goals as goal
+
+pub split_seat-requires : goal.split_seat-requires
+split_seat-requires g c =
+    let m = g.I.Item.means in
+    let ci = g.row.I.coded in
+    let cl = g.row.I-Left.coded in (
+      c.requires.table.0,
+      (let w = c.requires.table.1 in omega arith),
+      λ s h at.
+          bare_notes m ci cl c.args.shared.now.key c.args.token.now.id g.J.PicksTicket.picked c.args.token.now.me.0
+          s.words s.views h at,
+    )

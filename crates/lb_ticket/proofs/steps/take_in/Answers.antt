@@ -1,0 +1,18 @@
+use Rattle.std.proofs.Common.{arith}
+use Rattle.lb_ticket.proofs.BareKeeping.{bare_learns}
+use Rattle.lb_ticket.proofs.steps.take_in.Goals as goal
+
+pub join_seat-requires : goal.join_seat-requires
+join_seat-requires g c =
+    let m = g.I.Item.means in
+    let v = c.args.token.now in
+    let w = c.args.other in
+    let o = c.requires.other in (
+      c.requires.table.0,
+      c.requires.table.1,
+      o.3,
+      (let e = c.requires.table.2 in omega arith),
+      λ s h at apart there.
+          bare_learns m g.row.I.coded g.row.I-Left.coded c.args.shared.now.key v.id w.id v.me.0 w.me.0 o.0 o.1 o.2
+          s.words s.views h at apart there,
+    )
