@@ -25,7 +25,8 @@ pub fn taken_off(
     taken: Option<Taken>,
 )
     requires { length hand < 2 ^ 32 }
-    ensures { (rest : QueueState) → rest.clock ≡ moment → course.new ≡ takes_off (leaving_by cause to taken (hand, rest)) course.old }
+    ensures { (rest : QueueState) → rest.clock ≡ moment
+        → course.new ≡ takes_off (leaving_by cause to taken (hand, rest)) course.old }
 {
     course.form = Form::Flight;
     course.cause = Some(cause);

@@ -104,7 +104,8 @@ pub fn close(course: &mut Course, word: OutcomeWord)
 #[tactic(auto, unfolding(lb_core::specs::CourseAfter::turn_ends))]
 pub fn turn_ends(alloc: Global, course: &mut Course, has_domains: bool)
     requires { course.old.cpu < MAX_CPUS }
-    ensures { (h : Header) → has_domains ≡ nat_lt 0 (length (turn_domains h course.old)) → course.new ≡ turn_ends h course.old }
+    ensures { (h : Header) → has_domains ≡ nat_lt 0 (length (turn_domains h course.old))
+        → course.new ≡ turn_ends h course.old }
 {
     match turn_kind(course) {
         Kind::Tick => {

@@ -3,8 +3,8 @@ use Rattle.std.proofs.Common.{ℕ, ◌≡◌, ◌+◌, ◌<◌, List, [], ◌∷
 use Rattle.std.proofs.lemmas.Grind.{take-set_at, take_at_read}
 
 -- one item more
-pub filled_more : {X : Type 0} (xs all : List X) (i : ℕ) (x d : X) → i < length all → i < length xs → x ≡ slice_index_or xs i d
-    → take i all ≡ take i xs → take (i + 1) (slice_set all i x) ≡ take (i + 1) xs
+pub filled_more : {X : Type 0} (xs all : List X) (i : ℕ) (x d : X) → i < length all → i < length xs
+    → x ≡ slice_index_or xs i d → take i all ≡ take i xs → take (i + 1) (slice_set all i x) ≡ take (i + 1) xs
 filled_more xs all i x d inside there e so_far =
     take-set_at all i (i + 1) x refl inside
     ∙ ap (λ ys. ys ++ x ∷ []) so_far

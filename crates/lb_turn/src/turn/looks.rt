@@ -34,7 +34,8 @@ impl<'a> Turn<'a> {
     /// domain, each without the excluded ones.
     pub fn figures_due(&self) -> Mask
         requires { HasDue self.now.course.form self.now.header self.now.course }
-        ensures { (s : Sight) → s.header ≡ self.now.header → s.course ≡ self.now.course → result ≡ figures_due s.course.form s }
+        ensures { (s : Sight) → s.header ≡ self.now.header → s.course ≡ self.now.course
+            → result ≡ figures_due s.course.form s }
     {
         let position = if self.course.form == Form::ScanDue {
             self.count() - 1

@@ -2,23 +2,27 @@ use Rattle.std.proofs.Common.{ℕ, ◌≡◌, ◌==◌, ◌<◌, length, find, t
 use Rattle.std.specs.List.{range_with_len}
 use Rattle.std.proofs.Math.Seq.{take-length}
 use Rattle.std.proofs.Math.ListN.{length-set}
+use Rattle.lb_base.specs.declared.figure.Fig.{Fig}
 use Rattle.lb_core.specs.Sight.{fig_or_none, by_cpu}
 use Rattle.lb_course.proofs.Filling.{filled_more}
 use Rattle.lb_course.proofs.figures.by_cpu.Goals as goal
 
 pub loop-cpu-preserved : goal.loop-cpu-preserved
 loop-cpu-preserved c =
-    let inside : c.loop-cpu.cpu < length c.loop-cpu.figs = omega arith in
+    let l = c.loop-cpu in
+    let f : ℕ → Fig = λ cpu. fig_or_none (find (λ f. f.cpu == cpu) c.args.figures.now) in
+    let inside : l.cpu < length l.figs = omega arith in
     record {
-      room = length-set c.loop-cpu.figs c.loop-cpu.cpu c.fig_of.result ∙ c.loop-cpu.invariant.room;
-      so_far = filled_more (λ (cpu : ℕ). fig_or_none (find (λ f. f.cpu == cpu) c.args.figures.now)) c.loop-cpu.figs
-          c.loop-cpu.cpu c.fig_of.result inside c.fig_of.ensures c.loop-cpu.invariant.so_far;
+      room = length-set l.figs l.cpu c.fig_of.result ∙ l.invariant.room;
+      so_far = filled_more f l.figs l.cpu c.fig_of.result inside c.fig_of.ensures l.invariant.so_far;
     }
 
 pub returns : goal.returns
 unfolding by_cpu
 returns c =
-    let all : length c.loop-cpu.figs ≡ c.loop-cpu.cpu = omega arith in
-    let end : c.loop-cpu.cpu ≡ 64 = omega arith in
-    sym (take-length c.loop-cpu.figs) ∙ ap (λ (n : ℕ). take n c.loop-cpu.figs) all ∙ c.loop-cpu.invariant.so_far
-    ∙ ap (λ (n : ℕ). map (λ (cpu : ℕ). fig_or_none (find (λ f. f.cpu == cpu) c.args.figures.now)) (range_with_len 0 n)) end
+    let l = c.loop-cpu in
+    let f : ℕ → Fig = λ cpu. fig_or_none (find (λ f. f.cpu == cpu) c.args.figures.now) in
+    let all : length l.figs ≡ l.cpu = omega arith in
+    let end : l.cpu ≡ 64 = omega arith in
+    sym (take-length l.figs) ∙ ap (λ (n : ℕ). take n l.figs) all ∙ l.invariant.so_far
+    ∙ ap (λ (n : ℕ). map f (range_with_len 0 n)) end

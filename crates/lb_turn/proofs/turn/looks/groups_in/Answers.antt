@@ -8,16 +8,19 @@ use Rattle.lb_turn.proofs.turn.looks.groups_in.Goals as goal
 
 pub loop-i-preserved : goal.loop-i-preserved
 loop-i-preserved c =
-    let gs = (domain_at (domains_at c.args.topology.now.all c.args.cpu) c.args.position).groups in
-    let inside : c.loop-i.i < length c.loop-i.groups = omega arith in
-    let there : c.loop-i.i < length gs = omega arith in
+    let l = c.loop-i in
+    let groups = (domain_at (domains_at c.args.topology.now.all c.args.cpu) c.args.position).groups in
+    let inside : l.i < length l.groups = omega arith in
+    let there : l.i < length groups = omega arith in
     record {
-      room = length-set c.loop-i.groups c.loop-i.i c.group.result ∙ c.loop-i.invariant.room;
-      so_far = filled_more gs c.loop-i.groups c.loop-i.i c.group.result no_cpus inside there c.group.ensures c.loop-i.invariant.so_far;
+      room = length-set l.groups l.i c.group.result ∙ l.invariant.room;
+      so_far = filled_more groups l.groups l.i c.group.result no_cpus inside there c.group.ensures l.invariant.so_far;
     }
 
 pub returns : goal.returns
 returns c =
-    let gs = (domain_at (domains_at c.args.topology.now.all c.args.cpu) c.args.position).groups in
-    let end : c.loop-i.i ≡ length gs = omega arith in
-    ap (λ (n : ℕ). take n c.loop-i.groups) (sym end) ∙ c.loop-i.invariant.so_far ∙ ap (λ (n : ℕ). take n gs) end ∙ take-length gs
+    let l = c.loop-i in
+    let groups = (domain_at (domains_at c.args.topology.now.all c.args.cpu) c.args.position).groups in
+    let end : l.i ≡ length groups = omega arith in
+    ap (λ (n : ℕ). take n l.groups) (sym end) ∙ l.invariant.so_far ∙ ap (λ (n : ℕ). take n groups) end
+    ∙ take-length groups

@@ -11,23 +11,24 @@ use Rattle.lb_turn.proofs.turn.shapes.shapes_in.Goals as goal
 
 pub loop-position-preserved : goal.loop-position-preserved
 loop-position-preserved c =
+    let l = c.loop-position in
     let f : Domain → Shape = λ d. d.shape in
     let ds = domains_at c.args.topology.now.all c.args.cpu in
-    let inside : c.loop-position.position < length c.loop-position.list = omega arith in
-    let there : c.loop-position.position < length ds = omega arith in
-    let many : c.loop-position.position < length (shapes_of ds) = omega (arith, there, length-map ds f) in
+    let inside : l.position < length l.list = omega arith in
+    let there : l.position < length ds = omega arith in
+    let many : l.position < length (shapes_of ds) = omega (arith, there, length-map ds f) in
+    let read = c.shape.ensures ∙ sym (get_or-map f ds l.position no_domain no_domain.shape there) in
     record {
-      room = length-set c.loop-position.list c.loop-position.position c.shape.result ∙ c.loop-position.invariant.room;
-      so_far = filled_more (shapes_of ds) c.loop-position.list c.loop-position.position c.shape.result no_domain.shape inside many
-          (c.shape.ensures ∙ sym (get_or-map f ds c.loop-position.position no_domain no_domain.shape there))
-              c.loop-position.invariant.so_far;
+      room = length-set l.list l.position c.shape.result ∙ l.invariant.room;
+      so_far = filled_more (shapes_of ds) l.list l.position c.shape.result no_domain.shape inside many read l.invariant.so_far;
     }
 
 pub returns : goal.returns
 returns c =
+    let l = c.loop-position in
     let f : Domain → Shape = λ d. d.shape in
     let ds = domains_at c.args.topology.now.all c.args.cpu in
-    let end : c.loop-position.position ≡ length (shapes_of ds) = omega (arith, length-map ds f, c.count-count.ensures.count) in
-    let all : c.count-count.result ≡ c.loop-position.position = omega arith in
-    ap (λ (n : ℕ). take n c.loop-position.list) all ∙ c.loop-position.invariant.so_far
-    ∙ ap (λ (n : ℕ). take n (shapes_of ds)) end ∙ take-length (shapes_of ds)
+    let all : c.count-count.result ≡ l.position = omega arith in
+    let end : l.position ≡ length (shapes_of ds) = omega (arith, length-map ds f, c.count-count.ensures.count) in
+    ap (λ (n : ℕ). take n l.list) all ∙ l.invariant.so_far ∙ ap (λ (n : ℕ). take n (shapes_of ds)) end
+    ∙ take-length (shapes_of ds)
