@@ -1,0 +1,5 @@
+use Rattle.lb_text.proofs.Cut.{starts}
+use Rattle.lb_read.proofs.lines.cut_line.Goals as goal
+
+pub loop-i-init : goal.loop-i-init
+loop-i-init c = starts c.args.text.now 10

@@ -1,0 +1,15 @@
+pub mod Exact
+pub mod Words
+pub mod KindWords
+pub mod Fields
+pub mod Owners
+pub mod Commands
+pub mod Decisions
+pub mod Kinds
+pub mod Entries
+pub mod Written
+pub mod Repeats
+pub mod Texts
+pub mod Whole
+pub mod FirstBad
+pub mod Laws
