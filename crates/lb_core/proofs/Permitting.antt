@@ -1,5 +1,5 @@
--- Each answer, each `out` and each landing keeps the tasks of the queue allowed, and sends only what may
--- go.
+-- A step of the law `permitted`, on which `Permits` stands: each answer, each `out` and each landing keeps
+-- the tasks of the queue allowed (`Allowed`), and sends only what may go.
 use Rattle.std.proofs.Common.{◌≡◌, ℕ, zero, suc, Bool, true, false, not, cond, ◌&&◌, ◌||◌, List, [], ◌∷◌, All, Option, Some, None, is_some, is_none, IfSome, refl, sym, arith, subst}
 use Rattle.std.specs.List.{list_all}
 use Rattle.std.proofs.lemmas.Bool.{or_parts, and_parts, and_from, or_left, or_right}

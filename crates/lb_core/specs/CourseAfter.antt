@@ -1,5 +1,6 @@
--- The course that an entry leaves: the last column of the table of forms. The form "after a turn" is
--- passed over at once, and so is a close that asks for nothing.
+-- The course that an entry leaves: the column "Form afterwards" of the table in docs/rules/lanes.md, of
+-- which `Stage` is the middle one. The form "after a turn" is passed over at once, and so is a close that
+-- asks for nothing.
 use Rattle.std.specs.Prelude.{ℕ, ◌+◌, nat_lt, Bool, true, false, not, ◌&&◌, ◌||◌, if◌then◌else◌, Option, Some, None, List, [], ◌∷◌, length, slice_set}
 use Rattle.lb_base.specs.declared.mask.Mask.{Mask}
 use Rattle.lb_base.specs.declared.shape.Kind.{Kind}

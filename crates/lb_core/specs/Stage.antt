@@ -1,5 +1,6 @@
--- What a lane may draw next, and whose the entry is: the table of the forms of a course. The other
--- fields of the entry are fixed by the rules that come after `stage`.
+-- What a lane may draw next, and whose the entry is: the middle column of the table in
+-- docs/rules/lanes.md, by the forms of a course. The other fields of the entry are fixed by the rules that
+-- come after `stage`.
 use Rattle.std.specs.Prelude.{ℕ, ◌==◌, Bool, true, false, not, ◌&&◌, ◌||◌, if◌then◌else◌, Option, Some, None, is_some}
 use Rattle.lb_base.specs.declared.shape.Kind.{Kind}
 use Rattle.lb_base.specs.declared.shape.Kind.TheVariants.{Tick as TickTurn}

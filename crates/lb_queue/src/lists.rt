@@ -503,6 +503,7 @@ fn mask_awake(awake: &mut Vec<Awake>, id: u32, cpu: u32, mask: Mask)
     }
 }
 
+// The task of that id, which sleeps, gets a mask.
 fn mask_asleep(tasks: &mut Vec<Task>, id: u32, mask: Mask)
     requires { is_empty mask ≡ false }
     ensures items { tasks.new.items ≡ changed_task id (with_mask mask) tasks.old.items }
