@@ -1,3 +1,3 @@
 pub mod Next
-pub mod Turns
+pub mod Draws
 pub mod Starting

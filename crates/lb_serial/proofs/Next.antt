@@ -1,6 +1,6 @@
 -- The entry of the serial history that comes next after a front of it, where the history has not ended;
 -- and that a front which has ended it is all of it.
-use Rattle.std.proofs.Common.{◌≡◌, ◌+◌, ◌<◌, ◌≤◌, true, false, List, [], ◌∷◌, ◌++◌, length, refl, sym, ◌∙◌, ap, subst, arith, append_assoc, append-nil, length-append}
+use Rattle.std.proofs.Common.{◌≡◌, ◌<◌, true, false, List, [], ◌∷◌, ◌++◌, length, sym, ◌∙◌, ap, subst, arith, append_assoc, append-nil, length-append}
 use Rattle.lb_trace.specs.declared.trace.Row.{Row}
 use Rattle.lb_trace.specs.declared.trace.Trace.{Trace}
 use Rattle.lb_core.specs.declared.entry.Entry.{Entry}
@@ -32,14 +32,12 @@ pub record Next (t : Trace) (rows : List Row) (r : Run) : Type 0 where
 pub next : (t : Trace) (rows : List Row) (r : Run) → IsFront t rows r → r.state.ended ≡ false → Next t rows r
 next t rows r f live = by_later f.later f.whole f.to_come
   where
-    begun : MachineState
-    begun = start r.history.header
-
-    by_later : (later : List Entry) → IsWhole t r.history.header (r.history.entries ++ later) → rows_drawn later ≡ rows → Next t rows r
+    by_later : (later : List Entry) → IsWhole t r.history.header (r.history.entries ++ later) → rows_drawn later ≡ rows
+        → Next t rows r
     by_later [] w d =
         let ended : (run (r.history.entries ++ []) (start r.history.header)).ended ≡ true = w.serial.of_trace.legal.1 in
         let same : run (r.history.entries ++ []) (start r.history.header) ≡ r.state =
-            ap (λ (es : List Entry). run es (start r.history.header)) (append-nil r.history.entries) ∙ f.leaves in
+        ap (λ (es : List Entry). run es (start r.history.header)) (append-nil r.history.entries) ∙ f.leaves in
         clash r.state.ended (sym (ap (λ (m : MachineState). m.ended) same) ∙ ended) live
     by_later (e ∷ es) w d =
         let p = parts r.history.entries e es (start r.history.header) w.serial.of_trace.legal.0 in
@@ -53,8 +51,10 @@ next t rows r f live = by_later f.later f.whole f.to_come
           to_come = d;
           front = λ left k. record {
             later = es;
-            whole = subst (λ (xs : List Entry). IsWhole t r.history.header xs) (sym (append_assoc r.history.entries (e ∷ []) es)) w;
-            leaves = run-append r.history.entries (e ∷ []) (start r.history.header) ∙ ap (λ (m : MachineState). after m e) f.leaves;
+            whole = subst (λ (xs : List Entry). IsWhole t r.history.header xs)
+                (sym (append_assoc r.history.entries (e ∷ []) es)) w;
+            leaves = run-append r.history.entries (e ∷ []) (start r.history.header)
+                ∙ ap (λ (m : MachineState). after m e) f.leaves;
             to_come = k;
           };
           fewer = let n = length-append r.history.entries (e ∷ es) in let k = w.few in omega arith;

@@ -1,6 +1,6 @@
 -- Where nothing is drawn yet, all lanes rest and each row is to come: every accepted trace has a serial
 -- history, and that is as short as histories of the trace are.
-use Rattle.std.proofs.Common.{◌≡◌, List, [], refl, sym, subst}
+use Rattle.std.proofs.Common.{◌≡◌, refl, sym, subst}
 use Rattle.lb_trace.specs.declared.trace.Header.{Header}
 use Rattle.lb_trace.specs.declared.trace.Trace.{Trace}
 use Rattle.lb_trace.specs.Accepted.{IsTrace}
@@ -9,10 +9,9 @@ use Rattle.lb_core.specs.Serial.{IsSerialHistory}
 use Rattle.lb_core.proofs.AtWork.{opening_rests}
 use Rattle.lb_ready.specs.Laws.{TracesHaveRuns, HistoriesEnd}
 use Rattle.lb_serial.specs.declared.run.Run.{Run}
-use Rattle.lb_serial.specs.Fronts.{most_entries, IsFront, IsAtRest}
+use Rattle.lb_serial.specs.Fronts.{opening, most_entries, IsAtRest}
 
-pub starts : TracesHaveRuns → HistoriesEnd → (t : Trace) → IsTrace t → (r : Run)
-    → r ≡ record { history = record { header = t.header; entries = [] }; state = start t.header } → IsAtRest t t.rows r
+pub starts : TracesHaveRuns → HistoriesEnd → (t : Trace) → IsTrace t → (r : Run) → r ≡ opening t.header → IsAtRest t t.rows r
 unfolding start most_entries
 starts runs ends t accepted r is =
     let found = runs t accepted in

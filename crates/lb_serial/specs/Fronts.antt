@@ -1,12 +1,11 @@
--- Where a serial run stands: what was drawn so far is a front of the serial history of the trace, and so
--- many rows are still to come; then whose turn it is, between two rows, in the service of one, and from
+-- Where a serial run stands: what was drawn so far is a front of the serial history of the trace, and
+-- these rows are still to come; and which lanes rest, between two rows, in the service of one, and from
 -- the last one on.
 use Rattle.std.specs.Prelude.{◌≡◌, ℕ, ◌+◌, ◌*◌, ◌<◌, ◌≤◌, true, false, List, [], ◌∷◌, ◌++◌, length}
 use Rattle.lb_trace.specs.declared.trace.Header.{Header}
 use Rattle.lb_trace.specs.declared.trace.Row.{Row}
 use Rattle.lb_trace.specs.declared.trace.Trace.{Trace}
 use Rattle.lb_core.specs.declared.entry.Entry.{Entry}
-use Rattle.lb_core.specs.declared.history.History.{History}
 use Rattle.lb_core.specs.Machine.{start}
 use Rattle.lb_core.specs.Legal.{run}
 use Rattle.lb_core.specs.Step.{after}
@@ -17,6 +16,10 @@ use Rattle.lb_ready.specs.Laws.{is_at_rest, OthersRest}
 use Rattle.lb_serial.specs.declared.run.Run.{Run}
 
 -- ---- entries
+-- nothing was drawn
+abbrev pub opening : Header → Run
+opening h = record { history = record { header = h; entries = [] }; state = start h }
+
 -- one more entry was drawn
 abbrev pub with_entry : Run → Entry → Run
 with_entry r e = record { history = record r.history { entries = r.history.entries ++ e ∷ [] }; state = after r.state e }

@@ -1,8 +1,7 @@
 //! The entries that were drawn so far, and the state that they leave.
-ghost use Rattle.std.specs.Prelude.{◌≡◌, ◌<◌, ◌+◌, [], ◌∷◌, drop, length, IfOk, OnOk, IsTrue, ◌↔◌, option_copied, true};
+ghost use Rattle.std.specs.Prelude.{◌≡◌, ◌<◌, ◌+◌, [], drop, length, IfOk, OnOk, option_copied};
 ghost use Rattle.lb_trace.specs.Accepted.{IsHeader};
 ghost use Rattle.lb_core.specs.declared.entry.Entry.{Entry};
-ghost use Rattle.lb_core.specs.Machine.{start};
 ghost use Rattle.lb_ready.specs.Laws.{OthersRest, is_at_rest};
 ghost use Rattle.lb_state.specs.Drawn.{IsDrawn};
 
@@ -20,12 +19,12 @@ pub struct Run {
 }
 
 impl Run {
-    ghost use Rattle.lb_serial.specs.Fronts.{with_entry, IsAtRest};
+    ghost use Rattle.lb_serial.specs.Fronts.{opening, with_entry, IsAtRest};
 
     /// Nothing is drawn yet.
     pub fn start(alloc: Global, header: &Header) -> Result<Run, NoMemory>
         requires { IsHeader header.now }
-        ensures { IfOk result (λ run. run ≡ record { history = record { header = header.now; entries = [] }; state = start header.now }) }
+        ensures { IfOk result (λ run. run ≡ opening header.now) }
     {
         Ok(Run {
             history: History {
@@ -41,7 +40,8 @@ impl Run {
     pub fn draw(&mut self, alloc: Global, lane: u32, row: Option<&Row>) -> Result<(), NoMemory>
         requires lane { lane < length self.old.state.courses }
         requires others { OthersRest self.old.state lane }
-        ensures { (e : Entry) → IsDrawn self.old.state lane (option_copied row.entry) e → OnOk result (self.new ≡ with_entry self.old e) }
+        ensures { (e : Entry) → IsDrawn self.old.state lane (option_copied row.entry) e
+            → OnOk result (self.new ≡ with_entry self.old e) }
     {
         match self.state.draw(alloc, lane, row)? {
             Some(entry) => self.history.entries.push(entry),

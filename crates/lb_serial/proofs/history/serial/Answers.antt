@@ -1,6 +1,6 @@
 use Rattle.std.proofs.Common.{[], sym, ◌∙◌}
 use Rattle.lb_serial.proofs.Next.{all_drawn}
-use Rattle.lb_serial.proofs.Turns.{turned, closes_on}
+use Rattle.lb_serial.proofs.Draws.{after_draw, closes_on}
 use Rattle.lb_serial.proofs.Starting.{starts}
 use Rattle.lb_serial.proofs.history.serial.Goals as goal
 
@@ -15,12 +15,12 @@ draw-requires-clause-lane c = (closes_on c.args.trace.now c.loop-alloc.run c.loo
 pub loop-alloc-smaller : goal.loop-alloc-smaller
 loop-alloc-smaller c =
     let w = closes_on c.args.trace.now c.loop-alloc.run c.loop-alloc.invariant (sym c.has_ended.ensures ∙ c.loop-alloc-test.true) in
-    (turned _ _ _ _ _ c.draw.new.self w c.in_ok-draw.ensures).1
+    (after_draw _ _ _ _ _ c.draw.new.self w c.in_ok-draw.ensures).1
 
 pub loop-alloc-preserved : goal.loop-alloc-preserved
 loop-alloc-preserved c =
     let w = closes_on c.args.trace.now c.loop-alloc.run c.loop-alloc.invariant (sym c.has_ended.ensures ∙ c.loop-alloc-test.true) in
-    (turned _ _ _ _ _ c.draw.new.self w c.in_ok-draw.ensures).0
+    (after_draw _ _ _ _ _ c.draw.new.self w c.in_ok-draw.ensures).0
 
 pub returns : goal.returns
 returns c = all_drawn c.args.trace.now [] c.loop-alloc.run c.loop-alloc.invariant.front (sym c.has_ended.ensures ∙ c.loop-alloc-test.false)

@@ -1,5 +1,5 @@
 use Rattle.std.proofs.Common.{sym, ◌∙◌}
-use Rattle.lb_serial.proofs.Turns.{turned, takes_up_at, serves_on}
+use Rattle.lb_serial.proofs.Draws.{after_draw, takes_up_at, serves_on}
 use Rattle.lb_serial.proofs.run.Run.serve.Goals as goal
 
 pub draw-requires-clause-lane : goal.draw-requires-clause-lane
@@ -9,17 +9,17 @@ draw-requires-clause-lane c = (takes_up_at c.args.trace.now c.args.place c.get-r
 pub loop-alloc-init : goal.loop-alloc-init
 loop-alloc-init c =
     let w = takes_up_at c.args.trace.now c.args.place c.get-row.result.now c.args.self.now c.get-row.ensures
-        c.requires.place c.requires.rest in
-    (turned _ _ _ _ _ c.draw.new.self w c.in_ok-draw.ensures).0
+    c.requires.place c.requires.rest in
+    (after_draw _ _ _ _ _ c.draw.new.self w c.in_ok-draw.ensures).0
 
 pub loop-alloc-smaller : goal.loop-alloc-smaller
 loop-alloc-smaller c =
     let w = serves_on c.args.trace.now c.get-row.result.now.lane _ c.loop-alloc.self c.loop-alloc.invariant
-        (sym c.is_at_rest.ensures ∙ c.loop-alloc-test.true) in
-    (turned _ _ _ _ _ c.draw-in-loop-alloc.new.self w c.in_ok-draw-2.ensures).1
+    (sym c.is_at_rest.ensures ∙ c.loop-alloc-test.true) in
+    (after_draw _ _ _ _ _ c.draw-in-loop-alloc.new.self w c.in_ok-draw-2.ensures).1
 
 pub loop-alloc-preserved : goal.loop-alloc-preserved
 loop-alloc-preserved c =
     let w = serves_on c.args.trace.now c.get-row.result.now.lane _ c.loop-alloc.self c.loop-alloc.invariant
-        (sym c.is_at_rest.ensures ∙ c.loop-alloc-test.true) in
-    (turned _ _ _ _ _ c.draw-in-loop-alloc.new.self w c.in_ok-draw-2.ensures).0
+    (sym c.is_at_rest.ensures ∙ c.loop-alloc-test.true) in
+    (after_draw _ _ _ _ _ c.draw-in-loop-alloc.new.self w c.in_ok-draw-2.ensures).0

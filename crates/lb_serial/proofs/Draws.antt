@@ -1,7 +1,7 @@
--- Whose turn the next entry is: between two rows it takes up the row that is next; in the service of a
+-- Which lane draws the next entry: between two rows it takes up the row that is next; in the service of a
 -- row it is of the lane that serves it; and from the last row on it is of lane 0. So each draw leads from
--- one standing of the run to the next.
-use Rattle.std.proofs.Common.{◌≡◌, ℕ, suc, ◌+◌, ◌-◌, ◌<◌, Bool, true, false, Option, Some, None, List, [], ◌∷◌, ◌++◌, length, refl, sym, ◌∙◌, ap, subst, arith, inl, inr, get_or-set_other, length-set, length-append, add-one, drop, drop-cons, slice_get}
+-- where the run stands to where it stands then.
+use Rattle.std.proofs.Common.{◌≡◌, ℕ, suc, ◌+◌, ◌-◌, ◌<◌, Bool, true, false, Option, Some, None, List, [], ◌∷◌, ◌++◌, length, drop, slice_get, refl, sym, ◌∙◌, ap, subst, inl, inr, arith, add-one, drop-cons, get_or-set_other, length-set, length-append}
 use Rattle.std.proofs.lemmas.Bool.{cases_eq}
 use Rattle.std.proofs.lemmas.Option.{get_or_from_slice_get}
 use Rattle.lb_trace.specs.declared.trace.Header.{Header}
@@ -16,17 +16,15 @@ use Rattle.lb_core.specs.declared.entry.Entry.{Entry}
 use Rattle.lb_core.specs.Stage.{draws}
 use Rattle.lb_core.specs.CourseAfter.{course_after}
 use Rattle.lb_core.specs.Elsewhere.{is_rest}
-use Rattle.lb_core.specs.Machine.{MachineState, no_course, course_at, sight}
+use Rattle.lb_core.specs.Machine.{MachineState, no_course, sight}
 use Rattle.lb_core.specs.Step.{after, ended_after}
-use Rattle.lb_core.specs.Legal.{MayBeAdded}
 use Rattle.lb_core.specs.OfTrace.{row_of, rows_drawn}
-use Rattle.lb_core.specs.Serial.{is_serial}
 use Rattle.lb_core.proofs.Placing.{lane_there, form_lets}
 use Rattle.lb_core.proofs.AtWork.{clash, RestRows, OneAtWork, works, comes_at_rest}
 use Rattle.lb_ready.specs.Laws.{is_at_rest, OthersRest}
 use Rattle.lb_state.specs.Drawn.{IsDrawn}
 use Rattle.lb_serial.specs.declared.run.Run.{Run}
-use Rattle.lb_serial.specs.Fronts.{with_entry, most_entries, IsFront, IsAtRest, IsServing, IsClosing}
+use Rattle.lb_serial.specs.Fronts.{with_entry, most_entries, IsAtRest, IsServing, IsClosing}
 use Rattle.lb_serial.proofs.Next.{Next, next}
 
 -- ---- the lane at work
@@ -56,35 +54,35 @@ stays_there : (m : MachineState) (e : Entry) (lane : ℕ) → lane < length m.co
 unfolding after
 stays_there m e lane lt = let k = length-set m.courses e.lane (course_after (sight m e) e) in omega arith
 
-pub all_rest : (m : MachineState) (lane : ℕ) → is_at_rest m lane ≡ true → OthersRest m lane → (l : ℕ) → is_at_rest m l ≡ true
+all_rest : (m : MachineState) (lane : ℕ) → is_at_rest m lane ≡ true → OthersRest m lane → (l : ℕ) → is_at_rest m l ≡ true
 all_rest m lane r others l = elim (cases_eq l lane) [ inl e ↦ rw e r | inr n ↦ others l n ]
 
 -- ---- what a draw does
 -- fewer entries are left than before
-abbrev pub IsLess : Trace → Run → Run → Type 0
-IsLess t old new = most_entries t - length new.history.entries < most_entries t - length old.history.entries
+abbrev pub FewerLeft : Trace → Run → Run → Type 0
+FewerLeft t old new = most_entries t - length new.history.entries < most_entries t - length old.history.entries
 
-less : (t : Trace) (old : Run) (e : Entry) → length old.history.entries < most_entries t → IsLess t old (with_entry old e)
-less t old e lt = let n = length-append old.history.entries (e ∷ []) in omega arith
+fewer_left : (t : Trace) (old : Run) (e : Entry) → length old.history.entries < most_entries t → FewerLeft t old (with_entry old e)
+fewer_left t old e lt = let n = length-append old.history.entries (e ∷ []) in omega arith
 
 -- the entry that the lane draws, and where the run stands then
-pub record Turn (t : Trace) (lane : ℕ) (row : Option Row) (Then : Run → Type 0) (old : Run) : Type 0 where
+pub record Draw (t : Trace) (lane : ℕ) (row : Option Row) (Then : Run → Type 0) (old : Run) : Type 0 where
   pub entry : Entry
   pub there : lane < length old.state.courses
   pub drawn : IsDrawn old.state lane row entry
   pub stands : Then (with_entry old entry)
-  pub fewer : IsLess t old (with_entry old entry)
+  pub fewer : FewerLeft t old (with_entry old entry)
 
--- so for the run that a draw leaves
-pub turned : (t : Trace) (lane : ℕ) (row : Option Row) (Then : Run → Type 0) (old new : Run)
-    → (w : Turn t lane row Then old) → ((e : Entry) → IsDrawn old.state lane row e → new ≡ with_entry old e) → Then new × IsLess t old new
-turned t lane row Then old new w drawn =
+-- so it stands with the run that a draw leaves
+pub after_draw : (t : Trace) (lane : ℕ) (row : Option Row) (Then : Run → Type 0) (old new : Run) → Draw t lane row Then old
+    → ((e : Entry) → IsDrawn old.state lane row e → new ≡ with_entry old e) → Then new × FewerLeft t old new
+after_draw t lane row Then old new w drawn =
     let same = drawn w.entry w.drawn in
-    (subst Then (sym same) w.stands, subst (λ (r : Run). IsLess t old r) (sym same) w.fewer)
+    (subst Then (sym same) w.stands, subst (λ (r : Run). FewerLeft t old r) (sym same) w.fewer)
 
 -- ---- between two rows
-row_comes : (w : What) (lane : ℕ) (later : List Row) (r : Row) (rs : List Row) → RestRows w lane later → row_of w lane ++ later ≡ r ∷ rs →
-    (lane ≡ r.lane) × (row_of w lane ≡ r ∷ []) × (later ≡ rs) × ((b : Bool) → ended_after w b ≡ b)
+row_comes : (w : What) (lane : ℕ) (later : List Row) (r : Row) (rs : List Row) → RestRows w lane later
+    → row_of w lane ++ later ≡ r ∷ rs → (lane ≡ r.lane) × (row_of w lane ≡ r ∷ []) × (later ≡ rs) × ((b : Bool) → ended_after w b ≡ b)
 row_comes (RowEntry n at command) lane later r rs k e =
     let first : Row = record { lane = lane; at = at; command = command } in
     let whole : first ∷ later ≡ r ∷ rs = e in
@@ -95,7 +93,8 @@ row_comes (End unserved) lane later r rs k e = let n = k.1 in absurd (let y : �
 row_comes w lane later r rs k e = absurd k
 
 -- the row that is next is taken up
-takes_up : (t : Trace) (r : Row) (rs : List Row) (old : Run) → IsAtRest t (r ∷ rs) old → Turn t r.lane (Some r) (IsServing t r.lane rs) old
+takes_up : (t : Trace) (r : Row) (rs : List Row) (old : Run) → IsAtRest t (r ∷ rs) old
+    → Draw t r.lane (Some r) (IsServing t r.lane rs) old
 unfolding after
 takes_up t r rs old k =
     let n = next t (r ∷ rs) old k.front k.live in
@@ -106,29 +105,36 @@ takes_up t r rs old k =
     record {
       entry = e;
       there = there;
-      drawn = record { own = w.0; may = n.may; serial = n.serial; offered = λ _. subst (λ (l : ℕ). row_of e.what l ≡ r ∷ []) w.0 w.1 };
+      drawn = record {
+        own = w.0;
+        may = n.may;
+        serial = n.serial;
+        offered = λ _. subst (λ (l : ℕ). row_of e.what l ≡ r ∷ []) w.0 w.1;
+      };
       stands = record {
         front = n.front rs w.2;
         live = w.3 old.state.ended ∙ k.live;
         there = stays_there old.state e r.lane there;
         others = others_stay old.state e r.lane w.0 (λ l _. k.rest l);
       };
-      fewer = less t old e n.fewer;
+      fewer = fewer_left t old e n.fewer;
     }
 
-next_row : (rows : List Row) (i : ℕ) (r : Row) → slice_get rows i ≡ Some r → i < length rows → drop i rows ≡ r ∷ drop (i + 1) rows
-next_row rows i r e lt = rw (add-one, drop-cons rows i r) (ap (λ (x : Row). x ∷ drop (suc i) rows) (get_or_from_slice_get rows i r r e))
+next_row : (rows : List Row) (i : ℕ) (r : Row) → slice_get rows i ≡ Some r → i < length rows
+    → drop i rows ≡ r ∷ drop (i + 1) rows
+next_row rows i r e lt = rw (add-one, drop-cons rows i r)
+    (ap (λ (x : Row). x ∷ drop (suc i) rows) (get_or_from_slice_get rows i r r e))
 
 -- so for the row at a place of the trace
 pub takes_up_at : (t : Trace) (i : ℕ) (r : Row) (old : Run) → slice_get t.rows i ≡ Some r → i < length t.rows
-    → IsAtRest t (drop i t.rows) old → Turn t r.lane (Some r) (IsServing t r.lane (drop (i + 1) t.rows)) old
+    → IsAtRest t (drop i t.rows) old → Draw t r.lane (Some r) (IsServing t r.lane (drop (i + 1) t.rows)) old
 takes_up_at t i r old e lt k = takes_up t r (drop (i + 1) t.rows) old
     (subst (λ (rows : List Row). IsAtRest t rows old) (next_row t.rows i r e lt) k)
 
 -- ---- the service of a row
 -- the lane goes on
 pub serves_on : (t : Trace) (lane : ℕ) (rows : List Row) (old : Run) → IsServing t lane rows old
-    → is_at_rest old.state lane ≡ false → Turn t lane None (IsServing t lane rows) old
+    → is_at_rest old.state lane ≡ false → Draw t lane None (IsServing t lane rows) old
 unfolding after
 serves_on t lane rows old k busy =
     let n = next t rows old k.front k.live in
@@ -145,7 +151,7 @@ serves_on t lane rows old k busy =
         there = stays_there old.state e lane k.there;
         others = others_stay old.state e lane own k.others;
       };
-      fewer = less t old e n.fewer;
+      fewer = fewer_left t old e n.fewer;
     }
 
 -- ---- from the last row on
@@ -160,7 +166,7 @@ none_left (RowEntry n at command) lane later e = absurd (let y : ⊥ = cc in y)
 none_left w lane later e = (refl, e)
 
 -- lane 0 goes on closing the history
-pub closes_on : (t : Trace) (old : Run) → IsClosing t old → old.state.ended ≡ false → Turn t 0 None (IsClosing t) old
+pub closes_on : (t : Trace) (old : Run) → IsClosing t old → old.state.ended ≡ false → Draw t 0 None (IsClosing t) old
 closes_on t old k live =
     let n = next t [] old k.front live in
     let e = n.entry in
@@ -171,7 +177,7 @@ closes_on t old k live =
       there = subst (λ (l : ℕ). l < length old.state.courses) own (lane_there old.state e n.may);
       drawn = record { own = own; may = n.may; serial = n.serial; offered = λ _. subst (λ (l : ℕ). row_of e.what l ≡ []) own w.0 };
       stands = record { front = n.front [] w.1; others = others_stay old.state e 0 own k.others };
-      fewer = less t old e n.fewer;
+      fewer = fewer_left t old e n.fewer;
     }
   where
     of_lane_0 : (n : Next t [] old) (b : Bool) → is_at_rest old.state 0 ≡ b → n.entry.lane ≡ 0
