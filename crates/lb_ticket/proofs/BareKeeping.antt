@@ -99,7 +99,8 @@ module _ {I L : Type 0} (m : Meaning I L) (ci : Coded I) (cl : Coded L) where
     where
       go : (b : Bool) → map (fact_of m cl) (without k ds) ≡ without_fact k (map (fact_of m cl) ds) →
           map (fact_of m cl) (if b then without k ds else d ∷ without k ds) ≡
-          (if b then without_fact k (map (fact_of m cl) ds) else fact_of m cl d ∷ without_fact k (map (fact_of m cl) ds))
+          (if b then without_fact k (map (fact_of m cl) ds) else fact_of m cl d ∷ without_fact k
+          (map (fact_of m cl) ds))
       go true r = r
       go false r = ap (λ l. fact_of m cl d ∷ l) r
 
@@ -114,8 +115,8 @@ module _ {I L : Type 0} (m : Meaning I L) (ci : Coded I) (cl : Coded L) where
   one : (owners id : ℕ) (b : Bare) (words : List ℕ) (bares : List Bare) (Q : Type 0) →
       BareKept m ci cl owners words bares → get_elem? bares id ≡ some b
       →
-      ((views : List (View I)) (v : View I) → Kept m owners words views → get_elem? views id ≡ some v
-          → erase m ci cl v ≡ b → bares ≡ map (erase m ci cl) views → Q)
+      ((views : List (View I)) (v : View I) → Kept m owners words views → get_elem? views id ≡ some v →
+      erase m ci cl v ≡ b → bares ≡ map (erase m ci cl) views → Q)
       →
       Q
   one owners id b words bares Q k at go =
@@ -143,9 +144,17 @@ module _ {I L : Type 0} (m : Meaning I L) (ci : Coded I) (cl : Coded L) where
       (BareKept m ci cl owners (set words 0 n) (set bares id (bare_marked b n)) × BareMarks b n (bare_marked b n)) k at
       (λ views v kept there is all.
       let r = marks m owners id v words views kept there in (
-        (set views id (marked v n), set_erase bares views id (marked v n) (bare_marked b n) all (ap (λ z. bare_marked z n) is), r.0),
-        (refl, subst (λ (z : Bare). z.seen ≤ n) is r.1.1, subst (λ (z : Bare). FactsBelow n z.known) is
-            (below_map n v.known r.1.2), subst (λ (z : Bare). HeldBelow n z.read) is (held_below ci n v.read r.1.3)),
+        (
+          set views id (marked v n),
+          set_erase bares views id (marked v n) (bare_marked b n) all (ap (λ z. bare_marked z n) is),
+          r.0,
+        ),
+        (
+          refl,
+          subst (λ (z : Bare). z.seen ≤ n) is r.1.1,
+          subst (λ (z : Bare). FactsBelow n z.known) is (below_map n v.known r.1.2),
+          subst (λ (z : Bare). HeldBelow n z.read) is (held_below ci n v.read r.1.3),
+        ),
       ))
 
   pub bare_notes : (owners id t : ℕ) (b : Bare) (words : List ℕ) (bares : List Bare) →
@@ -167,9 +176,12 @@ module _ {I L : Type 0} (m : Meaning I L) (ci : Coded I) (cl : Coded L) where
         read = map (held_of ci) v.read;
         seen = v.seen;
       }) ∙ ap (bare_note_left t) is in
-      let right : erase m ci cl (note_right t v) ≡ bare_note_right t b = ap bare_note o ∙ ap (bare_note_right t) is in
-      (set views id (note_left t v) ++ note_right t v ∷ [], fork_erase bares views id (note_left t v) (note_right t v)
-          (bare_note_left t b) (bare_note_right t b) all left right, r))
+      let right : erase m ci cl (note_right t v) ≡ bare_note_right t b = ap bare_note o ∙ ap (bare_note_right t) is in (
+        set views id (note_left t v) ++ note_right t v ∷ [],
+        fork_erase bares views id (note_left t v) (note_right t v)
+            (bare_note_left t b) (bare_note_right t b) all left right,
+        r,
+      ))
 
   pub bare_tells : (owners id : ℕ) (b : Bare) (words : List ℕ) (bares : List Bare) →
       BareKept m ci cl owners words bares →
@@ -186,9 +198,12 @@ module _ {I L : Type 0} (m : Meaning I L) (ci : Coded I) (cl : Coded L) where
         known = [];
         read = f i;
         seen = v.seen;
-      }) ∙ ap bare_told is in
-      (set views id v ++ told_view v ∷ [], fork_erase bares views id v (told_view v) b
-          (bare_told b) all is told, tells m owners id v words views kept there))
+      }) ∙ ap bare_told is in (
+        set views id v ++ told_view v ∷ [],
+        fork_erase bares views id v (told_view v) b
+            (bare_told b) all is told,
+        tells m owners id v words views kept there,
+      ))
 
   pub bare_seats : (owners id made vacant : ℕ) → 0 < vacant → (words : List ℕ) (bares : List Bare) →
       BareKept m ci cl owners words bares → get_elem? bares id ≡ some (bare_root made vacant)
@@ -196,14 +211,18 @@ module _ {I L : Type 0} (m : Meaning I L) (ci : Coded I) (cl : Coded L) where
       (set bares id (bare_cut_left (bare_root made vacant)) ++ bare_cut_right (bare_root made vacant) ∷ [])
   bare_seats owners id made vacant some_left words bares k at =
       one owners id (bare_root made vacant) words bares
-      (BareKept m ci cl owners words (set bares id (bare_cut_left (bare_root made vacant)) ++ bare_cut_right (bare_root made vacant) ∷ []))
+      (BareKept m ci cl owners words
+      (set bares id (bare_cut_left (bare_root made vacant)) ++ bare_cut_right (bare_root made vacant) ∷ []))
       k at
       (λ views v kept there is all.
       let root = root_view made vacant in
       let same : v ≡ root = erase_root v is in
-      let r = seats m owners id made vacant some_left words views kept (there ∙ ap some same) in
-      (set views id (seat_cut_left root) ++ seat_cut_right root ∷ [], fork_erase bares views id (seat_cut_left root)
-          (seat_cut_right root) (bare_cut_left (bare_root made vacant)) (bare_cut_right (bare_root made vacant)) all refl refl, r))
+      let r = seats m owners id made vacant some_left words views kept (there ∙ ap some same) in (
+        set views id (seat_cut_left root) ++ seat_cut_right root ∷ [],
+        fork_erase bares views id (seat_cut_left root)
+            (seat_cut_right root) (bare_cut_left (bare_root made vacant)) (bare_cut_right (bare_root made vacant)) all refl refl,
+        r,
+      ))
     where
       none : {A B : Type 0} (f : A → B) (xs : List A) → map f xs ≡ [] → xs ≡ []
       none f [] e = refl
@@ -226,9 +245,9 @@ module _ {I L : Type 0} (m : Meaning I L) (ci : Coded I) (cl : Coded L) where
       get_elem? (set bares id bboth) other ≡ some bw
       → ((v w : View I) → erase m ci cl v ≡ b → erase m ci cl w ≡ bw → erase m ci cl (f v w) ≡ bboth)
       →
-      ((views : List (View I)) (v w : View I) → Kept m owners words views → get_elem? views id ≡ some v
-          → erase m ci cl w ≡ bw → get_elem? (set views id (f v w)) other ≡ some w
-          → Kept m owners words (set (set views id (f v w)) other spent_view))
+      ((views : List (View I)) (v w : View I) → Kept m owners words views → get_elem? views id ≡ some v →
+      erase m ci cl w ≡ bw → get_elem? (set views id (f v w)) other ≡ some w →
+      Kept m owners words (set (set views id (f v w)) other spent_view))
       → BareKept m ci cl owners words (set (set bares id bboth) other bare_spent)
   join_both owners id other b bw bboth words bares f k at apart there same step =
       one owners id b words bares (BareKept m ci cl owners words (set (set bares id bboth) other bare_spent)) k at
@@ -258,8 +277,8 @@ module _ {I L : Type 0} (m : Meaning I L) (ci : Coded I) (cl : Coded L) where
       λ i.
       record { made = v.made; vacant = v.vacant; columns = c i; fresh = f i; known = g i; read = r i; seen = v.seen })
       ∙ (λ i. bare_both (p i) (q i)))
-      (λ views v w kept here q in_set. gathers m owners id other v w
-          (ap (λ (z : Bare). z.vacant) q ∙ none) words views kept here apart in_set)
+      (λ views v w kept here q in_set.
+      gathers m owners id other v w (ap (λ (z : Bare). z.vacant) q ∙ none) words views kept here apart in_set)
 
   pub bare_learns : (owners id other : ℕ) (b bw : Bare) → bw.vacant ≡ 0 → bw.columns ≡ [] → bw.fresh ≡ [] →
       (words : List ℕ) (bares : List Bare) → BareKept m ci cl owners words bares → get_elem? bares id ≡ some b →
@@ -271,12 +290,20 @@ module _ {I L : Type 0} (m : Meaning I L) (ci : Coded I) (cl : Coded L) where
       (let g = map-append (fact_of m cl) v.known w.known in
       let r = map-append (held_of ci) v.read w.read in
       λ i.
-      record { made = v.made; vacant = v.vacant; columns = map (column_of ci) v.columns;
-          fresh = map (fact_of m cl) v.fresh; known = g i; read = r i; seen = max v.seen w.seen })
+      record {
+        made = v.made;
+        vacant = v.vacant;
+        columns = map (column_of ci) v.columns;
+        fresh = map (fact_of m cl) v.fresh;
+        known = g i;
+        read = r i;
+        seen = max v.seen w.seen;
+      })
       ∙ (λ i. bare_learnt (p i) (q i)))
-      (λ views v w kept here q in_set. learns m owners id other v w (ap (λ (z : Bare). z.vacant) q ∙ none)
-          (empty (column_of ci) w.columns (ap (λ (z : Bare). z.columns) q ∙ no_columns))
-          (empty (fact_of m cl) w.fresh (ap (λ (z : Bare). z.fresh) q ∙ no_fresh)) words views kept here apart in_set)
+      (λ views v w kept here q in_set.
+      learns m owners id other v w (ap (λ (z : Bare). z.vacant) q ∙ none)
+      (empty (column_of ci) w.columns (ap (λ (z : Bare). z.columns) q ∙ no_columns))
+      (empty (fact_of m cl) w.fresh (ap (λ (z : Bare). z.fresh) q ∙ no_fresh)) words views kept here apart in_set)
     where
       empty : {A B : Type 0} (f : A → B) (xs : List A) → map f xs ≡ [] → xs ≡ []
       empty f [] e = refl
@@ -304,8 +331,8 @@ module _ {I L : Type 0} (m : Meaning I L) (ci : Coded I) (cl : Coded L) where
   bare_draws owners id b i may words bares k at =
       let n : ℕ = slice_index words 0 in
       one owners id b words bares
-      (BareKept m ci cl owners (set words 0 ((n + 1) % 18446744073709551616)) (set bares id (bare_drew m ci cl b i n))
-          × BareDraws m ci cl (i ∷ []) b n (bare_drew m ci cl b i n))
+      (BareKept m ci cl owners (set words 0 ((n + 1) % 18446744073709551616))
+      (set bares id (bare_drew m ci cl b i n)) × BareDraws m ci cl (i ∷ []) b n (bare_drew m ci cl b i n))
       k at
       (λ views v kept here is all.
       let d : Drawn I = record { ticket = n; item = i } in
@@ -347,9 +374,13 @@ module _ {I L : Type 0} (m : Meaning I L) (ci : Coded I) (cl : Coded L) where
       ∙ ap (λ l. bare_drew_at m ci cl (erase m ci cl v) i n l) (sym (ap (λ l. map (column_of ci) l) cols))
       ∙ ap (λ q. bare_drew m ci cl q i n) is in (
         (set views id (drew m v i n), set_erase bares views id (drew m v i n) (bare_drew m ci cl b i n) all w, r.0),
-        (refl, subst (λ (q : Bare). q.seen ≤ n) is r.1, subst
-            (λ (q : Bare). only_facts n (q.fresh ++ fact_of m cl d ∷ []) ≡ fact_of m cl d ∷ []) is
-            (ap (only_facts n) (sym y) ∙ sym (only_map n (v.fresh ++ d ∷ [])) ∙ ap (λ l. map (fact_of m cl) l) r.2), r.3),
+        (
+          refl,
+          subst (λ (q : Bare). q.seen ≤ n) is r.1,
+          subst (λ (q : Bare). only_facts n (q.fresh ++ fact_of m cl d ∷ []) ≡ fact_of m cl d ∷ []) is
+              (ap (only_facts n) (sym y) ∙ sym (only_map n (v.fresh ++ d ∷ [])) ∙ ap (λ l. map (fact_of m cl) l) r.2),
+          r.3,
+        ),
       ))
 
   pub bare_opens : (owners : ℕ) → owners ≤ 4096 → BareKept m ci cl owners (1 ∷ []) (bare_opening owners ∷ [])
@@ -373,8 +404,9 @@ module _ {I L : Type 0} (m : Meaning I L) (ci : Coded I) (cl : Coded L) where
       b.columns ≡ bare_columns_of ci 0 lists → length lists ≡ owners → Closes m lists
   bare_closes owners id b lists words bares k at none is len =
       one owners id b words bares (Closes m lists) k at
-      (λ views v kept here e all. closes m owners id v lists words views kept here
-          (ap (λ (z : Bare). z.vacant) e ∙ none) (columns_typed 0 v.columns lists (ap (λ (z : Bare). z.columns) e ∙ is)) len)
+      (λ views v kept here e all.
+      closes m owners id v lists words views kept here (ap (λ (z : Bare). z.vacant) e ∙ none)
+      (columns_typed 0 v.columns lists (ap (λ (z : Bare). z.columns) e ∙ is)) len)
 
   -- what a view holds of the closed lists is quoted by nobody
   pub bare_holds : (owners id : ℕ) (b : Bare) (lists : List (List (Drawn I))) (words : List ℕ) (bares : List Bare) →
@@ -388,12 +420,14 @@ module _ {I L : Type 0} (m : Meaning I L) (ci : Coded I) (cl : Coded L) where
       let whole = columns_typed 0 v.columns lists (ap (λ (z : Bare). z.columns) e ∙ is) in
       let typed : (d : Drawn I) × (Has d v.fresh ⊎ Has d v.known) × (fact_of m cl d ≡ f) =
       ⊎_elim
-      (λ (r : HasFact f b.fresh). let t = has_map (fact_of m cl) f v.fresh
-          (subst (HasFact f) (sym (ap (λ (z : Bare). z.fresh) e)) r) in
-          let q : (d : Drawn I) × (Has d v.fresh ⊎ Has d v.known) × (fact_of m cl d ≡ f) = (t.0, inl t.1, t.2) in q)
-      (λ (r : HasFact f b.known). let t = has_map (fact_of m cl) f v.known
-          (subst (HasFact f) (sym (ap (λ (z : Bare). z.known) e)) r) in
-          let q : (d : Drawn I) × (Has d v.fresh ⊎ Has d v.known) × (fact_of m cl d ≡ f) = (t.0, inr t.1, t.2) in q)
+      (λ (r : HasFact f b.fresh).
+      let t = has_map (fact_of m cl) f v.fresh (subst (HasFact f) (sym (ap (λ (z : Bare). z.fresh) e)) r) in
+      let q : (d : Drawn I) × (Has d v.fresh ⊎ Has d v.known) × (fact_of m cl d ≡ f) = (t.0, inl t.1, t.2) in
+      q)
+      (λ (r : HasFact f b.known).
+      let t = has_map (fact_of m cl) f v.known (subst (HasFact f) (sym (ap (λ (z : Bare). z.known) e)) r) in
+      let q : (d : Drawn I) × (Has d v.fresh ⊎ Has d v.known) × (fact_of m cl d ≡ f) = (t.0, inr t.1, t.2) in
+      q)
       (has_split b.fresh b.known f has) in
       let h = closes_holding m owners id v lists words views kept here empty whole len typed.0 typed.1 in
       let u =

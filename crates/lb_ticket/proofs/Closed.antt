@@ -1,12 +1,12 @@
 -- What the closed lists have, said of the lists alone.
-use Rattle.std.proofs.Common.{eqb, eq-eqb, ◌≡◌, ◌≢◌, ◌⊎◌, ℕ, zero, suc, ◌+◌, ◌<◌, ◌≤◌, List, [], ◌∷◌, ◌++◌, length, take, Bool, true, false, refl, sym, ap, ◌∙◌, subst, ⊎_elim, inl, inr, arith, append_assoc}
+use Rattle.std.proofs.Common.{◌≡◌, ◌⊎◌, ℕ, zero, suc, ◌+◌, ◌<◌, ◌≤◌, List, [], ◌∷◌, ◌++◌, length, take, Bool, true, false, refl, sym, ap, ◌∙◌, subst, ⊎_elim, inl, inr, arith, append_assoc}
 use Rattle.std.specs.Prelude.{◌==◌, if◌then◌else◌, Option, Some, None}
 use mathlib.Core.Option.{some, some-ne-none, some-injective}
 use lib.ListN.{get_elem?}
-use Rattle.std.proofs.lemmas.Bool.Decides.{nat_tests, eqb_tells}
+use Rattle.std.proofs.lemmas.Bool.Decides.{nat_tests}
 use Rattle.lb_ticket.specs.declared.item.Drawn.{Drawn}
 use Rattle.lb_ticket.proofs.Sums.{total_member, same_eq, once_at}
-use Rattle.lb_ticket.specs.Tickets.{Meaning, total, same, once, times, Stands, AllStand, Has, InLists, ListsFit, quoted_by, quote_hit, quotes_of, QuoteFits, AllQuote, Closes, QuotesOne, QuotesHold}
+use Rattle.lb_ticket.specs.Tickets.{Meaning, total, times, Stands, AllStand, Has, InLists, ListsFit, quoted_by, quote_hit, quotes_of, QuoteFits, AllQuote, Closes, QuotesOne, QuotesHold}
 
 module _ {I L : Type 0} (m : Meaning I L) where
   stands_of : (log : List I) (ds : List (Drawn I)) (d : Drawn I) → AllStand log ds → Has d ds → Stands log d
@@ -100,8 +100,9 @@ module _ {I L : Type 0} (m : Meaning I L) where
   pub holds_direct : (lists : List (List (Drawn I))) → Closes m lists → QuotesHold m lists
   holds_direct lists c = record {
     each =
-        (λ d at. let st = stands_in c.log 0 lists d c.lists_fit at in
-            each_quote lists c d st.0 st.1 (m.quote d.item) (quote_at [] c.log st.0 d.item c.quotes st.2));
+        (λ d at.
+        let st = stands_in c.log 0 lists d c.lists_fit at in
+        each_quote lists c d st.0 st.1 (m.quote d.item) (quote_at [] c.log st.0 d.item c.quotes st.2));
     apart = (λ d e at there pos same_quote.
         let s = stands_in c.log 0 lists d c.lists_fit at in
         let t = stands_in c.log 0 lists e c.lists_fit there in

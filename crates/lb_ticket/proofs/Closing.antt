@@ -1,12 +1,12 @@
 -- The view that has all shares has the lists of all owners: what the rule then says of them, and of what that
 -- view holds and has read.
-use Rattle.std.proofs.Common.{◌⊎◌, ◌≡◌, ◌≢◌, ℕ, zero, suc, ◌+◌, ◌<◌, ◌≤◌, List, [], ◌∷◌, ◌++◌, length, set, map, Bool, true, false, refl, sym, ap, ◌∙◌, subst, ⊎_elim, arith}
+use Rattle.std.proofs.Common.{◌⊎◌, ◌≡◌, ℕ, ◌+◌, ◌≤◌, List, [], ◌∷◌, length, set, refl, sym, ap, ◌∙◌, subst, ⊎_elim, arith}
 use mathlib.Core.Option.{some}
 use lib.ListN.{get_elem?}
 use Rattle.lb_ticket.specs.declared.item.Drawn.{Drawn}
 use Rattle.lb_ticket.specs.declared.view.View.{View}
 use Rattle.lb_ticket.specs.declared.view.Column.{Column}
-use Rattle.lb_ticket.specs.Tickets.{Meaning, Has, total, once, times, quotes_of, Stands, AllStand, ListsFit, Closes}
+use Rattle.lb_ticket.specs.Tickets.{Meaning, Has, total, times, quotes_of, Stands, AllStand, ListsFit, Closes}
 use Rattle.lb_ticket.specs.Kept.{size, times_all, FitColumns, shares, Kept}
 use Rattle.lb_ticket.proofs.Views.{spent_view, columns_of}
 use Rattle.lb_ticket.proofs.Sums.{has_times, total_set, total_member, once_le}
@@ -62,12 +62,14 @@ module _ {I L : Type 0} (m : Meaning I L) where
         log = k.log;
         count =
             sym (size_of 0 lists) ∙ sym (ap (total size) is) ∙ sym
-            (all_total (λ (u : View I). total size u.columns) (λ u e. no_columns (total size) refl u.vacant u.columns e) views id v at all)
+            (all_total (λ (u : View I). total size u.columns)
+            (λ u e. no_columns (total size) refl u.vacant u.columns e) views id v at all)
             ∙ k.count;
         each_once =
-            (λ x. sym (times_of x 0 lists) ∙ sym (ap (times_all x) is)
-                ∙ sym (all_total (λ (u : View I). times_all x u.columns)
-                (λ u e. no_columns (times_all x) refl u.vacant u.columns e) views id v at all) ∙ k.drawn x);
+            (λ x.
+            sym (times_of x 0 lists) ∙ sym (ap (times_all x) is) ∙ sym
+            (all_total (λ (u : View I). times_all x u.columns)
+            (λ u e. no_columns (times_all x) refl u.vacant u.columns e) views id v at all) ∙ k.drawn x);
         lists_fit = fit_of k.log 0 lists (subst (FitColumns m k.log) is (k.views_fit id v at).columns);
         quotes = k.quotes;
         quoted_once = (λ x pos. let u = k.unspent x pos in let o = once_le x (length k.log) in omega arith);

@@ -1,17 +1,16 @@
 -- Each step keeps the rule.
-use Rattle.std.proofs.Common.{◌⊎◌, ne_eqb, eqb, ◌≡◌, ◌≢◌, ℕ, zero, suc, ◌+◌, ◌*◌, ◌%◌, ◌<◌, ◌≤◌, List, [], ◌∷◌, ◌++◌, length, set, map, Bool, true, false, refl, sym, ap, ◌∙◌, subst, ⊎_elim, arith, length-append, append_assoc}
-use Rattle.std.specs.Prelude.{◌==◌, if◌then◌else◌, slice_index, Option, Some, None}
+use Rattle.std.proofs.Common.{◌≡◌, ◌≢◌, ℕ, zero, suc, ◌+◌, ◌*◌, ◌%◌, ◌<◌, ◌≤◌, List, [], ◌∷◌, ◌++◌, length, set, map, refl, sym, ap, ◌∙◌, subst, ⊎_elim, arith, length-append, append_assoc}
+use Rattle.std.specs.Prelude.{slice_index, Option, Some, None}
 use mathlib.Core.Option.{some, some-ne-none, some-injective}
 use lib.ListN.{get_elem?}
-use Rattle.std.proofs.lemmas.Bool.Decides.{eqb_tells}
 use Rattle.atomic_table.proofs.Lists.{at_set, at_snoc}
 use Rattle.lb_ticket.specs.declared.item.Drawn.{Drawn}
 use Rattle.lb_ticket.specs.declared.view.View.{View}
 use Rattle.lb_ticket.specs.declared.view.Column.{Column}
-use Rattle.lb_ticket.specs.Tickets.{Has, Meaning, total, same, once, hit, times, Stands, AllStand, pair, FitsAfter, AllOwned, quoted_by, quote_hit, quotes_of, QuoteFits, AllQuote, ListsFit, Closes}
-use Rattle.lb_ticket.proofs.Views.{first_drawn, told_view, only, QuoteKnown, MayDraw, drew, drew_at, spent_view, seat_cut_left, seat_cut_right, both_of, note_left, note_right, learnt, marked, Marks, root_view, columns_of, opening_view}
+use Rattle.lb_ticket.specs.Tickets.{Has, Meaning, total, same, once, hit, times, Stands, AllStand, pair, FitsAfter, AllOwned, quoted_by, quote_hit, quotes_of, QuoteFits, AllQuote}
+use Rattle.lb_ticket.proofs.Views.{first_drawn, told_view, only, QuoteKnown, MayDraw, drew, drew_at, spent_view, seat_cut_left, seat_cut_right, both_of, note_left, note_right, learnt, marked, Marks, root_view, opening_view}
 use Rattle.lb_ticket.specs.Kept.{times_in, times_all, size, FitsColumn, FitColumns, FitsView, shares, Kept}
-use Rattle.lb_ticket.proofs.Sums.{once_next, same_ne, once_above, same_le, once_le, has_times, total-append, total_set, all_stand_longer, all_stand-append, stands_below, stands_last, rises_snoc, all_stand_without, all_stand_only, times_parted, only_at, times_at, total_member, none_only, single, only_none, only-append, only_here, all_below}
+use Rattle.lb_ticket.proofs.Sums.{once_next, same_ne, once_le, total-append, total_set, all_stand_longer, all_stand-append, stands_below, stands_last, rises_snoc, all_stand_without, all_stand_only, times_parted, only_at, times_at, total_member, none_only, single, only_none, only-append, only_here, all_below}
 
 module _ {I L : Type 0} (m : Meaning I L) where
   fits_snoc : (before : List (ℕ × I)) (ds : List (Drawn I)) (d : Drawn I) → FitsAfter m before ds →
@@ -188,11 +187,15 @@ module _ {I L : Type 0} (m : Meaning I L) where
             ∙ ap (λ (z : ℕ). z ∷ []) (let r : (n + 1) % 18446744073709551616 ≡ n + 1 = omega arith in omega arith);
         few = k.few;
         owned =
-            (let t = total_set (shares m) views id v w at in let cs = ap (λ (l : List (Column I)). length l) may.is in
-                let o = k.owned in omega arith);
+            (let t = total_set (shares m) views id v w at in
+            let cs = ap (λ (l : List (Column I)). length l) may.is in
+            let o = k.owned in
+            omega arith);
         count =
             (let t = total_set (λ (u : View I). total size u.columns) views id v w at in
-                let cs = ap (total size) may.is in let o = k.count in omega (arith, length-append may.drawn (d ∷ [])));
+            let cs = ap (total size) may.is in
+            let o = k.count in
+            omega (arith, length-append may.drawn (d ∷ [])));
         drawn = (λ x.
             let t = total_set (λ (u : View I). times_all x u.columns) views id v w at in
             let cs = ap (times_all x) may.is in
@@ -261,15 +264,19 @@ module _ {I L : Type 0} (m : Meaning I L) where
         count =
             total_fork (λ (u : View I). total size u.columns) views id v spent_view l r at refl s.count_same ∙ k.count;
         drawn =
-            (λ x. total_fork (λ (u : View I). times_all x u.columns) views id v spent_view l r at refl (s.drawn_same x) ∙ k.drawn x);
+            (λ x.
+            total_fork (λ (u : View I). times_all x u.columns) views id v spent_view l r at refl (s.drawn_same x)
+            ∙ k.drawn x);
         unspent =
-            (λ x pos. ap (λ (z : ℕ). quotes_of m x k.log + z)
-                (total_fork (λ (u : View I). times x u.fresh + times x u.known) views id v spent_view l r at refl
-                (s.unspent_same x)) ∙ k.unspent x pos);
+            (λ x pos.
+            ap (λ (z : ℕ). quotes_of m x k.log + z)
+            (total_fork (λ (u : View I). times x u.fresh + times x u.known) views id v spent_view l r at refl
+            (s.unspent_same x)) ∙ k.unspent x pos);
         quotes = k.quotes;
         views_fit =
-            (λ j u e. ⊎_elim (λ was. views_set k.log k.log views id l k.views_fit both.0 j u was)
-                (λ (q : r ≡ u). subst (FitsView m k.log) q both.1) (at_snoc (set views id l) r u j e));
+            (λ j u e.
+            ⊎_elim (λ was. views_set k.log k.log views id l k.views_fit both.0 j u was)
+            (λ (q : r ≡ u). subst (FitsView m k.log) q both.1) (at_snoc (set views id l) r u j e));
       }
 
   pub joins : (owners id other : ℕ) (v w a b : View I) (words : List ℕ) (views : List (View I)) → SameSums v w a b →
@@ -291,11 +298,14 @@ module _ {I L : Type 0} (m : Meaning I L) where
         count =
             total_join (λ (u : View I). total size u.columns) views id other v w a b at there s.count_same ∙ k.count;
         drawn =
-            (λ x. total_join (λ (u : View I). times_all x u.columns) views id other v w a b at there (s.drawn_same x) ∙ k.drawn x);
+            (λ x.
+            total_join (λ (u : View I). times_all x u.columns) views id other v w a b at there (s.drawn_same x)
+            ∙ k.drawn x);
         unspent =
-            (λ x pos. ap (λ (z : ℕ). quotes_of m x k.log + z)
-                (total_join (λ (u : View I). times x u.fresh + times x u.known) views id other v w a b at there
-                (s.unspent_same x)) ∙ k.unspent x pos);
+            (λ x pos.
+            ap (λ (z : ℕ). quotes_of m x k.log + z)
+            (total_join (λ (u : View I). times x u.fresh + times x u.known) views id other v w a b at there
+            (s.unspent_same x)) ∙ k.unspent x pos);
         quotes = k.quotes;
         views_fit =
             views_set k.log k.log (set views id a) other b
@@ -347,7 +357,10 @@ module _ {I L : Type 0} (m : Meaning I L) where
         count_same = omega (arith, total-append size w.columns v.columns);
         drawn_same = (λ x. omega (arith, total-append (times_in x) w.columns v.columns));
         unspent_same =
-            (λ x. let p = total-append (hit x) v.fresh w.fresh in let q = total-append (hit x) v.known w.known in omega arith);
+            (λ x.
+            let p = total-append (hit x) v.fresh w.fresh in
+            let q = total-append (hit x) v.known w.known in
+            omega arith);
       })
       k at apart there
       (λ log f g. (
@@ -480,13 +493,19 @@ module _ {I L : Type 0} (m : Meaning I L) where
           few = k.few;
           owned = (let t = total_set (shares m) views id v (marked v n) at in let o = k.owned in omega arith);
           count =
-              (let t = total_set (λ (u : View I). total size u.columns) views id v (marked v n) at in let o = k.count in omega arith);
+              (let t = total_set (λ (u : View I). total size u.columns) views id v (marked v n) at in
+              let o = k.count in
+              omega arith);
           drawn =
-              (λ x. let t = total_set (λ (u : View I). times_all x u.columns) views id v (marked v n) at in
-                  let o = k.drawn x in omega arith);
+              (λ x.
+              let t = total_set (λ (u : View I). times_all x u.columns) views id v (marked v n) at in
+              let o = k.drawn x in
+              omega arith);
           unspent =
-              (λ x pos. let t = total_set (λ (u : View I). times x u.fresh + times x u.known) views id v
-                  (marked v n) at in let o = k.unspent x pos in omega arith);
+              (λ x pos.
+              let t = total_set (λ (u : View I). times x u.fresh + times x u.known) views id v (marked v n) at in
+              let o = k.unspent x pos in
+              omega arith);
           quotes = k.quotes;
           views_fit = views_set k.log k.log views id (marked v n) k.views_fit (record {
             columns = f.columns;
@@ -496,5 +515,10 @@ module _ {I L : Type 0} (m : Meaning I L) where
             seen = omega arith;
           });
         },
-        (refl, omega arith, all_below k.log n v.known f.known (omega arith), all_below k.log n v.read f.read (omega arith)),
+        (
+          refl,
+          omega arith,
+          all_below k.log n v.known f.known (omega arith),
+          all_below k.log n v.read f.read (omega arith),
+        ),
       )

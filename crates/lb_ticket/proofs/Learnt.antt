@@ -1,5 +1,5 @@
 -- The last of the facts that are known.
-use Rattle.std.proofs.Common.{All, ◌≡◌, ◌+◌, ◌⊎◌, inl, inr, ℕ, ◌<◌, List, [], ◌∷◌, ◌++◌, refl}
+use Rattle.std.proofs.Common.{All, ◌+◌, inl, inr, ℕ, ◌<◌, List, [], ◌∷◌, ◌++◌, refl}
 use Rattle.std.proofs.lemmas.List.Elements.{All-nil, All-cons}
 use Rattle.lb_ticket.specs.declared.item.Drawn.{Drawn}
 use Rattle.lb_ticket.specs.declared.view.Fact.{Fact}

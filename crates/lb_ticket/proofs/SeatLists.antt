@@ -2,10 +2,8 @@
 use Rattle.std.proofs.Common.{map, ◌≡◌, ◌⊎◌, inl, inr, ℕ, ◌+◌, List, [], ◌∷◌, ◌++◌, length, sym, ap, subst, ◌∙◌, arith}
 use Rattle.atomic_table.specs.Seated.{TableId}
 use Rattle.lb_ticket.specs.declared.item.Drawn.{Drawn}
-use Rattle.lb_ticket.specs.declared.view.Column.{Column}
 use Rattle.lb_ticket.specs.Seats.{SeatIs, Numbered, AllEmpty, gathered}
 use Rattle.lb_ticket.specs.Tickets.{Among}
-use Rattle.lb_ticket.proofs.Views.{columns_of}
 use Rattle.lb_ticket.specs.Facts.{held_of}
 use Rattle.lb_ticket.specs.Bare.{bare_columns_of}
 use Rattle.lb_ticket.specs.declared.view.BareColumn.{BareColumn}

@@ -44,8 +44,8 @@ pub once_le : (x n : ℕ) → once x n ≤ 1
 once_le x zero = omega arith
 once_le x (suc n) =
     ⊎_elim
-    (λ (t : (eqb x (suc n) ≡ true) × (x ≡ suc n)). let a = once_above x n (let e = t.1 in omega arith) in
-        let b = same_le x (suc n) in omega arith)
+    (λ (t : (eqb x (suc n) ≡ true) × (x ≡ suc n)).
+    let a = once_above x n (let e = t.1 in omega arith) in let b = same_le x (suc n) in omega arith)
     (λ (t : (eqb x (suc n) ≡ false) × (x ≢ suc n)). let a = once_le x n in let b = same_ne x (suc n) t.1 in omega arith)
     (eqb_tells x (suc n))
 
@@ -160,8 +160,10 @@ module _ {I : Type 0} where
   has_times x d [] h e = absurd h
   has_times x d (y ∷ ds) h e =
       ⊎_elim
-      (λ (p : y ≡ d). let q : x ≡ y.ticket = sym (ap (λ (z : Drawn I). z.ticket) p ∙ e) in
-          let o : hit x y ≡ 1 = ap (λ (b : Bool). let r : ℕ = if b then 1 else 0 in r) (eq-eqb x y.ticket q) in omega arith)
+      (λ (p : y ≡ d).
+      let q : x ≡ y.ticket = sym (ap (λ (z : Drawn I). z.ticket) p ∙ e) in
+      let o : hit x y ≡ 1 = ap (λ (b : Bool). let r : ℕ = if b then 1 else 0 in r) (eq-eqb x y.ticket q) in
+      omega arith)
       (λ (r : Has d ds). omega (arith, has_times x d ds r e))
       h
 
@@ -180,8 +182,10 @@ module _ {I : Type 0} where
           λ i. is i ∷ none i
       go false t le rec =
           ⊎_elim
-          (λ (p : y ≡ d). absurd (Rattle.std.proofs.Common.true≢false
-              (sym (eq-eqb x y.ticket (sym (ap (λ (z : Drawn I). z.ticket) p ∙ e))) ∙ t)))
+          (λ (p : y ≡ d).
+          absurd
+          (Rattle.std.proofs.Common.true≢false
+          (sym (eq-eqb x y.ticket (sym (ap (λ (z : Drawn I). z.ticket) p ∙ e))) ∙ t)))
           (λ (r : Has d ds). rec (omega arith) r e) h
 
   pub only_none : (log : List I) (n : ℕ) (ds : List (Drawn I)) → AllStand log ds → length log < n → times n ds ≡ 0

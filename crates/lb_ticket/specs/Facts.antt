@@ -34,6 +34,10 @@ module _ {I L : Type 0} (m : Meaning I L) (left : Coded L) where
   abbrev pub fact_of : Drawn I → Fact
   fact_of d = record { ticket = d.ticket; lane = m.lane d.item; left = left.code (m.leaves d.item) }
 
+  -- of an item that was drawn at a ticket
+  abbrev pub fact_at : ℕ → I → Fact
+  fact_at ticket i = fact_of (record { ticket = ticket; item = i })
+
   -- what the item quotes is known
   abbrev pub QuoteIsKnown : List Fact → I → Option (ℕ × L) → Type 0
   QuoteIsKnown known i None = Unit {0}

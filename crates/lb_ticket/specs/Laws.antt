@@ -1,5 +1,5 @@
 -- What the users of a ticket book conclude from its calls.
-use Rattle.std.specs.Prelude.{◌≡◌, ℕ, ◌<◌, List, [], ◌∷◌, ◌++◌, All}
+use Rattle.std.specs.Prelude.{ℕ, ◌<◌, List, [], ◌∷◌, ◌++◌, All}
 use Rattle.lb_ticket.specs.declared.item.Drawn.{Drawn}
 use Rattle.lb_ticket.specs.declared.view.Fact.{Fact}
 use Rattle.lb_ticket.specs.Tickets.{Meaning, Rises, Closes}

@@ -29,6 +29,14 @@ pub record NoteIs : Type 0 where
   pub facts : List Fact
 
 module _ {I : Type 0} where
+  -- whose seat it is, what it drew and its room are as they were
+  abbrev pub KeepsList : SeatIs I → SeatIs I → Type 0
+  KeepsList s t = (t.table ≡ s.table) × (t.number ≡ s.number) × (t.list ≡ s.list) × (t.spare ≡ s.spare)
+
+  -- what it knows and has read is as it was
+  abbrev pub KeepsView : SeatIs I → SeatIs I → Type 0
+  KeepsView s t = (t.fresh ≡ s.fresh) × (t.known ≡ s.known) × (t.read ≡ s.read) × (t.next ≡ s.next)
+
   -- the seats are of one book, and have the numbers from k on
   abbrev pub Numbered : TableId → ℕ → List (SeatIs I) → Type 0
   Numbered t k [] = Unit {0}

@@ -29,7 +29,9 @@ impl<I: Item> Model for Book<I> {
 
     ghost view = { λ b. record { table = b.table.shared.table_id; owners = b.owners } };
 
-    ghost invariant = { λ b. (b.table.shared.table_id.words ≡ 1) × (b.table.shared.table_id.slots ≡ 0) × (b.table.shared.key ≡ b.owners) × (1 ≤ b.owners) × (b.of.items ≡ []) × (b.owners ≤ vec_capacity b.of) };
+    ghost invariant = { λ b.
+        (b.table.shared.table_id.words ≡ 1) × (b.table.shared.table_id.slots ≡ 0) × (b.table.shared.key ≡ b.owners)
+        × (1 ≤ b.owners) × (b.of.items ≡ []) × (b.owners ≤ vec_capacity b.of) };
 }
 
 /// The lists of all owners, by their numbers. Contracts see a list of lists.
@@ -60,7 +62,8 @@ fn make_seats<I: Item>(
     requires root { root.old.me ≡ (bare_opening owners, []) }
     requires room { (seats.old.items ≡ []) × (owners ≤ vec_capacity seats.old) }
     ensures root { (root.new.table_id ≡ root.old.table_id) × IsBareRoot root.new.me }
-    ensures seats { Numbered shared.now.table_id 0 seats.new.items × (length seats.new.items ≡ owners) × AllEmpty seats.new.items }
+    ensures seats { Numbered shared.now.table_id 0 seats.new.items × (length seats.new.items ≡ owners) }
+    ensures empty { AllEmpty seats.new.items }
 {
     for number in 0..owners {
         let token = shared.split_seat::<MakeSeat>(root);
@@ -77,7 +80,8 @@ impl<I: Item> Book<I> {
     /// A book of `owners` owners, at most 4,096, and the seat of each, with the numbers from 0. Nothing is drawn yet.
     pub fn new(alloc: Global, owners: u32) -> Result<(Book<I>, Vec<Seat<I>>), NoMemory>
         requires { (1 ≤ owners) × (owners ≤ 4096) }
-        ensures { IfOk result (λ r. (r.0.owners ≡ owners) × (length r.1.items ≡ owners) × Numbered r.0.table 0 r.1.items × AllEmpty r.1.items) }
+        ensures seats { IfOk result (λ r. (r.0.owners ≡ owners) × (length r.1.items ≡ owners) × Numbered r.0.table 0 r.1.items) }
+        ensures empty { IfOk result (λ r. AllEmpty r.1.items) }
     {
         let Ok((table, mut root)) = Table::of_words(alloc, &[1], &owners) else {
             return Err(NoMemory);

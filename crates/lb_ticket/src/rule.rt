@@ -34,7 +34,8 @@ pub struct Draw<I, J> {
 }
 
 impl<I: Item, J: PicksItem<I>> Play<(), Bare> for Draw<I, J> {
-    ghost then = { λ _ me found after. BareDraws I.means I.row.coded I.Left.row.coded J.picked me.0 found after.0 × (after.1 ≡ me.1) };
+    ghost then = { λ _ me found after.
+        BareDraws I.means I.row.coded I.Left.row.coded J.picked me.0 found after.0 × (after.1 ≡ me.1) };
 }
 
 /// A load: what was found is above all that the loader knows.

@@ -1,6 +1,7 @@
 ghost use Rattle.std.specs.Prelude.{◌≡◌, ◌+◌, ◌<◌, ◌≤◌, ◌^◌, [], ◌∷◌, ◌++◌, length, map, OnOk, OnErr, All};
 ghost use Rattle.lb_ticket.specs.Tickets.{pair, quoted_by, AllBelow};
-ghost use Rattle.lb_ticket.specs.Facts.{fact_of, QuoteIsKnown, without_fact, only_facts, IsOnlyFact, FactsBelow, HasRead, HeldBelow, held_of};
+ghost use Rattle.lb_ticket.specs.Seats.{KeepsList, KeepsView};
+ghost use Rattle.lb_ticket.specs.Facts.{fact_at, QuoteIsKnown, without_fact, only_facts, IsOnlyFact, FactsBelow, HasRead, HeldBelow, held_of};
 
 use crate::book::Book;
 use crate::coding::Coding;
@@ -40,7 +41,11 @@ impl<I: Coding> Model for Seat<I> {
       next = s.token.me.0.seen;
     } };
 
-    ghost invariant = { λ s. HasBareList I.coding s.number s.list.items s.token.me × (vec_len s.list + s.spare ≤ vec_capacity s.list) × (length s.list.items + s.spare < 2 ^ 40) × HeldBelow s.token.me.0.seen s.token.me.0.read };
+    ghost invariant = { λ s.
+        HasBareList I.coding s.number s.list.items s.token.me
+        × (vec_len s.list + s.spare ≤ vec_capacity s.list)
+        × (length s.list.items + s.spare < 2 ^ 40)
+        × HeldBelow s.token.me.0.seen s.token.me.0.read };
 }
 
 impl<I: Item> Seat<I> {
@@ -63,7 +68,7 @@ impl<I: Item> Seat<I> {
     pub fn reserve(&mut self, k: usize) -> Result<(), NoMemory>
         requires { length self.old.list + k < 2 ^ 40 }
         ensures same { (self.new.table ≡ self.old.table) × (self.new.number ≡ self.old.number) × (self.new.list ≡ self.old.list) }
-        ensures view { (self.new.fresh ≡ self.old.fresh) × (self.new.known ≡ self.old.known) × (self.new.read ≡ self.old.read) × (self.new.next ≡ self.old.next) }
+        ensures view { KeepsView self.old self.new }
         ensures ok { OnOk result (k ≤ self.new.spare) }
         ensures refused { OnErr result (self.new.spare ≡ self.old.spare) }
     {
@@ -89,8 +94,8 @@ impl<I: Item> Seat<I> {
         ensures same { (self.new.table ≡ self.old.table) × (self.new.number ≡ self.old.number) }
         ensures list { self.new.list ≡ self.old.list ++ record { ticket = result; item = item } ∷ [] }
         ensures spare { self.old.spare ≡ self.new.spare + 1 }
-        ensures fresh { self.new.fresh ≡ self.old.fresh ++ fact_of I.means I.Left.row.coded (record { ticket = result; item = item }) ∷ [] }
-        ensures new { IsOnlyFact (fact_of I.means I.Left.row.coded (record { ticket = result; item = item })) self.new.fresh }
+        ensures fresh { self.new.fresh ≡ self.old.fresh ++ fact_at I.means I.Left.row.coded result item ∷ [] }
+        ensures new { IsOnlyFact (fact_at I.means I.Left.row.coded result item) self.new.fresh }
         ensures known { self.new.known ≡ without_fact (quoted_by (I.means.quote item)) self.old.known }
         ensures read { (self.new.read ≡ self.old.read) × HeldBelow result self.old.read }
         ensures later { (self.old.next ≤ result) × (self.new.next ≡ result + 1) × (0 < result) }
@@ -105,7 +110,7 @@ impl<I: Item> Seat<I> {
     pub fn note(&mut self, book: &Book<I>, k: u64) -> Note
         requires book { self.old.table ≡ book.now.table }
         requires fresh { (f : _) × (only_facts k self.old.fresh ≡ f ∷ []) }
-        ensures same { (self.new.table ≡ self.old.table) × (self.new.number ≡ self.old.number) × (self.new.list ≡ self.old.list) × (self.new.spare ≡ self.old.spare) }
+        ensures same { KeepsList self.old self.new }
         ensures note { (result.table ≡ self.old.table) × (result.facts ≡ only_facts k self.old.fresh) }
         ensures fresh { self.new.fresh ≡ without_fact k self.old.fresh }
         ensures view { (self.new.known ≡ self.old.known) × (self.new.read ≡ self.old.read) × (self.new.next ≡ self.old.next) }
@@ -117,7 +122,7 @@ impl<I: Item> Seat<I> {
     /// Learns a note, which is spent: this seat may quote its ticket, and each later ticket of this seat is above it.
     pub fn learn(&mut self, book: &Book<I>, note: Note)
         requires book { (self.old.table ≡ book.now.table) × (note.table ≡ book.now.table) }
-        ensures same { (self.new.table ≡ self.old.table) × (self.new.number ≡ self.old.number) × (self.new.list ≡ self.old.list) × (self.new.spare ≡ self.old.spare) }
+        ensures same { KeepsList self.old self.new }
         ensures known { self.new.known ≡ self.old.known ++ note.facts }
         ensures later { FactsBelow self.new.next self.new.known × (self.old.next ≤ self.new.next) }
         ensures view { (self.new.fresh ≡ self.old.fresh) × (self.new.read ≡ self.old.read) }
@@ -129,7 +134,7 @@ impl<I: Item> Seat<I> {
     /// The next ticket at this moment: each later ticket of this seat is that or a greater one.
     pub fn mark(&mut self, book: &Book<I>) -> u64
         requires book { self.old.table ≡ book.now.table }
-        ensures same { (self.new.table ≡ self.old.table) × (self.new.number ≡ self.old.number) × (self.new.list ≡ self.old.list) × (self.new.spare ≡ self.old.spare) }
+        ensures same { KeepsList self.old self.new }
         ensures later { (self.old.next ≤ result) × (self.new.next ≡ result) }
         ensures view { (self.new.fresh ≡ self.old.fresh) × (self.new.known ≡ self.old.known) × (self.new.read ≡ self.old.read) }
     {
@@ -141,7 +146,7 @@ impl<I: Item> Seat<I> {
     pub fn follow(&mut self, book: &Book<I>, other: &mut Seat<I>)
         requires book { (self.old.table ≡ book.now.table) × (other.old.table ≡ book.now.table) }
         ensures other { other.new ≡ other.old }
-        ensures same { (self.new.table ≡ self.old.table) × (self.new.number ≡ self.old.number) × (self.new.list ≡ self.old.list) × (self.new.spare ≡ self.old.spare) }
+        ensures same { KeepsList self.old self.new }
         ensures read { self.new.read ≡ self.old.read ++ map (held_of I.row.coded) other.old.list }
         ensures reads { All (HasRead I.row.coded self.new.read self.new.next) other.old.list }
         ensures below { AllBelow self.new.next other.old.list }

@@ -1,6 +1,6 @@
 //! The steps on the ticket word, by the token of a seat.
 ghost use Rattle.std.specs.Prelude.{◌≡◌, ℕ, ◌<◌, ◌≤◌, [], ◌∷◌};
-ghost use Rattle.lb_ticket.specs.Facts.{fact_of, IsOnlyFact};
+ghost use Rattle.lb_ticket.specs.Facts.{fact_at, IsOnlyFact};
 ghost use Rattle.lb_ticket.specs.Bare.{BareMayDraw, bare_drew, bare_note_left, bare_note_right, BareMarks, bare_told, bare_learnt};
 
 use crate::item::Item;
@@ -20,7 +20,7 @@ pub(crate) fn draw_as<I: Item, J: PicksItem<I>>(
     ensures table { (token.new.table_id ≡ token.old.table_id) × (token.new.me.1 ≡ token.old.me.1) }
     ensures drew { token.new.me.0 ≡ bare_drew I.means I.row.coded I.Left.row.coded token.old.me.0 item.now result }
     ensures later { (token.old.me.0.seen ≤ result) × (0 < result) }
-    ensures new { IsOnlyFact (fact_of I.means I.Left.row.coded (record { ticket = result; item = item.now })) token.new.me.0.fresh }
+    ensures new { IsOnlyFact (fact_at I.means I.Left.row.coded result item.now) token.new.me.0.fresh }
 {
     shared.fetch_add::<Draw<I, J>>(token, 0, 1)
 }
@@ -70,7 +70,8 @@ pub(crate) fn take_in<I: Item>(
     token: &mut Token<(), Bare>,
     other: Token<(), Bare>,
 ) -> u64
-    requires table { (token.old.table_id ≡ shared.now.table_id) × (other.table_id ≡ shared.now.table_id) × (shared.now.table_id.words ≡ 1) }
+    requires table { (token.old.table_id ≡ shared.now.table_id) × (shared.now.table_id.words ≡ 1) }
+    requires same { other.table_id ≡ shared.now.table_id }
     requires other { (other.me.0.vacant ≡ 0) × (other.me.0.columns ≡ []) × (other.me.0.fresh ≡ []) × (other.me.1 ≡ []) }
     ensures table { (token.new.table_id ≡ token.old.table_id) × (token.new.me.1 ≡ token.old.me.1) }
     ensures marks { BareMarks (bare_learnt token.old.me.0 other.me.0) result token.new.me.0 }

@@ -16,7 +16,13 @@ struct Plain {
 impl Item for Plain {
     type Left = u32;
 
-    ghost means = { record { owner = λ i. i.owner; lane = λ i. i.lane; quote = λ i. i.quoted; leaves = λ i. i.left; fits = λ _ _. Unit {0} } };
+    ghost means = { record {
+      owner = λ i. i.owner;
+      lane = λ i. i.lane;
+      quote = λ i. i.quoted;
+      leaves = λ i. i.left;
+      fits = λ _ _. Unit {0};
+    } };
 
     fn owner(&self) -> u32 {
         self.owner

@@ -18,12 +18,14 @@ split_seat-token-requires g c =
       (let w = c.requires.table.1 in omega arith),
       λ s h at.
           subst
-          (λ (me : Bare × List (ℕ × Unit {0})). get_elem? s.views c.loop-number.root.id ≡ some me.0
-              → BareKept m ci cl c.args.shared.now.key s.words
-              (set s.views c.loop-number.root.id (bare_cut_left me.0) ++ bare_cut_right me.0 ∷ []))
+          (λ (me : Bare × List (ℕ × Unit {0})).
+          get_elem? s.views c.loop-number.root.id ≡ some me.0 →
+          BareKept m ci cl c.args.shared.now.key s.words
+          (set s.views c.loop-number.root.id (bare_cut_left me.0) ++ bare_cut_right me.0 ∷ []))
           (sym inv.1)
-          (λ a. bare_seats m ci cl c.args.shared.now.key c.loop-number.root.id n (c.args.owners - n)
-              (let t = c.loop-number-test.true in omega arith) s.words s.views h a)
+          (λ a.
+          bare_seats m ci cl c.args.shared.now.key c.loop-number.root.id n (c.args.owners - n)
+          (let t = c.loop-number-test.true in omega arith) s.words s.views h a)
           at,
     )
 
@@ -40,7 +42,7 @@ loop-number-preserved g c =
       rw c.push_reserved.ensures.items (numbered_snoc _ _ _ _ inv.2 (e.3 ∙ inv.0) (let l = inv.4 in omega arith)),
       rw c.push_reserved.ensures.items
           (empty_snoc _ _ inv.3 c.new.ensures.items refl (ap (λ me. me.0.fresh) right) (ap (λ me. me.0.known) right)
-              (ap (λ me. me.0.read) right)),
+          (ap (λ me. me.0.read) right)),
       search rules,
       search rules,
     )

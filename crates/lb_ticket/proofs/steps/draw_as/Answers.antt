@@ -17,7 +17,11 @@ fetch_add-requires g c =
       λ s h len at lt.
           let n = slice_index s.words 0 in
           let k =
-          bare_draws m ci cl c.args.shared.now.key c.args.token.now.id v i c.requires.may s.words s.views h at in
-          (bare_drew m ci cl v i n, keeps, tt, k.0,
-              (subst (λ l. BareDraws m ci cl l v n (bare_drew m ci cl v i n)) (sym c.requires.pick) k.1, refl)),
+          bare_draws m ci cl c.args.shared.now.key c.args.token.now.id v i c.requires.may s.words s.views h at in (
+            bare_drew m ci cl v i n,
+            keeps,
+            tt,
+            k.0,
+            (subst (λ l. BareDraws m ci cl l v n (bare_drew m ci cl v i n)) (sym c.requires.pick) k.1, refl),
+          ),
     )

@@ -9,9 +9,9 @@ join_seat-requires g c =
     let w = c.args.other in
     let o = c.requires.other in (
       c.requires.table.0,
-      c.requires.table.1,
+      c.requires.same,
       o.3,
-      (let e = c.requires.table.2 in omega arith),
+      (let e = c.requires.table.1 in omega arith),
       λ s h at apart there.
           bare_learns m g.row.I.coded g.row.I-Left.coded c.args.shared.now.key v.id w.id v.me.0 w.me.0 o.0 o.1 o.2
           s.words s.views h at apart there,

@@ -85,21 +85,23 @@ loop-seat-preserved g c =
           (length c.pop-in-loop-seat.new.self.items) s.list.items _ _ _ c.seat.invariant.0.0 inv.4
           (ap (λ x. x.number) c.seat.view_is ∙ (let n = num.2 in omega arith)) len
           ∙ ap (λ l. bare_columns_of g.row.I.coded (length c.pop-in-loop-seat.new.self.items) (map (λ v. v.items) l))
-          (sym (reverse-append c.loop-seat.of.items (s.list ∷ [])) ∙ ap (λ l. reverse l) (sym c.push_reserved-in-Some-pop.ensures.items)),
+          (sym (reverse-append c.loop-seat.of.items (s.list ∷ []))
+          ∙ ap (λ l. reverse l) (sym c.push_reserved-in-Some-pop.ensures.items)),
       num.0,
-      (let i = inv.6 in let p = ap (λ l. length l) c.push_reserved-in-Some-pop.ensures.items in
+      (let i = inv.6 in
+          let p = ap (λ l. length l) c.push_reserved-in-Some-pop.ensures.items in
           omega (arith, len, length-append c.loop-seat.of.items (s.list ∷ []))),
       search rules,
       (λ f h.
           subst (λ me. Among f (all_facts c.pop-in-loop-seat.new.self.items) ⊎ Among f (me.0.fresh ++ me.0.known))
           (sym e.2)
           (gathered_step (λ x. x.fresh ++ x.known) _ _ _ _
-              (root.fresh ++ root.known) _ c.in-Some-pop.ensures.items c.seat.view_is f
-              (has_joined root.fresh root.known s.token.me.0.fresh s.token.me.0.known f) (inv.8 f h))),
+          (root.fresh ++ root.known) _ c.in-Some-pop.ensures.items c.seat.view_is f
+          (has_joined root.fresh root.known s.token.me.0.fresh s.token.me.0.known f) (inv.8 f h))),
       (λ h r.
           subst (λ me. Among h (all_read c.pop-in-loop-seat.new.self.items) ⊎ Among h me.0.read) (sym e.2)
           (gathered_step (λ x. x.read) _ _ _ _ root.read _ c.in-Some-pop.ensures.items c.seat.view_is h
-              (has_either root.read s.token.me.0.read h) (inv.9 h r))),
+          (has_either root.read s.token.me.0.read h) (inv.9 h r))),
       inv.10
           ∙ ap (λ l. map (λ x. x.list) l ++ map (λ v. v.items) (reverse c.loop-seat.of.items))
           c.in-Some-pop.ensures.items
@@ -109,8 +111,9 @@ loop-seat-preserved g c =
           (map (λ v. v.items) (reverse c.loop-seat.of.items))
           ∙ ap (λ l. map (λ x. x.list) c.pop-in-loop-seat.new.self.items ++ l)
           (ap (λ z. z ∷ map (λ v. v.items) (reverse c.loop-seat.of.items)) (sym (ap (λ x. x.list) c.seat.view_is))
-              ∙ ap (λ l. map (λ v. v.items) l) (sym (reverse-append c.loop-seat.of.items (s.list ∷ []))
-              ∙ ap (λ l. reverse l) (sym c.push_reserved-in-Some-pop.ensures.items))),
+          ∙ ap (λ l. map (λ v. v.items) l)
+          (sym (reverse-append c.loop-seat.of.items (s.list ∷ []))
+          ∙ ap (λ l. reverse l) (sym c.push_reserved-in-Some-pop.ensures.items))),
     )
 
 pub returns-clause-tickets : goal.returns-clause-tickets
@@ -123,7 +126,7 @@ returns-clause-tickets g c =
     bare_closes m g.row.I.coded g.row.I-Left.coded c.self.inside.table.shared.key c.loop-seat.root.id
     c.loop-seat.root.me.0 (map (λ v. v.items) c.reverse.new.self.items) w.0.words w.0.views w.1.0 w.1.1 inv.3
     (inv.4 ∙ ap (λ n. bare_columns_of g.row.I.coded n (map (λ v. v.items) (reverse c.loop-seat.of.items))) none
-        ∙ ap (λ l. bare_columns_of g.row.I.coded 0 (map (λ v. v.items) l)) (sym same))
+    ∙ ap (λ l. bare_columns_of g.row.I.coded 0 (map (λ v. v.items) l)) (sym same))
     (let i = inv.6 in
     let k : c.self.inside.table.shared.key ≡ c.args.self.owners =
     c.self.invariant.2 ∙ ap (λ x. x.owners) c.self.view_is in
@@ -144,7 +147,7 @@ returns-clause-unquoted g c f h =
     bare_holds m g.row.I.coded g.row.I-Left.coded c.self.inside.table.shared.key c.loop-seat.root.id
     c.loop-seat.root.me.0 (map (λ v. v.items) c.reverse.new.self.items) w.0.words w.0.views w.1.0 w.1.1 inv.3
     (inv.4 ∙ ap (λ n. bare_columns_of g.row.I.coded n (map (λ v. v.items) (reverse c.loop-seat.of.items))) none
-        ∙ ap (λ l. bare_columns_of g.row.I.coded 0 (map (λ v. v.items) l)) (sym same))
+    ∙ ap (λ l. bare_columns_of g.row.I.coded 0 (map (λ v. v.items) l)) (sym same))
     (let i = inv.6 in
     let k : c.self.inside.table.shared.key ≡ c.args.self.owners =
     c.self.invariant.2 ∙ ap (λ x. x.owners) c.self.view_is in
@@ -153,7 +156,7 @@ returns-clause-unquoted g c f h =
     omega arith)
     f
     (gathered_none (λ x. x.fresh ++ x.known) c.loop-seat.seats.items f
-        (c.loop-seat.root.me.0.fresh ++ c.loop-seat.root.me.0.known) none (inv.8 f h))
+    (c.loop-seat.root.me.0.fresh ++ c.loop-seat.root.me.0.known) none (inv.8 f h))
 
 pub returns-clause-read : goal.returns-clause-read
 returns-clause-read g c k d lt h r =
@@ -165,7 +168,7 @@ returns-clause-read g c k d lt h r =
     bare_read m g.row.I.coded g.row.I-Left.coded c.self.inside.table.shared.key c.loop-seat.root.id
     c.loop-seat.root.me.0 (map (λ v. v.items) c.reverse.new.self.items) w.0.words w.0.views w.1.0 w.1.1 inv.3
     (inv.4 ∙ ap (λ n. bare_columns_of g.row.I.coded n (map (λ v. v.items) (reverse c.loop-seat.of.items))) none
-        ∙ ap (λ l. bare_columns_of g.row.I.coded 0 (map (λ v. v.items) l)) (sym same))
+    ∙ ap (λ l. bare_columns_of g.row.I.coded 0 (map (λ v. v.items) l)) (sym same))
     (let i = inv.6 in
     let k : c.self.inside.table.shared.key ≡ c.args.self.owners =
     c.self.invariant.2 ∙ ap (λ x. x.owners) c.self.view_is in
@@ -174,4 +177,4 @@ returns-clause-read g c k d lt h r =
     omega arith)
     h
     (gathered_none (λ x. x.read) c.loop-seat.seats.items h c.loop-seat.root.me.0.read none
-        (inv.9 h (gathered_at (λ x. x.read) d c.args.seats.items k h lt r)))
+    (inv.9 h (gathered_at (λ x. x.read) d c.args.seats.items k h lt r)))

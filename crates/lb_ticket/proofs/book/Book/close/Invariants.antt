@@ -12,14 +12,13 @@ invariant-loop-seat g l =
     × (l.root.table_id ≡ l.fn.self.table)
     × (l.root.me.1 ≡ [])
     × (l.root.me.0.vacant ≡ 0)
-    ×
-    (l.root.me.0.columns ≡ bare_columns_of g.row.I.coded (length l.seats.items) (map (λ v. v.items) (reverse l.of.items)))
+    × (l.root.me.0.columns ≡ bare_columns_of g.row.I.coded (length l.seats.items)
+    (map (λ v. v.items) (reverse l.of.items)))
     × Numbered l.fn.self.table 0 l.seats.items
     × (length l.seats.items + length l.of.items ≡ l.fn.self.owners)
     × (l.fn.self.owners ≤ vec_capacity l.of)
-    ×
-    ((f : Fact) → Among f (all_facts l.fn.seats.items)
-        → Among f (all_facts l.seats.items) ⊎ Among f (l.root.me.0.fresh ++ l.root.me.0.known))
+    × ((f : Fact) → Among f (all_facts l.fn.seats.items) → Among f (all_facts l.seats.items)
+    ⊎ Among f (l.root.me.0.fresh ++ l.root.me.0.known))
     × ((h : Held) → Among h (all_read l.fn.seats.items) → Among h (all_read l.seats.items) ⊎ Among h l.root.me.0.read)
     × (map (λ s. s.list) l.fn.seats.items ≡ map (λ s. s.list) l.seats.items ++ map (λ v. v.items) (reverse l.of.items))
 

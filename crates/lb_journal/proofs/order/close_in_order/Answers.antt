@@ -1,0 +1,28 @@
+use Rattle.std.proofs.Common.{List, sym, subst}
+use Rattle.lb_core.specs.declared.entry.Entry.{Entry}
+use Rattle.lb_core.specs.Legal.{IsLegalHistory}
+use Rattle.lb_core.specs.OfTrace.{IsHistoryOf}
+use Rattle.lb_journal.specs.Merge.{MayMerge}
+use Rattle.lb_journal.proofs.Ordering.{if_ok_more, history_of}
+use Rattle.lb_journal.proofs.order.close_in_order.Goals as goal
+
+pub returns-clause-legal : goal.returns-clause-legal
+returns-clause-legal c =
+    let lists = c.close-lists.result in
+    let closed = c.close-lists.ensures in
+    if_ok_more c.in_order.result _ _
+    (λ es is h ok may.
+    subst (IsLegalHistory h) (sym (is closed.tickets))
+    (c.merge_is_run.ensures h lists ok closed.tickets (subst (MayMerge h) (sym closed.lists) may)))
+    c.in_order.ensures
+
+pub returns-clause-history : goal.returns-clause-history
+returns-clause-history c =
+    let lists = c.close-lists.result in
+    let closed = c.close-lists.ensures in
+    let seats = c.args.seats.items in
+    if_ok_more c.in_order.result _ _
+    (λ es is t cut ok kept.
+    subst (λ (l : List Entry). IsHistoryOf t (record { header = t.header; entries = l })) (sym (is closed.tickets))
+    (history_of c.owners_merge.ensures t _ _ seats cut lists closed.lists closed.tickets closed.unquoted closed.read ok kept))
+    c.in_order.ensures

@@ -1,0 +1,8 @@
+use Rattle.std.proofs.Common.{refl}
+use Rattle.lb_journal_rows.proofs.laws.merged_back.Goals as goal
+
+pub returns-clause-one_lane : goal.returns-clause-one_lane
+returns-clause-one_lane c = refl
+
+pub returns-clause-two_lanes : goal.returns-clause-two_lanes
+returns-clause-two_lanes c = refl
