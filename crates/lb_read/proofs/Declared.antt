@@ -212,7 +212,8 @@ distances_step n cpus done row lt few size fits stands nested =
       ticks = refl;
     } in
     good_is_read (with_table n cpus done) kinds.Dist (codes "dist") fields (later n lt) refl
-    (refl, each_map 44 decimal row number_free) (joined_plain (codes "dist") fields refl (map_plain decimal row decimal_plain)) good
+    (refl, each_map 44 decimal row number_free)
+    (joined_plain (codes "dist") fields refl (map_plain decimal row decimal_plain)) good
     ∙ ap (λ (ds : List ℕ). let o : Result Reading Code = Ok (with_table (n + 1) cpus (done ++ ds ∷ [])) in o) back.0
   where
     last : (b : Bool) → eqb (length (done ++ row ∷ [])) (nodes_of cpus) ≡ b → (b && not (is_nested (done ++ row ∷ []))) ≡ false
@@ -237,8 +238,8 @@ table_read n cpus done (row ∷ rows) more lt whole sizes fits stand nested =
     subst (λ (rest : List (List ℕ)). is_nested (done ++ row ∷ rest) ≡ true) none nested in
     let line =
     step_on (with_table n cpus done) (with_table (n + 1) cpus (done ++ row ∷ [])) (distances_body row)
-    (map distances_body rows ++ more) (distances_step n cpus done row lt (omega (arith, l, whole))
-    (eqb-true (length row) (nodes_of cpus) q.0) p.0 stand.0 at_last) in
+    (map distances_body rows ++ more)
+    (distances_step n cpus done row lt (omega (arith, l, whole)) (eqb-true (length row) (nodes_of cpus) q.0) p.0 stand.0 at_last) in
     let rest =
     table_read (n + 1) cpus (done ++ row ∷ []) rows more (omega (arith, lt)) (ap length again ∙ whole) q.1 p.1 stand.1
     (ap is_nested again ∙ nested) in
@@ -280,7 +281,8 @@ parts_step n cpus table parts lt machine some fits partition =
       ticks = refl;
     } in
     good_is_read (with_table n cpus table) kinds.Parts (codes "parts") fields (later n lt) refl
-    (refl, each_map 44 runs_text parts runs_over) (joined_plain (codes "parts") fields refl (map_plain runs_text parts runs_plain)) good
+    (refl, each_map 44 runs_text parts runs_over)
+    (joined_plain (codes "parts") fields refl (map_plain runs_text parts runs_plain)) good
     ∙ ap (λ (ms : List Mask). let o : Result Reading Code = Ok (so_far (n + 1) cpus table (Some ms) None []) in o) back.0
 
 -- ---- the number of lanes
@@ -309,7 +311,8 @@ lanes_step n cpus table parts lanes lt machine some few =
     } in
     good_is_read (so_far n cpus table (Some parts) None []) kinds.Lanes (codes "lanes") fields (later n lt) refl
     (refl, (number_free lanes, tt)) (joined_plain (codes "lanes") fields refl (decimal_plain lanes, tt)) good
-    ∙ ap (λ (o : Option ℕ). let x : Result Reading Code = Ok (so_far (n + 1) cpus table (Some parts) (Some (number o)) []) in x) back
+    ∙ ap
+    (λ (o : Option ℕ). let x : Result Reading Code = Ok (so_far (n + 1) cpus table (Some parts) (Some (number o)) []) in x) back
 
 -- ---- tasks
 abbrev with_tasks : ℕ → Header → List TaskRow → Reading

@@ -202,8 +202,8 @@ spelled_complete mask f =
 pub mask_exact : IsExact mask_in list_text is_mask
 unfolding mask_in
 mask_exact =
-    with_dash no_cpus (λ text. option_and_then (if_spelled text) (list_of text)) list_text is_mask dash_list
-    refl spelled_sound spelled_complete
+    with_dash no_cpus
+    (λ text. option_and_then (if_spelled text) (list_of text)) list_text is_mask dash_list refl spelled_sound spelled_complete
 
 -- ---- texts that are joined at marks, in both words for it
 pub joined_is : (mark : ℕ) (fields : List (List ℕ)) → joined mark fields ≡ join_with_byte mark fields
@@ -277,7 +277,8 @@ target_complete (Some cpu) f =
 pub target_exact : IsExact target_in target_text is_target
 unfolding target_in
 target_exact =
-    with_dash None (λ text. option_map (λ cpu. Some cpu) (short_in text)) target_text is_target refl refl target_sound target_complete
+    with_dash None
+    (λ text. option_map (λ cpu. Some cpu) (short_in text)) target_text is_target refl refl target_sound target_complete
 
 -- ---- figures
 pair_free : (mark : ℕ) (p : ℕ × ℕ) → is_ascii_digit mark ≡ false → (is_short p.0 && is_long p.1) ≡ true

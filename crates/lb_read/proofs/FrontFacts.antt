@@ -23,17 +23,6 @@ pub record FrontSoFar (text trace : List ℕ) (lines : ℕ) (parted : Bool) (res
   pub fits : length trace ≤ MAX_BYTES
   pub within : length rest ≤ length text
 
-pub so_far_none : (text trace : List ℕ) → trace ≡ trace_text [] → FrontSoFar text trace 0 false text
-so_far_none text trace e = record {
-  bodies = [];
-  trace_is = e;
-  lines_is = refl;
-  front_is = ap (λ t. front_of (MAX_BYTES - length t) false (lines_of text)) (sym e);
-  few = omega arith;
-  fits = let len : length trace ≡ 10 = ap length e in omega (arith, len);
-  within = omega arith;
-}
-
 -- the lines in front of a line and others
 pub cut_front : (n : ℕ) (parted : Bool) (line : List ℕ) (lines : List (List ℕ)) → (lines ≡ [] → ⊥)
     → front_of n parted (line ∷ lines) ≡ cond (not (is_repeated line)) (none_of false (line ∷ lines))
@@ -136,4 +125,5 @@ pub front_end : (text trace : List ℕ) (lines : ℕ) (parted : Bool) (rest : Li
     → lines_of rest ≡ rest ∷ [] → FrontIs text trace lines false rest
 unfolding front_of
 front_end text trace lines parted rest s cut =
-    ended_by text trace lines parted false rest s (ap (front_of (MAX_BYTES - length trace) parted) cut ∙ ap (none_of false) (sym cut))
+    ended_by text trace lines parted false rest s
+    (ap (front_of (MAX_BYTES - length trace) parted) cut ∙ ap (none_of false) (sym cut))

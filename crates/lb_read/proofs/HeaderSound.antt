@@ -57,7 +57,8 @@ numbered_push : {A : Type 0} (line : ℕ → A → List ℕ) (n : ℕ) (xs : Lis
 numbered_push line n [] x = ap (λ k. line k x ∷ []) (let z : n ≡ n + 0 = omega arith in z)
 numbered_push line n (y ∷ xs) x =
     ap (λ ls. line n y ∷ ls) (numbered_push line (n + 1) xs x)
-    ∙ ap (λ k. line n y ∷ (numbered line (n + 1) xs ++ line k x ∷ [])) (let z : n + 1 + length xs ≡ n + length (y ∷ xs) = omega arith in z)
+    ∙ ap (λ k. line n y ∷ (numbered line (n + 1) xs ++ line k x ∷ []))
+    (let z : n + 1 + length xs ≡ n + length (y ∷ xs) = omega arith in z)
 
 map_push : {A : Type 0} (f : A → List ℕ) (xs : List A) (x : A) → map f (xs ++ x ∷ []) ≡ map f xs ++ f x ∷ []
 map_push f [] x = refl
@@ -76,7 +77,8 @@ cpu_push cpus cpu =
 pub distances_push : (cpus : List CpuRow) (table : List (List ℕ)) (row : List ℕ)
     → bodies cpus (table ++ row ∷ []) None None [] ≡ bodies cpus table None None [] ++ distances_body row ∷ []
 distances_push cpus table row =
-    ap (λ ls. numbered cpu_body 0 cpus ++ ls) (append-nil (map distances_body (table ++ row ∷ [])) ∙ map_push distances_body table row)
+    ap (λ ls. numbered cpu_body 0 cpus ++ ls)
+    (append-nil (map distances_body (table ++ row ∷ [])) ∙ map_push distances_body table row)
     ∙ sym (append_assoc (numbered cpu_body 0 cpus) (map distances_body table) (distances_body row ∷ []))
     ∙ ap (λ ls. (numbered cpu_body 0 cpus ++ ls) ++ distances_body row ∷ []) (sym (append-nil (map distances_body table)))
 
@@ -137,7 +139,8 @@ cpu_four r a b c d good =
     ap (λ x. joined 44 (codes "cpu" ∷ x ∷ b ∷ c ∷ d ∷ [])) ea
     ∙ ap (λ x. joined 44 (codes "cpu" ∷ decimal (length r.cpus) ∷ x ∷ c ∷ d ∷ [])) eb
     ∙ ap (λ x. joined 44 (codes "cpu" ∷ decimal (length r.cpus) ∷ decimal (cpu_of fields).core ∷ x ∷ d ∷ [])) ec
-    ∙ ap (λ x. joined 44 (codes "cpu" ∷ decimal (length r.cpus) ∷ decimal (cpu_of fields).core ∷ decimal (cpu_of fields).cache ∷ x ∷ [])) ed
+    ∙ ap
+    (λ x. joined 44 (codes "cpu" ∷ decimal (length r.cpus) ∷ decimal (cpu_of fields).core ∷ decimal (cpu_of fields).cache ∷ x ∷ [])) ed
 
 pub cpu_text : (r : Reading) (rest : List (List ℕ)) → IsGood r kinds.Cpu (codes "cpu" ∷ rest)
     → joined 44 (codes "cpu" ∷ rest) ≡ cpu_body (length r.cpus) (cpu_of (codes "cpu" ∷ rest))
@@ -191,7 +194,8 @@ task_four r a b c d good spelled =
     ap (λ x. joined 44 (codes "task" ∷ x ∷ b ∷ c ∷ d ∷ [])) ea
     ∙ ap (λ x. joined 44 (codes "task" ∷ decimal (length r.tasks) ∷ x ∷ c ∷ d ∷ [])) eb
     ∙ ap (λ x. joined 44 (codes "task" ∷ decimal (length r.tasks) ∷ signed_decimal (task_of fields).nice ∷ x ∷ d ∷ [])) ec
-    ∙ ap (λ x. joined 44 (codes "task" ∷ decimal (length r.tasks) ∷ signed_decimal (task_of fields).nice ∷ decimal
+    ∙ ap
+    (λ x. joined 44 (codes "task" ∷ decimal (length r.tasks) ∷ signed_decimal (task_of fields).nice ∷ decimal
     (task_of fields).home ∷ x ∷ [])) ed
 
 pub task_text : (r : Reading) (rest : List (List ℕ)) → IsGood r kinds.Task (codes "task" ∷ rest)

@@ -113,7 +113,8 @@ adds_distances r rest good h =
     let n = nothing_behind r h (λ m. let w = machine_rows r m in omega (arith, w.1, less)) in
     record {
       lines =
-          alike r.cpus (r.distances ++ row ∷ []) (r.distances ++ row ∷ []) r.parts None r.lanes None r.tasks [] refl n.parts n.lanes n.tasks
+          alike r.cpus (r.distances ++ row ∷ [])
+          (r.distances ++ row ∷ []) r.parts None r.lanes None r.tasks [] refl n.parts n.lanes n.tasks
           ∙ distances_push r.cpus r.distances row
           ∙ ap (λ ls. ls ++ distances_body row ∷ [])
           (sym (alike r.cpus r.distances r.distances r.parts None r.lanes None r.tasks [] refl n.parts n.lanes n.tasks))

@@ -257,8 +257,8 @@ set_mask_exact =
 nice_command_exact : IsExact (whole (next_to subject_at (take_field nice_of)))
     (λ p. decimal p.0.0 ∷ decimal p.0.1 ∷ signed_decimal p.1 ∷ []) (λ p. (is_short p.0.0 && is_moment p.0.1) && is_nice_value p.1)
 nice_command_exact =
-    whole_exact (next_to subject_at (take_field nice_of))
-    (λ p. decimal p.0.0 ∷ decimal p.0.1 ∷ signed_decimal p.1 ∷ []) (λ p. (is_short p.0.0 && is_moment p.0.1) && is_nice_value p.1)
+    whole_exact (next_to subject_at (take_field nice_of)) (λ p. decimal p.0.0 ∷ decimal p.0.1 ∷ signed_decimal p.1 ∷ [])
+    (λ p. (is_short p.0.0 && is_moment p.0.1) && is_nice_value p.1)
     (next_to_exact subject_at (take_field nice_of) (λ p. decimal p.0 ∷ decimal p.1 ∷ []) (λ z. signed_decimal z ∷ [])
     (λ p. is_short p.0 && is_moment p.1) is_nice_value
     subject_takes (one_exact nice_of signed_decimal is_nice_value nice_exact))
@@ -316,7 +316,8 @@ command_sound command_kinds.SetMask fields p e =
     (λ a. and_move (is_short a.0.0) (is_moment a.0.1) (is_mask a.1)) fields p e
 command_sound command_kinds.Nice fields p e =
     kind_sound (codes "nice") (whole (next_to subject_at (take_field nice_of)))
-    (λ p. decimal p.0.0 ∷ decimal p.0.1 ∷ signed_decimal p.1 ∷ []) (λ p. (is_short p.0.0 && is_moment p.0.1) && is_nice_value p.1)
+    (λ p. decimal p.0.0 ∷ decimal p.0.1 ∷ signed_decimal p.1 ∷ [])
+    (λ p. (is_short p.0.0 && is_moment p.0.1) && is_nice_value p.1)
     nice_from out_command ok_command nice_command_exact (λ a. refl)
     (λ a. and_move (is_short a.0.0) (is_moment a.0.1) (is_nice_value a.1)) fields p e
 command_sound command_kinds.Tick fields p e =
@@ -338,11 +339,11 @@ command_complete (commands.Sleep task) at f =
 command_complete (commands.Exit task) at f =
     ap (option_map exit_from) (subject_exact.complete (task, at) (sym (and_swap (is_short task) (is_moment at)) ∙ f))
 command_complete (commands.SetMask task mask) at f =
-    ap (option_map set_mask_from) (set_mask_exact.complete ((task, at), mask)
-    (sym (and_move (is_short task) (is_moment at) (is_mask mask)) ∙ f))
+    ap (option_map set_mask_from)
+    (set_mask_exact.complete ((task, at), mask) (sym (and_move (is_short task) (is_moment at) (is_mask mask)) ∙ f))
 command_complete (commands.Nice task nice) at f =
-    ap (option_map nice_from) (nice_command_exact.complete ((task, at), nice)
-    (sym (and_move (is_short task) (is_moment at) (is_nice_value nice)) ∙ f))
+    ap (option_map nice_from)
+    (nice_command_exact.complete ((task, at), nice) (sym (and_move (is_short task) (is_moment at) (is_nice_value nice)) ∙ f))
 command_complete (commands.Tick cpu) at f =
     ap (option_map tick_from) (subject_exact.complete (cpu, at) (sym (and_swap (is_short cpu) (is_moment at)) ∙ f))
 command_complete (commands.Rebuild parts) at f = ap (option_map rebuild_from) (rebuild_exact.complete (at, parts) f)
@@ -365,10 +366,12 @@ pull_good p = (is_short p.0.0 && true) && is_long p.1
 
 pull_exact : IsExact pull_reader pull_texts pull_good
 pull_exact =
-    whole_exact (next_to (next_to (take_field short_in) (take_field (named move_words))) (take_field long_in)) pull_texts pull_good
+    whole_exact
+    (next_to (next_to (take_field short_in) (take_field (named move_words))) (take_field long_in)) pull_texts pull_good
     (next_to_exact (next_to (take_field short_in) (take_field (named move_words))) (take_field long_in)
     (λ p. decimal p.0 ∷ move_word p.1 ∷ []) (λ n. decimal n ∷ []) (λ p. is_short p.0 && true) is_long
-    (next_to_exact (take_field short_in) (take_field (named move_words)) (λ n. decimal n ∷ []) (λ k. move_word k ∷ []) is_short any_value
+    (next_to_exact (take_field short_in) (take_field (named move_words)) (λ n. decimal n ∷ [])
+    (λ k. move_word k ∷ []) is_short any_value
     (one_exact short_in decimal is_short short_exact) (one_exact (named move_words) move_word any_value moves_exact))
     (one_exact long_in decimal is_long long_exact))
 
@@ -383,15 +386,16 @@ decision_sound decision_kinds.NotMine fields d e =
 decision_sound decision_kinds.Balanced fields d e =
     lone_sound (codes "balanced") decisions.Balanced decision_fields decision_fits refl refl fields d e
 decision_sound decision_kinds.Pull fields d e =
-    kind_sound (codes "pull") pull_reader pull_texts pull_good pull_from decision_fields decision_fits pull_exact
-    (λ a. refl) (λ a. with_any (is_short a.0.0) (is_long a.1)) fields d e
+    kind_sound (codes "pull") pull_reader pull_texts pull_good pull_from decision_fields decision_fits pull_exact (λ a. refl)
+    (λ a. with_any (is_short a.0.0) (is_long a.1)) fields d e
 
 decision_complete : (d : Decision) → decision_fits d ≡ true → by_word decision_words decision_in (decision_fields d) ≡ Some d
 unfolding take_field decision_in decision_fields decision_fits
 decision_complete decisions.NotMine f = refl
 decision_complete decisions.Balanced f = refl
 decision_complete (decisions.Pull source kind imbalance) f =
-    ap (option_map pull_from) (pull_exact.complete ((source, kind), imbalance) (sym (with_any (is_short source) (is_long imbalance)) ∙ f))
+    ap (option_map pull_from)
+    (pull_exact.complete ((source, kind), imbalance) (sym (with_any (is_short source) (is_long imbalance)) ∙ f))
 
 decisions_exact : IsExact (by_word decision_words decision_in) decision_fields decision_fits
 decisions_exact = record {
@@ -412,8 +416,8 @@ row_good p = is_long p.0 && ok_command p.1
 
 row_exact : IsExact row_reader row_texts row_good
 row_exact =
-    ending_exact (take_field long_in) (by_word command_words command_in)
-    (λ n. decimal n ∷ []) out_command is_long ok_command (one_exact long_in decimal is_long long_exact) commands_exact
+    ending_exact (take_field long_in) (by_word command_words command_in) (λ n. decimal n ∷ []) out_command is_long ok_command
+    (one_exact long_in decimal is_long long_exact) commands_exact
 
 abbrev adopt_reader : List (List ℕ) → Option ((ℕ × Kind) × ℕ)
 adopt_reader fields = whole (next_to (next_to (take_field long_in) (take_field (named turn_words))) (take_field short_in)) fields
@@ -426,10 +430,12 @@ adopt_good p = (is_long p.0.0 && true) && is_short p.1
 
 adopt_exact : IsExact adopt_reader adopt_texts adopt_good
 adopt_exact =
-    whole_exact (next_to (next_to (take_field long_in) (take_field (named turn_words))) (take_field short_in)) adopt_texts adopt_good
+    whole_exact
+    (next_to (next_to (take_field long_in) (take_field (named turn_words))) (take_field short_in)) adopt_texts adopt_good
     (next_to_exact (next_to (take_field long_in) (take_field (named turn_words))) (take_field short_in)
     (λ p. decimal p.0 ∷ turn_word p.1 ∷ []) (λ n. decimal n ∷ []) (λ p. is_long p.0 && true) is_short
-    (next_to_exact (take_field long_in) (take_field (named turn_words)) (λ n. decimal n ∷ []) (λ k. turn_word k ∷ []) is_long any_value
+    (next_to_exact (take_field long_in) (take_field (named turn_words)) (λ n. decimal n ∷ [])
+    (λ k. turn_word k ∷ []) is_long any_value
     (one_exact long_in decimal is_long long_exact) (one_exact (named turn_words) turn_word any_value turns_exact))
     (one_exact short_in decimal is_short short_exact))
 
@@ -446,7 +452,8 @@ look_good p = ((is_short p.0.0.0 && is_mask p.0.0.1) && are_figures p.0.1) && de
 
 look_exact : IsExact look_reader look_texts look_good
 look_exact =
-    ending_exact (next_to (next_to (take_field short_in) (take_field mask_in)) (take_field figures_in)) (by_word decision_words decision_in)
+    ending_exact (next_to (next_to (take_field short_in) (take_field mask_in)) (take_field figures_in))
+    (by_word decision_words decision_in)
     (λ p. decimal p.0.0 ∷ list_text p.0.1 ∷ figures_text p.1 ∷ []) decision_fields
     (λ p. (is_short p.0.0 && is_mask p.0.1) && are_figures p.1) decision_fits
     (next_to_exact (next_to (take_field short_in) (take_field mask_in)) (take_field figures_in)
@@ -496,7 +503,8 @@ did_good p = is_told p
 
 did_exact : IsExact did_reader did_texts did_good
 did_exact =
-    whole_exact (take_field (named reply_words)) did_texts is_told (one_exact (named reply_words) reply_word is_told replies_exact)
+    whole_exact (take_field (named reply_words)) did_texts is_told
+    (one_exact (named reply_words) reply_word is_told replies_exact)
 
 abbrev out_reader : List (List ℕ) → Option ((OutCause × ℕ) × List ℕ)
 out_reader fields = whole (next_to (next_to (take_field (named cause_words)) (take_field short_in)) (take_field ids_in)) fields
@@ -512,7 +520,8 @@ out_exact =
     whole_exact (next_to (next_to (take_field (named cause_words)) (take_field short_in)) (take_field ids_in)) out_texts out_good
     (next_to_exact (next_to (take_field (named cause_words)) (take_field short_in)) (take_field ids_in)
     (λ p. cause_word p.0 ∷ decimal p.1 ∷ []) (λ i. ids_text i ∷ []) (λ p. true && is_short p.1) (list_all is_short)
-    (next_to_exact (take_field (named cause_words)) (take_field short_in) (λ k. cause_word k ∷ []) (λ n. decimal n ∷ []) any_value is_short
+    (next_to_exact (take_field (named cause_words)) (take_field short_in) (λ k. cause_word k ∷ [])
+    (λ n. decimal n ∷ []) any_value is_short
     (one_exact (named cause_words) cause_word any_value causes_exact) (one_exact short_in decimal is_short short_exact))
     (one_exact ids_in ids_text (list_all is_short) ids_exact))
 
@@ -531,8 +540,8 @@ lone_ids_exact =
 
 abbrev close_reader : List (List ℕ) → Option (((ℕ × OutcomeWord) × ℕ) × ℕ)
 close_reader fields =
-    whole (next_to (next_to (next_to (take_field short_in) (take_field (named outcome_words))) (take_field long_in))
-    (take_field short_in)) fields
+    whole
+    (next_to (next_to (next_to (take_field short_in) (take_field (named outcome_words))) (take_field long_in)) (take_field short_in)) fields
 
 abbrev close_texts : ((ℕ × OutcomeWord) × ℕ) × ℕ → List (List ℕ)
 close_texts p = decimal p.0.0.0 ∷ outcome_word p.0.0.1 ∷ decimal p.0.1 ∷ decimal p.1 ∷ []
@@ -542,9 +551,11 @@ close_good p = ((is_short p.0.0.0 && true) && is_long p.0.1) && is_short p.1
 
 close_exact : IsExact close_reader close_texts close_good
 close_exact =
-    whole_exact (next_to (next_to (next_to (take_field short_in) (take_field (named outcome_words)))
-    (take_field long_in)) (take_field short_in)) close_texts close_good
-    (next_to_exact (next_to (next_to (take_field short_in) (take_field (named outcome_words))) (take_field long_in)) (take_field short_in)
+    whole_exact
+    (next_to (next_to (next_to (take_field short_in) (take_field (named outcome_words))) (take_field long_in))
+    (take_field short_in)) close_texts close_good
+    (next_to_exact (next_to (next_to (take_field short_in) (take_field (named outcome_words))) (take_field long_in))
+    (take_field short_in)
     (λ p. decimal p.0.0 ∷ outcome_word p.0.1 ∷ decimal p.1 ∷ []) (λ n. decimal n ∷ [])
     (λ p. (is_short p.0.0 && true) && is_long p.1) is_short
     (next_to_exact (next_to (take_field short_in) (take_field (named outcome_words))) (take_field long_in)
@@ -589,45 +600,49 @@ what_sound kinds.Row fields w e =
     kind_sound (codes "row") row_reader row_texts row_good row_from what_fields what_fits row_exact (λ a. refl)
     (λ a. and_assoc (is_long a.0) (is_moment a.1.1) (command_fits a.1.0)) fields w e
 what_sound kinds.Adopt fields w e =
-    kind_sound (codes "use") adopt_reader adopt_texts adopt_good adopt_from what_fields what_fits adopt_exact
-    (λ a. refl) (λ a. with_any (is_long a.0.0) (is_short a.1)) fields w e
+    kind_sound (codes "use") adopt_reader adopt_texts adopt_good adopt_from what_fields what_fits adopt_exact (λ a. refl)
+    (λ a. with_any (is_long a.0.0) (is_short a.1)) fields w e
 what_sound kinds.Look fields w e =
-    kind_sound (codes "look") look_reader look_texts look_good look_from what_fields what_fits look_exact (λ a. refl) (λ a. refl) fields w e
+    kind_sound (codes "look") look_reader look_texts look_good look_from what_fields what_fits look_exact (λ a. refl)
+    (λ a. refl) fields w e
 what_sound kinds.Scan fields w e =
-    kind_sound (codes "scan") scan_reader scan_texts scan_good scan_from what_fields what_fits scan_exact (λ a. refl) (λ a. refl) fields w e
+    kind_sound (codes "scan") scan_reader scan_texts scan_good scan_from what_fields what_fits scan_exact (λ a. refl)
+    (λ a. refl) fields w e
 what_sound kinds.End fields w e =
-    kind_sound (codes "end") lone_mask_reader lone_mask_texts lone_mask_good end_from what_fields what_fits
-    lone_mask_exact (λ a. refl) (λ a. refl) fields w e
+    kind_sound (codes "end") lone_mask_reader lone_mask_texts lone_mask_good end_from what_fields what_fits lone_mask_exact
+    (λ a. refl) (λ a. refl) fields w e
 what_sound kinds.Did fields w e =
-    kind_sound (codes "did") did_reader did_texts did_good did_from what_fields what_fits did_exact (λ a. refl) (λ a. refl) fields w e
+    kind_sound (codes "did") did_reader did_texts did_good did_from what_fields what_fits did_exact (λ a. refl)
+    (λ a. refl) fields w e
 what_sound kinds.Out fields w e =
-    kind_sound (codes "out") out_reader out_texts out_good out_from what_fields what_fits out_exact (λ a. refl) (λ a. refl) fields w e
+    kind_sound (codes "out") out_reader out_texts out_good out_from what_fields what_fits out_exact (λ a. refl)
+    (λ a. refl) fields w e
 what_sound kinds.Landed fields w e =
-    kind_sound (codes "in") lone_ids_reader lone_ids_texts lone_ids_good landed_from what_fields what_fits
-    lone_ids_exact (λ a. refl) (λ a. refl) fields w e
+    kind_sound (codes "in") lone_ids_reader lone_ids_texts lone_ids_good landed_from what_fields what_fits lone_ids_exact
+    (λ a. refl) (λ a. refl) fields w e
 what_sound kinds.Turn fields w e =
-    kind_sound (codes "turn") lone_mask_reader lone_mask_texts lone_mask_good turn_from what_fields what_fits
-    lone_mask_exact (λ a. refl) (λ a. refl) fields w e
+    kind_sound (codes "turn") lone_mask_reader lone_mask_texts lone_mask_good turn_from what_fields what_fits lone_mask_exact
+    (λ a. refl) (λ a. refl) fields w e
 what_sound kinds.Shut fields w e = lone_sound (codes "shut") whats.Shut what_fields what_fits refl refl fields w e
 what_sound kinds.Close fields w e =
-    kind_sound (codes "close") close_reader close_texts close_good close_from what_fields what_fits close_exact
-    (λ a. refl) (λ a. ap (λ b. b && is_short a.1) (with_any (is_short a.0.0.0) (is_long a.0.1))) fields w e
+    kind_sound (codes "close") close_reader close_texts close_good close_from what_fields what_fits close_exact (λ a. refl)
+    (λ a. ap (λ b. b && is_short a.1) (with_any (is_short a.0.0.0) (is_long a.0.1))) fields w e
 what_sound kinds.Ask fields w e =
-    kind_sound (codes "ask") request_reader request_texts request_good ask_from what_fields what_fits request_exact
-    (λ a. refl) (λ a. refl) fields w e
+    kind_sound (codes "ask") request_reader request_texts request_good ask_from what_fields what_fits request_exact (λ a. refl)
+    (λ a. refl) fields w e
 what_sound kinds.Kick fields w e =
     kind_sound (codes "kick") request_reader request_texts request_good kick_from what_fields what_fits request_exact
     (λ a. refl) (λ a. refl) fields w e
 what_sound kinds.Over fields w e = lone_sound (codes "over") whats.Over what_fields what_fits refl refl fields w e
 what_sound kinds.Pub fields w e =
-    kind_sound (codes "pub") lone_long_reader lone_long_texts lone_long_good pub_from what_fields what_fits
-    lone_long_exact (λ a. refl) (λ a. refl) fields w e
+    kind_sound (codes "pub") lone_long_reader lone_long_texts lone_long_good pub_from what_fields what_fits lone_long_exact
+    (λ a. refl) (λ a. refl) fields w e
 
 what_complete : (w : What) → what_fits w ≡ true → by_word what_words what_in (what_fields w) ≡ Some w
 unfolding take_field what_in what_fields what_fits
 what_complete (whats.Row number at command) f =
-    ap (option_map row_from) (row_exact.complete (number, (command, at))
-    (sym (and_assoc (is_long number) (is_moment at) (command_fits command)) ∙ f))
+    ap (option_map row_from)
+    (row_exact.complete (number, (command, at)) (sym (and_assoc (is_long number) (is_moment at) (command_fits command)) ∙ f))
 what_complete (whats.Adopt version kind cpu) f =
     ap (option_map adopt_from) (adopt_exact.complete ((version, kind), cpu) (sym (with_any (is_long version) (is_short cpu)) ∙ f))
 what_complete (whats.Look position excluded figures decision) f =
@@ -640,7 +655,8 @@ what_complete (whats.Landed ids) f = ap (option_map landed_from) (lone_ids_exact
 what_complete (whats.Turn positions) f = ap (option_map turn_from) (lone_mask_exact.complete positions f)
 what_complete whats.Shut f = refl
 what_complete (whats.Close position outcome interval failures) f =
-    ap (option_map close_from) (close_exact.complete (((position, outcome), interval), failures)
+    ap (option_map close_from)
+    (close_exact.complete (((position, outcome), interval), failures)
     (sym (ap (λ b. b && is_short failures) (with_any (is_short position) (is_long interval))) ∙ f))
 what_complete (whats.Ask reply) f = ap (option_map ask_from) (request_exact.complete reply f)
 what_complete (whats.Kick reply) f = ap (option_map kick_from) (request_exact.complete reply f)
@@ -664,7 +680,8 @@ front_takes : TakesExactly origin_front front_texts front_good
 front_takes =
     next_to_exact (next_to (take_field long_in) (take_field owner_in)) (take_field long_in)
     (λ p. decimal p.0 ∷ owner_of_text p.1 ∷ []) (λ n. decimal n ∷ []) (λ p. is_long p.0 && owner_is_good p.1) is_long
-    (next_to_exact (take_field long_in) (take_field owner_in) (λ n. decimal n ∷ []) (λ o. owner_of_text o ∷ []) is_long owner_is_good
+    (next_to_exact (take_field long_in) (take_field owner_in) (λ n. decimal n ∷ [])
+    (λ o. owner_of_text o ∷ []) is_long owner_is_good
     (one_exact long_in decimal is_long long_exact) (one_exact owner_in owner_of_text owner_is_good owner_exact))
     (one_exact long_in decimal is_long long_exact)
 

@@ -59,7 +59,8 @@ entries_walk : (n : ℕ) (line : List ℕ) (lines : List (List ℕ))
 unfolding entries_in walk place_next may_end
 entries_walk n last [] = last_walk n last
 entries_walk n line (next ∷ more) =
-    entry_walk n (line_in line) (entries_in (n + 1) (next ∷ more)) (λ q. walk q (n + 1) (next ∷ more)) (entries_walk (n + 1) next more)
+    entry_walk n (line_in line) (entries_in (n + 1) (next ∷ more)) (λ q. walk q (n + 1) (next ∷ more))
+    (entries_walk (n + 1) next more)
 
 -- ---- the header
 -- the line that reading stops at behind a front, whose trace was read so; n is the line after the front
@@ -192,12 +193,12 @@ trace_read bodies free fits =
     length-append (codes "lbtrace,1" ++ 10 ∷ []) (lines_text bodies) in
     let le : leb (length (trace_text bodies)) MAX_BYTES ≡ true =
     le-leb (length (trace_text bodies)) MAX_BYTES (omega (arith, len, fits)) in
-    ap (λ b. cond b (lines_from nothing_read (slice_split (λ b. eqb b 10) (trace_text bodies)) >>= λ r. Ok
-    (trace_of r)) (Err (0, bad.TooLong))) le
+    ap
+    (λ b. cond b (lines_from nothing_read (slice_split (λ b. eqb b 10) (trace_text bodies)) >>= λ r. Ok (trace_of r))
+    (Err (0, bad.TooLong))) le
     ∙ ap (λ ls. lines_from nothing_read ls >>= λ r. Ok (trace_of r)) cut
     ∙ ap (λ o. o >>= λ r. Ok (trace_of r))
-    (some_more nothing_read (codes "lbtrace,1") bodies []
-    ∙ ap (λ o. on_line 1 o >>= λ t. lines_from t (bodies ++ [] ∷ [])) version_is_read)
+    (some_more nothing_read (codes "lbtrace,1") bodies [] ∙ ap (λ o. on_line 1 o >>= λ t. lines_from t (bodies ++ [] ∷ [])) version_is_read)
 
 from_walk : (header : Header) (o : Result (List WrittenEntry) ℕ) → bad_of (read_from header o) ≡ bad_of o
 from_walk header (Ok ws) = refl
@@ -218,8 +219,7 @@ behind_walk line lines free =
     let front = front_behind (line ∷ lines) in
     let f = front_sound room false (line ∷ lines) (omega arith) in
     ap (λ o. bad_of (read_after front (header_from front o)))
-    (trace_read front.bodies (bodies_free front.bodies front.rest (subst (EachFree 10) f.0 free))
-    (front_fits room false (line ∷ lines)))
+    (trace_read front.bodies (bodies_free front.bodies front.rest (subst (EachFree 10) f.0 free)) (front_fits room false (line ∷ lines)))
     ∙ after_walk front (lines_from version_read (front.bodies ++ [] ∷ []))
     ∙ header_walk (line_after front.bodies) version_read false room line lines 2 refl (omega arith)
 

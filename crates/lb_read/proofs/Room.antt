@@ -133,10 +133,11 @@ task_four r a b c d good =
     let wc = length-append (44 ∷ c) (marked 44 (d ∷ [])) in
     let wd = length-append (44 ∷ d) [] in
     let x =
-    length-append (codes "task") (marked 44
-    (decimal (length r.tasks) ∷ signed_decimal task.nice ∷ decimal task.home ∷ runs_text task.mask ∷ [])) in
+    length-append (codes "task")
+    (marked 44 (decimal (length r.tasks) ∷ signed_decimal task.nice ∷ decimal task.home ∷ runs_text task.mask ∷ [])) in
     let xa =
-    length-append (44 ∷ decimal (length r.tasks)) (marked 44 (signed_decimal task.nice ∷ decimal task.home ∷ runs_text task.mask ∷ [])) in
+    length-append (44 ∷ decimal (length r.tasks))
+    (marked 44 (signed_decimal task.nice ∷ decimal task.home ∷ runs_text task.mask ∷ [])) in
     let xb = length-append (44 ∷ signed_decimal task.nice) (marked 44 (decimal task.home ∷ runs_text task.mask ∷ [])) in
     let xc = length-append (44 ∷ decimal task.home) (marked 44 (runs_text task.mask ∷ [])) in
     let xd = length-append (44 ∷ runs_text task.mask) [] in
@@ -361,9 +362,9 @@ header_fits n s (Some parts) (Some lanes) p_is l_is grown fits a =
     let ls = ap lanes_size l_is in
     let lines = ap (λ bs. length (trace_text bs)) (lines_are (trace_of s).header) in
     let same =
-    ap (λ (o : Option (List Mask)). length
-    (trace_text (bodies s.cpus s.distances (Some (unwrap_or o (first_cpus (length s.cpus) ∷ [])))
-    (Some (unwrap_or s.lanes 0)) s.tasks))) p_is in
+    ap
+    (λ (o : Option (List Mask)). length (trace_text
+    (bodies s.cpus s.distances (Some (unwrap_or o (first_cpus (length s.cpus) ∷ []))) (Some (unwrap_or s.lanes 0)) s.tasks))) p_is in
     let also =
     ap (λ (o : Option ℕ). length (trace_text (bodies s.cpus s.distances (Some parts) (Some (unwrap_or o 0)) s.tasks))) l_is in
     omega (arith, more, whole, ps, ls, lines, same, also, fits)

@@ -94,7 +94,8 @@ ends_item text (first ∷ last ∷ []) run cut e = by_first (number_of 63 first)
     by_first None f e = absurd (let z : ⊥ = cc in z)
     by_first (Some a) f e =
         two_items text first last a (number_within a 63 last) run
-        (sym (join_with_byte-slice_split 45 text) ∙ ap (join_with_byte 45) cut) (number_spelled 0 63 a first (omega arith) f).0 refl e
+        (sym (join_with_byte-slice_split 45 text) ∙ ap (join_with_byte 45) cut)
+        (number_spelled 0 63 a first (omega arith) f).0 refl e
 ends_item text (first ∷ last ∷ more ∷ others) run cut e = absurd (let z : ⊥ = cc in z)
 
 item_is : (text : List ℕ) (run : Run) → item_of text ≡ Some run → IsItem text run
@@ -137,7 +138,8 @@ items_are item [] runs e =
     let i = item_is item c.run c.first in
     let none : [] ≡ c.rest = let f = c.others in cc in
     let enough = i.enough in
-    subst (AreItems item) c.whole (subst (λ (rs : List Run). AreItems item (c.run ∷ rs)) none (omega (arith, enough), (i.low, tt)))
+    subst (AreItems item) c.whole
+    (subst (λ (rs : List Run). AreItems item (c.run ∷ rs)) none (omega (arith, enough), (i.low, tt)))
 items_are item (next ∷ more) runs e =
     let c = cut_items item (next ∷ more) runs e in
     let i = item_is item c.run c.first in
@@ -249,7 +251,8 @@ ends_least run n le lt = elim (cases_Bool (eqb run.0 run.1)) [
   | inr other ↦
       let ne = eqb-false run.0 run.1 other in
       let both =
-      total_apart (λ k. eqb k run.0) (λ k. eqb k run.1) n (λ k h. let e = eqb-true k run.0 h in ne_eqb k run.1 (λ f. ne (sym e ∙ f))) in
+      total_apart (λ k. eqb k run.0) (λ k. eqb k run.1) n
+      (λ k h. let e = eqb-true k run.0 h in ne_eqb k run.1 (λ f. ne (sym e ∙ f))) in
       let a = total_one run.0 n (omega (arith, le, lt)) in
       let b = total_one run.1 n lt in
       rw other (omega (arith, both, a, b))
@@ -425,11 +428,12 @@ shorter mask items (run ∷ runs) n same low enough maximal cover ends_low =
     ∙ (ap (λ (m : Mask). has m k) same ∙ mask_where_has (λ cpu. list_any (run_has cpu) items) k ∙ low_cover items k low) in
     let text = runs_cost run runs in
     let least_ =
-    costs_least written 64 maximal (all_also is_low (λ (r : Run). ltb r.1 64) written
-    (λ r h. (and_parts (ltb r.0 64) (ltb r.1 64) h).1) ends_low) in
+    costs_least written 64 maximal
+    (all_also is_low (λ (r : Run). ltb r.1 64) written (λ r h. (and_parts (ltb r.0 64) (ltb r.1 64) h).1) ends_low) in
     let among = total_le (any_ends written) (any_ends items) 64 (λ k lt h.
     let b = written_edge written k maximal h in
-    items_edge items k (record {
+    items_edge items k
+    (record {
       there = sym (all k) ∙ b.there;
       edge = elim b.edge [ inl f ↦ inl (λ j z. sym (all j) ∙ f j z) | inr g ↦ inr (sym (all (k + 1)) ∙ g) ];
     })) in
@@ -461,7 +465,8 @@ lists_are_short (b ∷ text) mask e =
         let are = items_are item items runs f in
         let long : length (join_with_byte 59 (item ∷ items)) ≡ length (b ∷ text) = ap length joins in
         let c = are.0 in
-        shorter mask runs (runs_of (members mask)) (length (b ∷ text)) same are.1 (omega (arith, c, long)) maximal cover (low_members mask)
+        shorter mask runs (runs_of (members mask)) (length (b ∷ text)) same are.1 (omega (arith, c, long)) maximal cover
+        (low_members mask)
 
     by_items : (parts : List (List ℕ)) → join_with_byte 59 parts ≡ b ∷ text → option_map mask_of_runs (items_of parts) ≡ Some mask
         → AreMaximal (runs_of (members mask)) → ((k : ℕ) → covers (runs_of (members mask)) k ≡ has mask k) →

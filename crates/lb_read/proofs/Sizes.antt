@@ -176,7 +176,8 @@ task_length cpus i task few lt fits =
     let m = length-append (44 ∷ decimal task.home) (marked 44 (runs_text task.mask ∷ [])) in
     let n = length-append (44 ∷ runs_text task.mask) [] in
     let o =
-    length-append (codes "task") (marked 44 (decimal i ∷ signed_decimal task.nice ∷ decimal task.home ∷ runs_text task.mask ∷ [])) in
+    length-append (codes "task")
+    (marked 44 (decimal i ∷ signed_decimal task.nice ∷ decimal task.home ∷ runs_text task.mask ∷ [])) in
     omega (arith, a, b, c, d, k, l, m, n, o)
 
 distance_length : (d : ℕ) → is_distance d ≡ true → length (decimal d) ≤ 3
@@ -211,7 +212,8 @@ headers_have_room h a few =
     let lanes_few = a.most_lanes in
     let cpus = numbered_length cpu_body is_cpu 17 0 h.cpus (omega (arith, most_cpus)) a.cpus cpu_length in
     let table =
-    table_length (nodes_of h.cpus) h.distances nodes (square h.distances (nodes_of h.cpus) machine.rows machine.square) a.distances in
+    table_length (nodes_of h.cpus) h.distances nodes
+    (square h.distances (nodes_of h.cpus) machine.rows machine.square) a.distances in
     let masks = marked_length runs_text 384 h.parts list_length in
     let word = length-append (codes "parts") (marked 44 (map runs_text h.parts)) in
     let number = two_digits h.lanes (omega (arith, lanes_few)) in

@@ -37,8 +37,8 @@ pub entry_some : (found : List WrittenEntry) (n : ℕ) (text line rest : List �
 unfolding entries_onto
 entry_some found n text line rest w cut e =
     ap (λ lines. found_onto found (entries_in n lines)) cut
-    ∙ ap (found_onto found) (no_more n line (lines_of rest) (some_lines rest)
-    ∙ ap (λ o. entry_then n o (entries_in (n + 1) (lines_of rest))) e)
+    ∙ ap (found_onto found)
+    (no_more n line (lines_of rest) (some_lines rest) ∙ ap (λ o. entry_then n o (entries_in (n + 1) (lines_of rest))) e)
     ∙ onto_more found w (entries_in (n + 1) (lines_of rest))
 
 pub entry_none : (found : List WrittenEntry) (n : ℕ) (text line rest : List ℕ) → lines_of text ≡ line ∷ lines_of rest
@@ -47,8 +47,8 @@ pub entry_none : (found : List WrittenEntry) (n : ℕ) (text line rest : List �
 unfolding entries_onto
 entry_none found n text line rest cut e =
     ap (λ lines. found_onto found (entries_in n lines)) cut
-    ∙ ap (found_onto found) (no_more n line (lines_of rest) (some_lines rest)
-    ∙ ap (λ o. entry_then n o (entries_in (n + 1) (lines_of rest))) e)
+    ∙ ap (found_onto found)
+    (no_more n line (lines_of rest) (some_lines rest) ∙ ap (λ o. entry_then n o (entries_in (n + 1) (lines_of rest))) e)
 
 pub entries_end : (found : List WrittenEntry) (n : ℕ) (text : List ℕ) → lines_of text ≡ text ∷ [] → eqb (length text) 0 ≡ true
     → entries_onto found n (lines_of text) ≡ Ok found

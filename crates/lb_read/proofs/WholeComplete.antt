@@ -244,7 +244,8 @@ lines_back : (h : Header) (ws : List WrittenEntry)
     → lines_of (lines_text (header_lines h ++ map written_line ws)) ≡ (header_lines h ++ map written_line ws) ++ [] ∷ []
 lines_back h ws =
     let e : EachOver 31 (header_lines h ++ map written_line ws) =
-    each_append 31 (header_lines h) (map written_line ws) (header_over h) (each_map 31 written_line ws (λ w. line_over w.ticket w.entry)) in
+    each_append 31 (header_lines h) (map written_line ws) (header_over h)
+    (each_map 31 written_line ws (λ w. line_over w.ticket w.entry)) in
     cut_lines (header_lines h ++ map written_line ws) (each_weaker 10 31 (header_lines h ++ map written_line ws) (omega arith) e)
 
 -- the trace that declares a header
@@ -267,7 +268,8 @@ reads_texts text read r =
     let len : length (trace_text (bodies_of tail)) ≡ 10 + length (lines_text (bodies_of tail)) =
     length-append (codes "lbtrace,1" ++ 10 ∷ []) (lines_text (bodies_of tail)) in
     let front : front_behind (tail ++ rest) ≡ record { bodies = bodies_of tail; stopped = false; rest = rest } =
-    front_lines room false tail rest (header_repeats h trace.masks trace.tasks) (entries_go_on ws r.entries) (omega (arith, len, fits)) in
+    front_lines room false tail rest (header_repeats h trace.masks trace.tasks) (entries_go_on ws r.entries)
+    (omega (arith, len, fits)) in
     let cut : lines_of text ≡ version_line ∷ (tail ++ rest) =
     ap lines_of r.text_is ∙ lines_back h ws ∙ ap (λ ls. (ls ++ map written_line ws) ++ [] ∷ []) (lines_are h)
     ∙ ap (λ ls. version_line ∷ ls) (append_assoc tail (map written_line ws) ([] ∷ [])) in
@@ -275,7 +277,8 @@ reads_texts text read r =
     ap (λ ls. reading_of (trace_text ls)) (sym same_lines) ∙ d.1 in
     ap read_lines cut ∙ lines_behind version_line (tail ++ rest) (some_rest tail rest (entries_go_on ws r.entries))
     ∙ ap (λ f. read_after f (header_in f)) front
-    ∙ ap (λ o. read_after (record { bodies = bodies_of tail; stopped = false; rest = rest })
+    ∙ ap
+    (λ o. read_after (record { bodies = bodies_of tail; stopped = false; rest = rest })
     (header_from (record { bodies = bodies_of tail; stopped = false; rest = rest }) o)) header
     ∙ ap (λ g. read_from g (entries_in (line_after (bodies_of tail)) rest)) d.2
     ∙ ap (read_from h) (entries_complete (line_after (bodies_of tail)) ws r.entries)

@@ -68,7 +68,8 @@ unfolding front_of
 front_sound n parted [] few = (refl, tt)
 front_sound n parted (last ∷ []) few = (refl, tt)
 front_sound n parted (line ∷ next ∷ more) few =
-    front_one n parted line (next ∷ more) (front_of (n - (length (drop 2 line) + 1)) (parted || is_parts (drop 2 line)) (next ∷ more)) few
+    front_one n parted line (next ∷ more)
+    (front_of (n - (length (drop 2 line) + 1)) (parted || is_parts (drop 2 line)) (next ∷ more)) few
     (front_sound (n - (length (drop 2 line) + 1)) (parted || is_parts (drop 2 line)) (next ∷ more) (omega (arith, few)))
 
 -- ---- lines and texts
@@ -146,11 +147,14 @@ unfolding header_lines parts_line lanes_line
 header_as cpus table parts lanes tasks =
     let tail = parts_body parts ∷ lanes_body lanes ∷ numbered task_body 0 tasks in
     ap (λ ls. version_line ∷ ls)
-    (ap (λ ls. ls ++ (map distances_line table ++ (parts_line parts ∷ lanes_line lanes ∷ numbered task_line 0 tasks))) (cpus_as 0 cpus)
-    ∙ ap (λ ls. map as_line (numbered cpu_body 0 cpus) ++
-    (ls ++ (parts_line parts ∷ lanes_line lanes ∷ numbered task_line 0 tasks))) (distances_as table)
-    ∙ ap (λ ls. map as_line (numbered cpu_body 0 cpus) ++
-    (map as_line (map distances_body table) ++ (parts_line parts ∷ lanes_line lanes ∷ ls))) (tasks_as 0 tasks)
+    (ap (λ ls. ls ++ (map distances_line table ++ (parts_line parts ∷ lanes_line lanes ∷ numbered task_line 0 tasks)))
+    (cpus_as 0 cpus)
+    ∙ ap
+    (λ ls. map as_line (numbered cpu_body 0 cpus) ++ (ls ++ (parts_line parts ∷ lanes_line lanes ∷ numbered task_line 0 tasks)))
+    (distances_as table)
+    ∙ ap
+    (λ ls. map as_line (numbered cpu_body 0 cpus) ++ (map as_line (map distances_body table) ++ (parts_line parts ∷ lanes_line lanes ∷ ls)))
+    (tasks_as 0 tasks)
     ∙ ap (λ ls. map as_line (numbered cpu_body 0 cpus) ++ ls) (sym (map_append (map distances_body table) tail))
     ∙ sym (map_append (numbered cpu_body 0 cpus) (map distances_body table ++ tail)))
 
@@ -167,14 +171,16 @@ printed_some s lines None lanes p l a some_p some_l = absurd (false≢true some_
 printed_some s lines (Some parts) None p l a some_p some_l = absurd (false≢true some_l)
 printed_some s lines (Some parts) (Some lanes) p l a some_p some_l = record {
   lines_are =
-      ap (λ o. header_lines (record {
+      ap
+      (λ o. header_lines (record {
         cpus = s.cpus;
         distances = s.distances;
         parts = unwrap_or o (first_cpus (length s.cpus) ∷ []);
         lanes = unwrap_or s.lanes 0;
         tasks = s.tasks;
       })) p
-      ∙ ap (λ o. header_lines (record { cpus = s.cpus; distances = s.distances; parts = parts; lanes = unwrap_or o 0; tasks = s.tasks })) l
+      ∙ ap
+      (λ o. header_lines (record { cpus = s.cpus; distances = s.distances; parts = parts; lanes = unwrap_or o 0; tasks = s.tasks })) l
       ∙ header_as s.cpus s.distances parts lanes s.tasks
       ∙ ap (λ o. version_line ∷ map as_line (bodies s.cpus s.distances o (Some lanes) s.tasks)) (sym p)
       ∙ ap (λ o. version_line ∷ map as_line (bodies s.cpus s.distances s.parts o s.tasks)) (sym l)

@@ -1,0 +1,6 @@
+use Rattle.std.proofs.Common.{◌≡◌, ◌++◌}
+use Rattle.lb_generator.specs.Text.{lines_text, cpu_lines}
+use Rattle.lb_generator.proofs.text.put_cpus.Given as goal
+
+abbrev pub invariant-loop-i : goal.invariant-loop-i
+invariant-loop-i l = l.to.items ≡ l.fn.to.items ++ lines_text (cpu_lines l.i)

@@ -1,0 +1,9 @@
+use Rattle.std.proofs.Common.{◌≡◌, ◌-◌, ◌++◌, map}
+use Rattle.lb_generator.specs.Generator.{rows_from}
+use Rattle.lb_generator.specs.Text.{lines_text, row_line}
+use Rattle.lb_generator.proofs.text.put_rows.Given as goal
+
+abbrev pub invariant-loop-i : goal.invariant-loop-i
+invariant-loop-i l =
+    l.to.items ++ lines_text (map row_line (rows_from (l.rows - l.i) l.i l.draws.state))
+    ≡ l.fn.to.items ++ lines_text (map row_line (rows_from l.rows 0 l.fn.number))

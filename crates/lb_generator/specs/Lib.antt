@@ -1,0 +1,4 @@
+pub mod Draws
+pub mod Generator
+pub mod Text
+pub mod Laws
