@@ -66,13 +66,17 @@ idle_in (Moved k) n tries h = omega arith
 idle_in Pinned n tries h = omega arith
 idle_in Asking n tries h = one_more_in tries
 
-after_in : (c : Counters) (kind : Kind) (o : Outcome) (imb : Option Bool) (weight tries now : ℕ) → weight ≤ 64 → IsInRange c → IsInRange (counters_after c kind o imb weight tries now)
+after_in : (c : Counters) (kind : Kind) (o : Outcome) (imb : Option Bool) (weight tries now : ℕ) → weight ≤ 64
+    → IsInRange c → IsInRange (counters_after c kind o imb weight tries now)
 unfolding counters_after
 after_in c Idle o imb weight tries now few h = record { interval = h.interval; failures = idle_in o c.failures tries h.failures }
-after_in c TickTurn o imb weight tries now few h = record { interval = interval_in o c.interval weight h.interval few; failures = failures_in o c.failures tries h.failures }
-after_in c Nohz o imb weight tries now few h = record { interval = interval_in o c.interval weight h.interval few; failures = failures_in o c.failures tries h.failures }
+after_in c TickTurn o imb weight tries now few h =
+    record { interval = interval_in o c.interval weight h.interval few; failures = failures_in o c.failures tries h.failures }
+after_in c Nohz o imb weight tries now few h =
+    record { interval = interval_in o c.interval weight h.interval few; failures = failures_in o c.failures tries h.failures }
 
-pub closed_in : (q : QueueState) (at : ℕ) (shape : Shape) (o : Outcome) (imb : Option Bool) → AreInRange q.counters → IsInRange (counters_closed q at shape o imb)
+pub closed_in : (q : QueueState) (at : ℕ) (shape : Shape) (o : Outcome) (imb : Option Bool) → AreInRange q.counters
+    → IsInRange (counters_closed q at shape o imb)
 unfolding counters_closed
 closed_in q at shape o imb h = after_in _ _ o imb _ _ _ (length-members_le shape.span) (h shape.position)
 
@@ -82,10 +86,14 @@ none_in = record { interval = omega arith; failures = omega arith }
 
 fresh_in : (now : ℕ) (shapes : List Shape) → AreInRange (Some (map (fresh_at now) shapes))
 fresh_in now [] p = none_in
-fresh_in now (shape ∷ shapes) zero = record { interval = let few = length-members_le shape.span in omega (arith, few); failures = omega arith }
+fresh_in now (shape ∷ shapes) zero = record {
+  interval = let few = length-members_le shape.span in omega (arith, few);
+  failures = omega arith;
+}
 fresh_in now (shape ∷ shapes) (suc p) = fresh_in now shapes p
 
-found_counters_in : (q : QueueState) (at version : ℕ) (shapes : List Shape) → AreInRange q.counters → AreInRange (Some (counters_found q at version shapes))
+found_counters_in : (q : QueueState) (at version : ℕ) (shapes : List Shape) → AreInRange q.counters
+    → AreInRange (Some (counters_found q at version shapes))
 unfolding counters_found
 found_counters_in q at version shapes h = by_version (version == q.version)
   where
@@ -93,7 +101,8 @@ found_counters_in q at version shapes h = by_version (version == q.version)
     by_counters None k = fresh_in 0 shapes
     by_counters (Some cs) k = k
 
-    by_version : (b : Bool) → AreInRange (Some (cond b (counters_or_fresh q.counters shapes) (map (fresh_at (milliseconds (clock_at q at))) shapes)))
+    by_version : (b : Bool) → AreInRange
+        (Some (cond b (counters_or_fresh q.counters shapes) (map (fresh_at (milliseconds (clock_at q at))) shapes)))
     by_version true = by_counters q.counters h
     by_version false = fresh_in (milliseconds (clock_at q at)) shapes
 
@@ -107,7 +116,8 @@ set_in cs i c one all p = elim (cases_eq p i) [
 ]
 
 -- ---- a queue after an entry of it
-pub counters_in : (laws : QueueLaws) (s : Sight) (lane : ℕ) (w : What) → AreInRange s.queue.counters → AreInRange (queue_by w s lane).counters
+pub counters_in : (laws : QueueLaws) (s : Sight) (lane : ℕ) (w : What) → AreInRange s.queue.counters
+    → AreInRange (queue_by w s lane).counters
 unfolding close_look ask_active kick leaving
 counters_in laws s lane (Did r) h = subst AreInRange (sym (answer_alike laws s.course.command s.course.at s.queue).counted) h
 counters_in laws s lane (Out cause to ids) h = by_out (out_by s.course.form s.header s.course s.queue) refl
@@ -115,7 +125,8 @@ counters_in laws s lane (Out cause to ids) h = by_out (out_by s.course.form s.he
     by_out : (o : Option Leaving) → out_by s.course.form s.header s.course s.queue ≡ o → AreInRange (rest_of o s.queue).counters
     by_out None e = h
     by_out (Some l) e = subst AreInRange (sym (out_alike laws s.course.form s.header s.course s.queue l e).counted) h
-counters_in laws s lane (Landed ids) h = subst AreInRange (sym (land_alike laws s.queue s.course.at (cause_of s.course) s.course.moment s.course.hand).counted) h
+counters_in laws s lane (Landed ids) h =
+    subst AreInRange (sym (land_alike laws s.queue s.course.at (cause_of s.course) s.course.moment s.course.hand).counted) h
 counters_in laws s lane (Turn ps) h = found_counters_in s.queue s.course.at s.course.version (shapes_of (turn_domains s.header s.course)) h
 counters_in laws s lane (Close p w i f) h =
     set_in (unwrap_or s.queue.counters []) (turn_domain s.header s.course).shape.position _

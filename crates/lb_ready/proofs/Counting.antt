@@ -32,17 +32,20 @@ sums f g i (suc n) h =
     omega (arith, sum_by-cons f i (range_with_len (i + 1) n), sum_by-cons g i (range_with_len (i + 1) n))
 
 -- with one number more or less
-sums_less : (f g : ℕ → ℕ) (i n j : ℕ) → i ≤ j → j < i + n → f j < g j → ((k : ℕ) → i ≤ k → k < i + n → f k ≤ g k) → sum_by f (range_with_len i n) < sum_by g (range_with_len i n)
+sums_less : (f g : ℕ → ℕ) (i n j : ℕ) → i ≤ j → j < i + n → f j < g j → ((k : ℕ) → i ≤ k → k < i + n → f k ≤ g k)
+    → sum_by f (range_with_len i n) < sum_by g (range_with_len i n)
 sums_less f g i zero j l u e h = absurd (omega arith)
 sums_less f g i (suc n) j l u e h =
     let x = sum_by-cons f i (range_with_len (i + 1) n) in
     let y = sum_by-cons g i (range_with_len (i + 1) n) in
     elim (cases_eq i j) [
       | inl z ↦ let e' : f i < g i = rw z e in let b = sums f g (i + 1) n (λ k l u. h k (omega arith) (omega arith)) in omega arith
-      | inr z ↦ let a = h i (omega arith) (omega arith) in let b = sums_less f g (i + 1) n j (omega arith) (omega arith) e (λ k l u. h k (omega arith) (omega arith)) in omega arith
+      | inr z ↦ let a = h i (omega arith) (omega arith) in let b =
+          sums_less f g (i + 1) n j (omega arith) (omega arith) e (λ k l u. h k (omega arith) (omega arith)) in omega arith
     ]
 
-sums_more : (f g : ℕ → ℕ) (i n j : ℕ) → f j ≤ g j + 1 → ((k : ℕ) → k ≢ j → f k ≤ g k) → sum_by f (range_with_len i n) ≤ sum_by g (range_with_len i n) + 1
+sums_more : (f g : ℕ → ℕ) (i n j : ℕ) → f j ≤ g j + 1 → ((k : ℕ) → k ≢ j → f k ≤ g k)
+    → sum_by f (range_with_len i n) ≤ sum_by g (range_with_len i n) + 1
 sums_more f g i zero j e h = omega arith
 sums_more f g i (suc n) j e h =
     let x = sum_by-cons f i (range_with_len (i + 1) n) in
@@ -56,9 +59,11 @@ ones : (b c : Bool) → (b ≡ true → c ≡ true) → one b ≤ one c
 ones false c h = omega arith
 ones true c h = rw (h refl) (omega arith)
 
-pub count_less : (p q : ℕ → Bool) (n j : ℕ) → j < n → p j ≡ false → q j ≡ true → ((k : ℕ) → p k ≡ true → q k ≡ true) → count_where p n < count_where q n
+pub count_less : (p q : ℕ → Bool) (n j : ℕ) → j < n → p j ≡ false → q j ≡ true → ((k : ℕ) → p k ≡ true → q k ≡ true)
+    → count_where p n < count_where q n
 unfolding count_where
-count_less p q n j lt a b h = sums_less (λ k. one (p k)) (λ k. one (q k)) 0 n j (omega arith) (omega arith) (rw (a, b) (omega arith)) (λ k l u. ones (p k) (q k) (h k))
+count_less p q n j lt a b h = sums_less (λ k. one (p k)) (λ k. one (q k)) 0 n j (omega arith) (omega arith)
+    (rw (a, b) (omega arith)) (λ k l u. ones (p k) (q k) (h k))
 
 pub count_within : (p q : ℕ → Bool) (n : ℕ) → ((k : ℕ) → k < n → p k ≡ true → q k ≡ true) → count_where p n ≤ count_where q n
 unfolding count_where
@@ -83,10 +88,14 @@ count_most p n = let e = all_count 0 n in let s = sums (λ k. one (p k)) (λ k. 
 
 pub count_missing : (p : ℕ → Bool) (n j : ℕ) → j < n → p j ≡ false → count_where p n < n
 unfolding count_where
-count_missing p n j lt a = let e = all_count 0 n in let s = sums_less (λ k. one (p k)) (λ k. 1) 0 n j (omega arith) (omega arith) (rw a (omega arith)) (λ k l u. ones (p k) true (λ h. refl)) in omega arith
+count_missing p n j lt a = let e = all_count 0 n in let s =
+    sums_less (λ k. one (p k)) (λ k. 1) 0 n j (omega arith) (omega arith) (rw a (omega arith))
+    (λ k l u. ones (p k) true (λ h. refl)) in omega arith
 
 -- ---- searches
-found_here : (p : ℕ → Bool) (i n c : ℕ) (b : Bool) → p i ≡ b → (find p (range_with_len (i + 1) n) ≡ Some c → (p c ≡ true) × (i + 1 ≤ c) × (c < i + 1 + n)) → cond b (Some i) (find p (range_with_len (i + 1) n)) ≡ Some c → (p c ≡ true) × (i ≤ c) × (c < i + suc n)
+found_here : (p : ℕ → Bool) (i n c : ℕ) (b : Bool) → p i ≡ b
+    → (find p (range_with_len (i + 1) n) ≡ Some c → (p c ≡ true) × (i + 1 ≤ c) × (c < i + 1 + n))
+    → cond b (Some i) (find p (range_with_len (i + 1) n)) ≡ Some c → (p c ≡ true) × (i ≤ c) × (c < i + suc n)
 found_here p i n c true h later f = let z : i ≡ c = cc in (subst (λ (x : ℕ). p x ≡ true) z h, omega arith, omega arith)
 found_here p i n c false h later f = let r = later f in (r.0, omega arith, omega arith)
 
@@ -100,7 +109,8 @@ least_found m c e = let r = found_in (has m) 0 64 c e in (r.0, omega arith)
 
 pub least_above_found : (m : Mask) (p c : ℕ) → least_above m p ≡ Some c → (has m c ≡ true) × (p < c) × (c < 64)
 unfolding least_above
-least_above_found m p c e = let r = found_in (λ k. ltb p k && has m k) 0 64 c e in let a = and_parts (ltb p c) (has m c) r.0 in (a.1, ltb-true p c a.0, omega arith)
+least_above_found m p c e = let r = found_in (λ k. ltb p k && has m k) 0 64 c e in let a =
+    and_parts (ltb p c) (has m c) r.0 in (a.1, ltb-true p c a.0, omega arith)
 
 -- ---- masks
 pub without_lacks : (g x : Mask) (k : ℕ) → k < 64 → has (without g x) k ≡ true → has x k ≡ false
@@ -141,7 +151,8 @@ member_below m n c h f = ltb-true c n (all_members_at (λ k. ltb k n) m h c f.1 
 pub mask_narrow : (m : Mask) → ((k : ℕ) → 64 ≤ k → has m k ≡ false) → m.bits < 2 ^ 64
 unfolding has
 mask_narrow m none =
-    let high : m.bits / 2 ^ 64 ≡ 0 = same_bits (m.bits / 2 ^ 64) 0 (λ k. bit_set_shr m.bits 64 k ∙ none (64 + k) (omega arith) ∙ sym (bit_set_zero k)) in
+    let high : m.bits / 2 ^ 64 ≡ 0 = same_bits (m.bits / 2 ^ 64) 0
+    (λ k. bit_set_shr m.bits 64 k ∙ none (64 + k) (omega arith) ∙ sym (bit_set_zero k)) in
     omega (arith, high)
 
 pub where_narrow : (p : ℕ → Bool) → (mask_where p).bits < 2 ^ 64

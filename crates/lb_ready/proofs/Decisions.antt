@@ -46,7 +46,8 @@ abbrev Pulls : List Mask → List Fig → Mask → (ℕ → ℕ) → Decision �
 Pulls groups figs excluded amounts (Pull s k i) = IsSourceOf groups figs excluded amounts s i
 Pulls groups figs excluded amounts d = Unit {0}
 
-from_source : (groups : List Mask) (figs : List Fig) (b : ℕ) (excluded : Mask) (amounts : ℕ → ℕ) (i : Imbalance) (o : Option ℕ) → i.amount ≡ amounts b → ltb 0 b ≡ true →
+from_source : (groups : List Mask) (figs : List Fig) (b : ℕ) (excluded : Mask) (amounts : ℕ → ℕ) (i : Imbalance)
+    (o : Option ℕ) → i.amount ≡ amounts b → ltb 0 b ≡ true →
     source_of figs (without (group_at groups b) excluded) i.kind i.amount ≡ o → Pulls groups figs excluded amounts (pull_from i o)
 unfolding source_of first_greatest is_first_greatest may_be_source
 from_source groups figs b excluded amounts i None same later e = tt
@@ -56,13 +57,22 @@ from_source groups figs b excluded amounts i (Some s) same later e =
     let p = and_parts (may_be_source figs g i.kind i.amount s) _ ((and_parts _ _ f.0).0) in
     let q = and_parts (has g s) (ltb 0 (fig_at figs s).nr) ((and_parts _ _ p.0).0) in
     let lt : s < 64 = omega (arith, f.2) in
-    record { group = b; after_local = later; member = without_has (group_at groups b) excluded s q.0; numbered = lt; free = without_lacks (group_at groups b) excluded s lt q.0; awake = q.1; amount = same }
+    record {
+      group = b;
+      after_local = later;
+      member = without_has (group_at groups b) excluded s q.0;
+      numbered = lt;
+      free = without_lacks (group_at groups b) excluded s lt q.0;
+      awake = q.1;
+      amount = same;
+    }
 
 -- what a pull from each group would move
 abbrev pub amount_at : Shape → Bool → List Stats → ℕ → ℕ
 amount_at shape busy stats b = (imbalance_of shape busy (domain_average stats) (stats_at stats 0) (stats_at stats b)).amount
 
-from_group : (shape : Shape) (groups : List Mask) (figs : List Fig) (busy : Bool) (excluded : Mask) (stats : List Stats) (o : Option ℕ) → busiest_of stats ≡ o →
+from_group : (shape : Shape) (groups : List Mask) (figs : List Fig) (busy : Bool) (excluded : Mask)
+    (stats : List Stats) (o : Option ℕ) → busiest_of stats ≡ o →
     Pulls groups figs excluded (amount_at shape busy stats) (from_busiest shape groups figs busy excluded stats o)
 unfolding pull_from_group pull_or_balanced busiest_of first_greatest is_first_greatest may_be_busiest
 from_group shape groups figs busy excluded stats None e = tt
@@ -74,12 +84,14 @@ from_group shape groups figs busy excluded stats (Some b) e =
     cond_by P (is_level shape busy (domain_average stats) (stats_at stats 0) (stats_at stats b)) Balanced _ tt
     (cond_by P (i.amount == 0) Balanced _ tt (from_source groups figs b excluded (amount_at shape busy stats) i _ refl later refl))
 
-pub source_found : (shape : Shape) (groups : List Mask) (figs : List Fig) (cpu : ℕ) (kind : Kind) (excluded : Mask) (s : ℕ) (k : MoveKind) (i : ℕ) → Pull s k i ≡ decision shape groups figs cpu kind excluded →
+pub source_found : (shape : Shape) (groups : List Mask) (figs : List Fig) (cpu : ℕ) (kind : Kind) (excluded : Mask)
+    (s : ℕ) (k : MoveKind) (i : ℕ) → Pull s k i ≡ decision shape groups figs cpu kind excluded →
     IsSourceOf groups figs excluded (amount_at shape (is_busy kind figs cpu) (all_stats shape groups figs excluded)) s i
 unfolding decision decision_over
 source_found shape groups figs cpu kind excluded s k i e =
     let P = Pulls groups figs excluded (amount_at shape (is_busy kind figs cpu) (all_stats shape groups figs excluded)) in
-    subst P (sym e) (cond_by P (may_balance kind figs (group_at groups 0) cpu) _ NotMine (from_group shape groups figs (is_busy kind figs cpu) excluded (all_stats shape groups figs excluded) _ refl) tt)
+    subst P (sym e) (cond_by P (may_balance kind figs (group_at groups 0) cpu) _ NotMine
+    (from_group shape groups figs (is_busy kind figs cpu) excluded (all_stats shape groups figs excluded) _ refl) tt)
 
 -- ---- the amount
 -- the most that is said to be moved
@@ -94,9 +106,11 @@ room_in : (busy : Bool) (local : Stats) → IsInRange local → (spare_room busy
 room_in busy local r =
     let top : max local.cap local.util ≤ local.cap + local.util = max-le (omega arith) (omega arith) in
     let cap = r.cap in
-    cond_by (λ i. i.amount ≤ most_moved) (max local.cap local.util - local.util == 0 && not busy) one_task (record { kind = Util; amount = max local.cap local.util - local.util }) (omega arith) (omega (arith, top, cap))
+    cond_by (λ i. i.amount ≤ most_moved) (max local.cap local.util - local.util == 0 && not busy) one_task
+    (record { kind = Util; amount = max local.cap local.util - local.util }) (omega arith) (omega (arith, top, cap))
 
-half_in : (shape : Shape) (local busiest : Stats) → IsInRange local → IsInRange busiest → (half_of_difference shape local busiest).amount ≤ most_moved
+half_in : (shape : Shape) (local busiest : Stats) → IsInRange local → IsInRange busiest
+    → (half_of_difference shape local busiest).amount ≤ most_moved
 half_in shape local busiest r b = by_test _
   where
     by_test : (t : Bool) → cond {A = ℕ} t ((busiest.nr - local.nr) / 2) ((local.idle - busiest.idle) / 2) ≤ most_moved
@@ -113,9 +127,12 @@ average_in average local busiest b =
     let less : min x y ≤ x = min-le_left x y in
     less_than _ (min x y / 1024) most_moved (omega (arith, product, less))
 
-amount_as : (g l : GroupType) (shape : Shape) (busy : Bool) (average : ℕ) (local busiest : Stats) → IsInRange local → IsInRange busiest → (imbalance_as g l shape busy average local busiest).amount ≤ most_moved
+amount_as : (g l : GroupType) (shape : Shape) (busy : Bool) (average : ℕ) (local busiest : Stats) → IsInRange local
+    → IsInRange busiest → (imbalance_as g l shape busy average local busiest).amount ≤ most_moved
 amount_as Imbalanced l shape busy average local busiest r b = omega arith
-amount_as g HasSpare shape busy average local busiest r b = cond_by (λ i. i.amount ≤ most_moved) (is_pressed g && is_above_cache shape.name) (spare_room busy local) (half_of_difference shape local busiest) (room_in busy local r) (half_in shape local busiest r b)
+amount_as g HasSpare shape busy average local busiest r b =
+    cond_by (λ i. i.amount ≤ most_moved) (is_pressed g && is_above_cache shape.name) (spare_room busy local)
+    (half_of_difference shape local busiest) (room_in busy local r) (half_in shape local busiest r b)
 amount_as g l shape busy average local busiest r b = average_in average local busiest b
 
 stats_in : (stats : List Stats) (i : ℕ) → All IsInRange stats → IsInRange (stats_at stats i)
@@ -129,11 +146,13 @@ abbrev pub AmountIn : Decision → Type 0
 AmountIn (Pull s k i) = i ≤ most_moved
 AmountIn d = Unit {0}
 
-pub amount_in : (shape : Shape) (groups : List Mask) (figs : List Fig) (cpu : ℕ) (kind : Kind) (excluded : Mask) (d : Decision) → d ≡ decision shape groups figs cpu kind excluded → All IsInRange (all_stats shape groups figs excluded) → AmountIn d
+pub amount_in : (shape : Shape) (groups : List Mask) (figs : List Fig) (cpu : ℕ) (kind : Kind) (excluded : Mask)
+    (d : Decision) → d ≡ decision shape groups figs cpu kind excluded → All IsInRange (all_stats shape groups figs excluded) → AmountIn d
 unfolding imbalance_of
 amount_in shape groups figs cpu kind excluded (Pull s k i) e all =
     let stats = all_stats shape groups figs excluded in
     let f = source_found shape groups figs cpu kind excluded s k i e in
-    rw f.amount (amount_as _ _ shape (is_busy kind figs cpu) (domain_average stats) (stats_at stats 0) (stats_at stats f.group) (stats_in stats 0 all) (stats_in stats f.group all))
+    rw f.amount (amount_as _ _ shape (is_busy kind figs cpu) (domain_average stats) (stats_at stats 0)
+    (stats_at stats f.group) (stats_in stats 0 all) (stats_in stats f.group all))
 amount_in shape groups figs cpu kind excluded NotMine e all = tt
 amount_in shape groups figs cpu kind excluded Balanced e all = tt

@@ -49,18 +49,54 @@ none_wide = omega arith
 
 -- with as many tickets and more
 pub later : (h : Header) (n : ℕ) (c : Course) → Speaks h n c → Speaks h (n + 1) c
-later h n c k = record { counted = let r = k.counted in omega arith; turned = k.turned; pulled = k.pulled; tickless = k.tickless; names = k.names; masks = k.masks; narrow = k.narrow }
+later h n c k = record {
+  counted = let r = k.counted in omega arith;
+  turned = k.turned;
+  pulled = k.pulled;
+  tickless = k.tickless;
+  names = k.names;
+  masks = k.masks;
+  narrow = k.narrow;
+}
 
 rests_fit : (e : Bool) (h : Header) (n : ℕ) (c : Course) → Speaks h n c → Fits e h n (comes_to_rest c)
-rests_fit e h n c k = record { says = record { counted = k.counted; turned = k.turned; pulled = some_cpu h n c k; tickless = λ j t. absurd (none_tickless j t); names = tt; masks = refl; narrow = none_wide }; form = tt }
+rests_fit e h n c k = record {
+  says = record {
+    counted = k.counted;
+    turned = k.turned;
+    pulled = some_cpu h n c k;
+    tickless = λ j t. absurd (none_tickless j t);
+    names = tt;
+    masks = refl;
+    narrow = none_wide;
+  };
+  form = tt;
+}
 
 -- without a decision and excluded CPUs
 anew : (h : Header) (n : ℕ) (c : Course) → Speaks h n c → IsOfMachine h n c.rows c.cpu 0 c.figures c.command c.hand no_cpus
-anew h n c k = record { counted = k.counted; turned = k.turned; pulled = some_cpu h n c k; tickless = k.tickless; names = k.names; masks = k.masks; narrow = none_wide }
+anew h n c k = record {
+  counted = k.counted;
+  turned = k.turned;
+  pulled = some_cpu h n c k;
+  tickless = k.tickless;
+  names = k.names;
+  masks = k.masks;
+  narrow = none_wide;
+}
 
 -- with an empty hand
-let_go : (h : Header) (n : ℕ) (c : Course) (excluded : Mask) → excluded.bits < 2 ^ 64 → Speaks h n c → IsOfMachine h n c.rows c.cpu (source_of c.decision) c.figures c.command [] excluded
-let_go h n c excluded x k = record { counted = k.counted; turned = k.turned; pulled = k.pulled; tickless = k.tickless; names = k.names; masks = refl; narrow = x }
+let_go : (h : Header) (n : ℕ) (c : Course) (excluded : Mask) → excluded.bits < 2 ^ 64 → Speaks h n c
+    → IsOfMachine h n c.rows c.cpu (source_of c.decision) c.figures c.command [] excluded
+let_go h n c excluded x k = record {
+  counted = k.counted;
+  turned = k.turned;
+  pulled = k.pulled;
+  tickless = k.tickless;
+  names = k.names;
+  masks = refl;
+  narrow = x;
+}
 
 -- a take that was all pinned excludes its source
 excluding_narrow : (h : Header) (n : ℕ) (c : Course) → length h.cpus ≤ 64 → Speaks h n c → (excluding c).bits < 2 ^ 64
@@ -74,11 +110,25 @@ goes_to_fit : (e : Bool) (h : Header) (n : ℕ) (o : Option ℕ) (c : Course) �
 goes_to_fit e h n None c k = record { says = anew h n c k; form = tt }
 goes_to_fit e h n (Some p) c k = record { says = anew h n c k; form = tt }
 
-due_fit : (e : Bool) (h : Header) (n : ℕ) (kind : Kind) (cpu : ℕ) (c : Course) → same_kind kind TickTurn ≡ false → cpu < length h.cpus → Speaks h n c → Fits e h n (is_due_at kind cpu c)
-due_fit e h n kind cpu c b lt k = record { says = record { counted = k.counted; turned = lt; pulled = k.pulled; tickless = k.tickless; names = k.names; masks = k.masks; narrow = k.narrow }; form = b }
+due_fit : (e : Bool) (h : Header) (n : ℕ) (kind : Kind) (cpu : ℕ) (c : Course) → same_kind kind TickTurn ≡ false
+    → cpu < length h.cpus → Speaks h n c → Fits e h n (is_due_at kind cpu c)
+due_fit e h n kind cpu c b lt k = record {
+  says =
+      record {
+        counted = k.counted;
+        turned = lt;
+        pulled = k.pulled;
+        tickless = k.tickless;
+        names = k.names;
+        masks = k.masks;
+        narrow = k.narrow;
+      };
+  form = b;
+}
 
 ends_fit : (h : Header) (n : ℕ) (c : Course) → Speaks h n c → Fits false h n (turn_ends_by (turn_kind c) h c)
-ends_fit h n c k = ends_by (Fits false h n) (turn_kind c) h c (rests_fit false h n c k) (λ some. record { says = anew h n c k; form = (refl, some) }) (λ t y. due_fit false h n Nohz t c refl (k.tickless t y) k)
+ends_fit h n c k = ends_by (Fits false h n) (turn_kind c) h c (rests_fit false h n c k)
+    (λ some. record { says = anew h n c k; form = (refl, some) }) (λ t y. due_fit false h n Nohz t c refl (k.tickless t y) k)
 
 -- ---- by kind of entry
 -- what an entry brings into the course, where so many tickets were drawn
@@ -90,7 +140,8 @@ Brings h n s cpu (Did r) = cpu < length h.cpus
 Brings h n s cpu w = Unit {0}
 
 -- the turn that is taken up is of a CPU of the machine
-adopted_fits : (f : Form) (h : Header) (n : ℕ) (s : Sight) (lane v : ℕ) (kind : Kind) (u : ℕ) → s.header ≡ h → draws f s.header s.course s.queue lane (Adopt v kind u) ≡ true → Speaks h n s.course → u < length h.cpus
+adopted_fits : (f : Form) (h : Header) (n : ℕ) (s : Sight) (lane v : ℕ) (kind : Kind) (u : ℕ) → s.header ≡ h
+    → draws f s.header s.course s.queue lane (Adopt v kind u) ≡ true → Speaks h n s.course → u < length h.cpus
 unfolding draws
 adopted_fits Serving h n s lane v kind u same d k =
     let t = (and_parts (same_kind kind TickTurn) _ d).1 in
@@ -99,33 +150,90 @@ adopted_fits Serving h n s lane v kind u same d k =
     ticks : (command : Option Command) → same_number (ticked_cpu command) (Some u) ≡ true → Names h command → u < length h.cpus
     ticks (Some (Tick cpu)) t y = let e = eqb-true cpu u t in rw (← e) y
     ticks command t y = absurd (let y : ⊥ = cc in y)
-adopted_fits Due h n s lane v kind u same d k = let e = eqb-true u s.course.cpu ((and_parts (same_kind kind (turn_kind s.course)) (u == s.course.cpu) d).1) in rw e k.turned
+adopted_fits Due h n s lane v kind u same d k = let e =
+    eqb-true u s.course.cpu ((and_parts (same_kind kind (turn_kind s.course)) (u == s.course.cpu) d).1) in rw e k.turned
 adopted_fits f h n s lane v kind u same d k = absurd (let y : ⊥ = cc in y)
 
-pub course_fits : (h : Header) (n : ℕ) (s : Sight) (lane cpu : ℕ) (now : QueueState) (w : What) → length h.cpus ≤ 64 → s.header ≡ h → draws s.course.form s.header s.course s.queue lane w ≡ true → is_out w ≡ false → Brings h n s cpu w →
+pub course_fits : (h : Header) (n : ℕ) (s : Sight) (lane cpu : ℕ) (now : QueueState) (w : What) → length h.cpus ≤ 64
+    → s.header ≡ h → draws s.course.form s.header s.course s.queue lane w ≡ true → is_out w ≡ false → Brings h n s cpu w →
     Speaks h n s.course → Fits (ended_after w false) h n (course_by w s cpu now)
 unfolding turn_ends
-course_fits h n s lane cpu now (Row number at command) few same d o b k = record { says = record { counted = b.0; turned = k.turned; pulled = k.pulled; tickless = k.tickless; names = b.1; masks = k.masks; narrow = k.narrow }; form = refl }
+course_fits h n s lane cpu now (Row number at command) few same d o b k =
+    record {
+      says = record {
+        counted = b.0;
+        turned = k.turned;
+        pulled = k.pulled;
+        tickless = k.tickless;
+        names = b.1;
+        masks = k.masks;
+        narrow = k.narrow;
+      };
+      form = refl;
+    }
 course_fits h n s lane cpu now (Adopt v kind u) few same d o b k =
-    record { says = record { counted = k.counted; turned = adopted_fits s.course.form h n s lane v kind u same d k; pulled = k.pulled; tickless = k.tickless; names = k.names; masks = k.masks; narrow = k.narrow }; form = tt }
-course_fits h n s lane cpu now (Look p x names d) few same l o b k = record { says = record { counted = k.counted; turned = k.turned; pulled = b; tickless = k.tickless; names = k.names; masks = k.masks; narrow = k.narrow }; form = refl }
+    record {
+      says = record {
+        counted = k.counted;
+        turned = adopted_fits s.course.form h n s lane v kind u same d k;
+        pulled = k.pulled;
+        tickless = k.tickless;
+        names = k.names;
+        masks = k.masks;
+        narrow = k.narrow;
+      };
+      form = tt;
+    }
+course_fits h n s lane cpu now (Look p x names d) few same l o b k =
+    record {
+      says = record {
+        counted = k.counted;
+        turned = k.turned;
+        pulled = b;
+        tickless = k.tickless;
+        names = k.names;
+        masks = k.masks;
+        narrow = k.narrow;
+      };
+      form = refl;
+    }
 course_fits h n s lane cpu now (Scan names t) few same d o b k =
     let c : Course = record s.course { figures = s.figs; named = raised_numbers names s.course.named } in
-    let says : Speaks h n c = record { counted = k.counted; turned = k.turned; pulled = k.pulled; tickless = b.0; names = k.names; masks = k.masks; narrow = k.narrow } in
+    let says : Speaks h n c = record {
+      counted = k.counted;
+      turned = k.turned;
+      pulled = k.pulled;
+      tickless = b.0;
+      names = k.names;
+      masks = k.masks;
+      narrow = k.narrow;
+    } in
     scanned_by (Fits false h n) t c (rests_fit false h n c says) (λ u e. record { says = says; form = rw (← b.1, e) refl })
 course_fits h n s lane cpu now (End cpus) few same d o b k = record { says = k; form = refl }
 course_fits h n s lane cpu now (Did r) few same d o b k =
-    answered_by (Fits false h n) s.course.command cpu s.queue now s.course (rests_fit false h n s.course k) (due_fit false h n Idle cpu s.course refl b k) (λ u e. record { says = k; form = rw e refl })
+    answered_by (Fits false h n) s.course.command cpu s.queue now s.course (rests_fit false h n s.course k)
+    (due_fit false h n Idle cpu s.course refl b k) (λ u e. record { says = k; form = rw e refl })
 course_fits h n s lane cpu now (Out cause to tasks) few same d o b k = absurd (let y : ⊥ = cc in y)
 course_fits h n s lane cpu now (Landed tasks) few same d o b k =
-    lands_by (Fits false h n) (cause_of s.course) s.course (rests_fit false h n s.course k) (λ t. record { says = let_go h n s.course s.course.excluded k.narrow k; form = t })
+    lands_by (Fits false h n) (cause_of s.course) s.course (rests_fit false h n s.course k)
+    (λ t. record { says = let_go h n s.course s.course.excluded k.narrow k; form = t })
     (λ e. record { says = let_go h n s.course (excluding s.course) (excluding_narrow h n s.course few k) k; form = tt })
 course_fits h n s lane cpu now (Turn ps) few same d o b k =
-    goes_to_fit false h n (least ps) (record s.course { positions = ps; counters = counters_found s.queue s.course.at s.course.version (shapes_of (turn_domains s.header s.course)) }) k
+    goes_to_fit false h n (least ps) (record
+    s.course {
+      positions = ps;
+      counters = counters_found s.queue s.course.at s.course.version
+          (shapes_of (turn_domains s.header s.course));
+    }) k
 course_fits h n s lane cpu now Shut few same d o b k = rw same (ends_fit h n s.course k)
-course_fits h n s lane cpu now (Close p w i f) few same d o b k = closes_by (Fits false h n) w s.course (record { says = k; form = tt }) (goes_to_fit false h n None s.course k) (λ p y. goes_to_fit false h n (Some p) s.course k)
-course_fits h n s lane cpu now (Ask r) few same d o b k = goes_to_fit false h n (least_above s.course.positions s.course.position) s.course k
-course_fits h n s lane cpu now (Kick r) few same d o b k = kicked_by (Fits false h n) r s.course (rests_fit false h n s.course k) (λ t y. due_fit false h n Nohz t s.course refl (k.tickless t y) k)
+course_fits h n s lane cpu now (Close p w i f) few same d o b k =
+    closes_by (Fits false h n) w s.course (record { says = k; form = tt }) (goes_to_fit false h n None s.course k)
+    (λ p y. goes_to_fit false h n (Some p) s.course k)
+course_fits h n s lane cpu now (Ask r) few same d o b k =
+    goes_to_fit false h n (least_above s.course.positions s.course.position) s.course k
+course_fits h n s lane cpu now (Kick r) few same d o b k =
+    kicked_by (Fits false h n) r s.course (rests_fit false h n s.course k)
+    (λ t y. due_fit false h n Nohz t s.course refl (k.tickless t y) k)
 course_fits h n s lane cpu now Over few same d o b k = rw same (ends_fit h n s.course k)
 course_fits h n s lane cpu now (Pub v) few same d o b k = let r = rests_fit false h n s.course k in record { says = r.says; form = tt }
 
@@ -155,7 +263,8 @@ unfolding has
 none_excluded k = bit_set_zero k
 
 -- the source of a take that was all pinned
-more_excluded : (b : Bool) (g x : Mask) (s k : ℕ) → has x k ≡ false → has g s ≡ false → has g k ≡ true → has (cond b (either x (only s)) x) k ≡ false
+more_excluded : (b : Bool) (g x : Mask) (s k : ℕ) → has x k ≡ false → has g s ≡ false → has g k ≡ true
+    → has (cond b (either x (only s)) x) k ≡ false
 more_excluded false g x s k e a y = e
 more_excluded true g x s k e a y = either_has x (only s) k ∙ rw (e, only_has s k) (by_test (k == s) refl)
   where
@@ -163,7 +272,8 @@ more_excluded true g x s k e a y = either_has x (only s) k ∙ rw (e, only_has s
     by_test true i = let z = eqb-true k s i in let w : has g s ≡ true = rw (← z) y in absurd (let v : ⊥ = cc in v)
     by_test false i = refl
 
-pub off_spares : (h : Header) (o : Option Leaving) (c : Course) → ((l : Leaving) → o ≡ Some l → PullsSparing l.cause h (unnamed c)) → KeepsLocal h c → KeepsLocal h (takes_off o c)
+pub off_spares : (h : Header) (o : Option Leaving) (c : Course)
+    → ((l : Leaving) → o ≡ Some l → PullsSparing l.cause h (unnamed c)) → KeepsLocal h c → KeepsLocal h (takes_off o c)
 off_spares h None c p k = k
 off_spares h (Some l) c p k = by_cause l.cause (p l refl)
   where
@@ -175,24 +285,41 @@ abbrev pub is_look : What → Bool
 is_look (Look p x names d) = true
 is_look w = false
 
-pub spares_after : (f : Form) (h : Header) (s : Sight) (lane cpu : ℕ) (now : QueueState) (w : What) → s.header ≡ h → draws f s.header s.course s.queue lane w ≡ true → is_out w ≡ false → is_look w ≡ false → Spares f h (unnamed s.course) → KeepsLocal h (course_by w s cpu now)
+pub spares_after : (f : Form) (h : Header) (s : Sight) (lane cpu : ℕ) (now : QueueState) (w : What) → s.header ≡ h
+    → draws f s.header s.course s.queue lane w ≡ true → is_out w ≡ false → is_look w ≡ false
+    → Spares f h (unnamed s.course) → KeepsLocal h (course_by w s cpu now)
 unfolding draws turn_ends
 spares_after f h s lane cpu now (Look p x fs d) same y o l k = absurd (let z : ⊥ = cc in z)
 spares_after f h s lane cpu now (Out cause to ids) same y o l k = absurd (let z : ⊥ = cc in z)
-spares_after f h s lane cpu now (Scan fs t) same y o l k = scanned_by (KeepsLocal h) t (record s.course { figures = s.figs; named = raised_numbers fs s.course.named }) tt (λ u e. tt)
-spares_after f h s lane cpu now (Did r) same y o l k = answered_by (KeepsLocal h) s.course.command cpu s.queue now s.course tt tt (λ u e. tt)
-spares_after Flight h s lane cpu now (Landed ids) same y o l k = lands_by (KeepsLocal h) (cause_of s.course) s.course tt (λ t. tt) (λ i. let z : PullsSparing PullOut h (unnamed s.course) = subst (λ (x : OutCause). PullsSparing x h (unnamed s.course)) i k in λ j q. more_excluded (is_all_pinned s.course.taken) (local_group h s.course) s.course.excluded (source_of s.course.decision) j (z.0 j q) z.1 q)
+spares_after f h s lane cpu now (Scan fs t) same y o l k =
+    scanned_by (KeepsLocal h) t (record s.course { figures = s.figs; named = raised_numbers fs s.course.named }) tt (λ u e. tt)
+spares_after f h s lane cpu now (Did r) same y o l k =
+    answered_by (KeepsLocal h) s.course.command cpu s.queue now s.course tt tt (λ u e. tt)
+spares_after Flight h s lane cpu now (Landed ids) same y o l k =
+    lands_by (KeepsLocal h) (cause_of s.course) s.course tt (λ t. tt)
+    (λ i. let z : PullsSparing PullOut h (unnamed s.course) = subst
+    (λ (x : OutCause). PullsSparing x h (unnamed s.course)) i k in
+    λ j q. more_excluded (is_all_pinned s.course.taken) (local_group h s.course) s.course.excluded
+    (source_of s.course.decision) j (z.0 j q) z.1 q)
 spares_after f h s lane cpu now (Landed ids) same y o l k = absurd (let z : ⊥ = cc in z)
-spares_after f h s lane cpu now (Turn ps) same y o l k = goes_to_by (KeepsLocal h) (least ps) (record s.course { positions = ps; counters = counters_found s.queue s.course.at s.course.version (shapes_of (turn_domains s.header s.course)) }) tt (λ p e j q. none_excluded j)
-spares_after f h s lane cpu now Shut same y o l k = rw same (ends_by (KeepsLocal h) (turn_kind s.course) h s.course tt (λ some. tt) (λ t q. tt))
-spares_after f h s lane cpu now Over same y o l k = rw same (ends_by (KeepsLocal h) (turn_kind s.course) h s.course tt (λ some. tt) (λ t q. tt))
+spares_after f h s lane cpu now (Turn ps) same y o l k =
+    goes_to_by (KeepsLocal h) (least ps) (record s.course {
+      positions = ps;
+      counters = counters_found s.queue s.course.at s.course.version (shapes_of (turn_domains s.header s.course));
+    }) tt
+    (λ p e j q. none_excluded j)
+spares_after f h s lane cpu now Shut same y o l k =
+    rw same (ends_by (KeepsLocal h) (turn_kind s.course) h s.course tt (λ some. tt) (λ t q. tt))
+spares_after f h s lane cpu now Over same y o l k =
+    rw same (ends_by (KeepsLocal h) (turn_kind s.course) h s.course tt (λ some. tt) (λ t q. tt))
 spares_after f h s lane cpu now (Close p w i n) same y o l k = closes_by (KeepsLocal h) w s.course tt tt (λ p q j z. none_excluded j)
 spares_after f h s lane cpu now (Ask r) same y o l k = goes_on_by (KeepsLocal h) s.course tt (λ p q j z. none_excluded j)
 spares_after f h s lane cpu now (Kick r) same y o l k = kicked_by (KeepsLocal h) r s.course tt (λ t q. tt)
 spares_after f h s lane cpu now w same y o l k = tt
 
 -- ---- looks
-apart_from : (g : Mask) (gs : List Mask) (i s : ℕ) → list_all (are_apart g) gs ≡ true → s < 64 → has (get_or gs i no_cpus) s ≡ true → has g s ≡ false
+apart_from : (g : Mask) (gs : List Mask) (i s : ℕ) → list_all (are_apart g) gs ≡ true → s < 64
+    → has (get_or gs i no_cpus) s ≡ true → has g s ≡ false
 apart_from g [] i s a lt y = absurd (let n = none_excluded s in let z : ⊥ = cc in z)
 apart_from g (x ∷ gs) zero s a lt y = by_test (has g s) refl
   where
@@ -201,12 +328,16 @@ apart_from g (x ∷ gs) zero s a lt y = by_test (has g s) refl
     by_test false e = refl
 apart_from g (x ∷ gs) (suc i) s a lt y = apart_from g gs i s ((and_parts (are_apart g x) _ a).1) lt y
 
-pub source_apart : (groups : List Mask) (b s : ℕ) → are_disjoint groups ≡ true → ltb 0 b ≡ true → s < 64 → has (group_at groups b) s ≡ true → has (group_at groups 0) s ≡ false
+pub source_apart : (groups : List Mask) (b s : ℕ) → are_disjoint groups ≡ true → ltb 0 b ≡ true → s < 64
+    → has (group_at groups b) s ≡ true → has (group_at groups 0) s ≡ false
 source_apart [] b s a l lt y = none_excluded s
 source_apart (g ∷ gs) zero s a l lt y = absurd (let z : ⊥ = cc in z)
 source_apart (g ∷ gs) (suc b) s a l lt y = apart_from g gs b s ((and_parts (list_all (are_apart g) gs) _ a).0) lt y
 
-pub look_spares : (f : Form) (h : Header) (s : Sight) (lane cpu : ℕ) (now : QueueState) (p : ℕ) (x : Mask) (fs : List FigName) (d : Decision) → draws f s.header s.course s.queue lane (Look p x fs d) ≡ true → (is_pull (Some d) ≡ true → has (local_group h s.course) (source_of (Some d)) ≡ false) → Spares f h (unnamed s.course) → KeepsLocal h (course_by (Look p x fs d) s cpu now)
+pub look_spares : (f : Form) (h : Header) (s : Sight) (lane cpu : ℕ) (now : QueueState) (p : ℕ) (x : Mask)
+    (fs : List FigName) (d : Decision) → draws f s.header s.course s.queue lane (Look p x fs d) ≡ true
+    → (is_pull (Some d) ≡ true → has (local_group h s.course) (source_of (Some d)) ≡ false)
+    → Spares f h (unnamed s.course) → KeepsLocal h (course_by (Look p x fs d) s cpu now)
 unfolding draws
 look_spares Position h s lane cpu now p x fs d y a k = (k, a)
 look_spares LandedForm h s lane cpu now p x fs d y a k = (k, a)

@@ -46,7 +46,8 @@ all_of_lanes p (x ∷ xs) each =
     behind false rest y = y
 
 pub all_lane_by_lane : (p : TraceRow → Bool) (xs ys : List TraceRow) → LaneByLane xs ys → list_all p ys ≡ true → list_all p xs ≡ true
-all_lane_by_lane p xs ys same all = all_of_lanes p xs (λ lane. ap (list_all p) (same lane) ∙ all_filter p (λ (row : TraceRow). row.lane == lane) ys all)
+all_lane_by_lane p xs ys same all = all_of_lanes p xs
+    (λ lane. ap (list_all p) (same lane) ∙ all_filter p (λ (row : TraceRow). row.lane == lane) ys all)
 
 -- without the first row of a lane
 abbrev without_first : ℕ → List TraceRow → List TraceRow
@@ -61,7 +62,9 @@ first_gone : (lane : ℕ) (ys : List TraceRow) → of_lane lane (without_first l
 first_gone lane [] = refl
 first_gone lane (y ∷ ys) = by_test (y.lane == lane) refl (first_gone lane ys)
   where
-    by_test : (b : Bool) → (y.lane == lane) ≡ b → of_lane lane (without_first lane ys) ≡ behind_first (of_lane lane ys) → of_lane lane (cond b ys (y ∷ without_first lane ys)) ≡ behind_first (cond b (y ∷ of_lane lane ys) (of_lane lane ys))
+    by_test : (b : Bool) → (y.lane == lane) ≡ b
+        → of_lane lane (without_first lane ys) ≡ behind_first (of_lane lane ys)
+        → of_lane lane (cond b ys (y ∷ without_first lane ys)) ≡ behind_first (cond b (y ∷ of_lane lane ys) (of_lane lane ys))
     by_test true e k = refl
     by_test false e k = rw e k
 
@@ -69,18 +72,22 @@ others_stay : (lane other : ℕ) (ys : List TraceRow) → (other ≡ lane → �
 others_stay lane other [] n = refl
 others_stay lane other (y ∷ ys) n = by_test (y.lane == lane) refl (others_stay lane other ys n)
   where
-    by_test : (b : Bool) → (y.lane == lane) ≡ b → of_lane other (without_first lane ys) ≡ of_lane other ys → of_lane other (cond b ys (y ∷ without_first lane ys)) ≡ of_lane other (y ∷ ys)
+    by_test : (b : Bool) → (y.lane == lane) ≡ b → of_lane other (without_first lane ys) ≡ of_lane other ys
+        → of_lane other (cond b ys (y ∷ without_first lane ys)) ≡ of_lane other (y ∷ ys)
     by_test true e k =
         let i = eqb-true y.lane lane e in
         let f : (y.lane == other) ≡ false = ne_eqb y.lane other (λ z. n (sym z ∙ i)) in
         rw f refl
     by_test false e k = ap (λ (rest : List TraceRow). cond (y.lane == other) (y ∷ rest) rest) k
 
-one_fewer : (lane : ℕ) (r : TraceRow) (rest ys : List TraceRow) → of_lane lane ys ≡ r ∷ rest → length ys ≡ suc (length (without_first lane ys))
+one_fewer : (lane : ℕ) (r : TraceRow) (rest ys : List TraceRow) → of_lane lane ys ≡ r ∷ rest
+    → length ys ≡ suc (length (without_first lane ys))
 one_fewer lane r rest [] e = absurd (let z : ⊥ = cc in z)
 one_fewer lane r rest (y ∷ ys) e = by_test (y.lane == lane) refl (one_fewer lane r rest ys)
   where
-    by_test : (b : Bool) → (y.lane == lane) ≡ b → (of_lane lane ys ≡ r ∷ rest → length ys ≡ suc (length (without_first lane ys))) → suc (length ys) ≡ suc (length (cond b ys (y ∷ without_first lane ys)))
+    by_test : (b : Bool) → (y.lane == lane) ≡ b
+        → (of_lane lane ys ≡ r ∷ rest → length ys ≡ suc (length (without_first lane ys)))
+        → suc (length ys) ≡ suc (length (cond b ys (y ∷ without_first lane ys)))
     by_test true f k = refl
     by_test false f k = let here : of_lane lane ys ≡ r ∷ rest = rw f at e in ap suc (k here)
 
@@ -101,7 +108,9 @@ as_many (x ∷ xs) ys same =
 
 -- ---- entries and their rows
 -- the rows of the first entry and of the others
-split_rows : (m : MachineState) (e : Entry) (es : List Entry) → list_all (is_row m.header) (rows_drawn (e ∷ es)) ≡ true → (list_all (is_row m.header) (row_of e.what e.lane) ≡ true) × (list_all (is_row m.header) (rows_drawn es) ≡ true)
+split_rows : (m : MachineState) (e : Entry) (es : List Entry)
+    → list_all (is_row m.header) (rows_drawn (e ∷ es)) ≡ true
+    → (list_all (is_row m.header) (row_of e.what e.lane) ≡ true) × (list_all (is_row m.header) (rows_drawn es) ≡ true)
 split_rows m e es h = and_parts _ _ (sym (list_all-append (is_row m.header) (row_of e.what e.lane) (rows_drawn es)) ∙ h)
 
 -- ---- how many
@@ -109,7 +118,8 @@ row_counted : (w : What) (lane : ℕ) (rows : List TraceRow) → rows_before w (
 row_counted (Row n at command) lane rows = omega arith
 row_counted w lane rows = refl
 
-few_from : StaysReady → EntriesFall → (es : List Entry) (m : MachineState) → IsReady m → MayFollow es m → list_all (is_row m.header) (rows_drawn es) ≡ true → length es ≤ entries_left (length (rows_drawn es)) m
+few_from : StaysReady → EntriesFall → (es : List Entry) (m : MachineState) → IsReady m → MayFollow es m
+    → list_all (is_row m.header) (rows_drawn es) ≡ true → length es ≤ entries_left (length (rows_drawn es)) m
 unfolding after
 few_from stays falls [] m k follow rows = omega arith
 few_from stays falls (e ∷ es) m k follow rows =
@@ -117,7 +127,8 @@ few_from stays falls (e ∷ es) m k follow rows =
     let next = stays m e k follow.0 (row_in_range m.header e.what e.lane r.0) in
     let less = few_from stays falls es (after m e) next follow.1 r.1 in
     let fall : entries_left (length (rows_drawn es)) (after m e) < entries_left (length (rows_drawn (e ∷ es))) m =
-    subst (λ (n : ℕ). entries_left (length (rows_drawn es)) (after m e) < entries_left n m) (row_counted e.what e.lane (rows_drawn es)) (falls m e (length (rows_drawn es)) k follow.0) in
+    subst (λ (n : ℕ). entries_left (length (rows_drawn es)) (after m e) < entries_left n m)
+    (row_counted e.what e.lane (rows_drawn es)) (falls m e (length (rows_drawn es)) k follow.0) in
     omega (arith, less, fall)
 
 -- nothing is at work or asked for in the opening machine
@@ -131,25 +142,32 @@ none_asked h cpu n = nothing (λ k. 0) (range_with_len 0 n) (λ i d lt. refl)
 left_at_start : (h : Header) (rows : ℕ) → entries_left rows (start h) ≡ row_work * rows + 1
 unfolding start
 left_at_start h rows =
-    let lanes = nothing work_of (replicate h.lanes (opening_course (length h.cpus))) (λ i d lt. ap work_of (get_or-replicate h.lanes i (opening_course (length h.cpus)) d (let l = length-replicate h.lanes (opening_course (length h.cpus)) in omega (arith, l, lt)))) in
+    let lanes = nothing work_of (replicate h.lanes (opening_course (length h.cpus)))
+    (λ i d lt. ap work_of (get_or-replicate h.lanes i (opening_course (length h.cpus)) d
+    (let l = length-replicate h.lanes (opening_course (length h.cpus)) in omega (arith, l, lt)))) in
     let queues = nothing (asked_count (length h.tasks)) (map (opening_queue h) (range_with_len 0 (length h.cpus))) (λ i d lt.
-    ap (asked_count (length h.tasks)) (get_or-map-range_with_len (opening_queue h) 0 (length h.cpus) i i d (let l = length-map-range_with_len (opening_queue h) 0 (length h.cpus) in omega (arith, l, lt)) (omega arith)) ∙ none_asked h i (length h.tasks)) in
+    ap (asked_count (length h.tasks)) (get_or-map-range_with_len (opening_queue h) 0 (length h.cpus) i i d
+    (let l = length-map-range_with_len (opening_queue h) 0 (length h.cpus) in omega (arith, l, lt)) (omega arith))
+    ∙ none_asked h i (length h.tasks)) in
     omega (arith, lanes, queues)
 
-rows_accepted : (t : Trace) (history : History) → IsTrace t → IsHistoryOf t history → list_all (is_row t.header) (rows_drawn history.entries) ≡ true
+rows_accepted : (t : Trace) (history : History) → IsTrace t → IsHistoryOf t history
+    → list_all (is_row t.header) (rows_drawn history.entries) ≡ true
 rows_accepted t history accepted of = all_lane_by_lane (is_row t.header) (rows_drawn history.entries) t.rows of.rows accepted.rows
 
 pub histories_end : OpensReady → StaysReady → EntriesFall → HistoriesEnd
 unfolding start
 histories_end opens stays falls t history accepted of =
     let follow = subst (λ (h : Header). MayFollow history.entries (start h)) of.header of.legal.0 in
-    let few = few_from stays falls history.entries (start t.header) (opens t.header accepted.header) follow (rows_accepted t history accepted of) in
+    let few = few_from stays falls history.entries (start t.header) (opens t.header accepted.header) follow
+    (rows_accepted t history accepted of) in
     let left = left_at_start t.header (length (rows_drawn history.entries)) in
     let rows = mul-le-mul_left row_work (as_many (rows_drawn history.entries) t.rows of.rows) in
     omega (arith, few, left, rows)
 
 -- ---- in range
-fits_from : (laws : ReadyLaws) (es : List Entry) (m : MachineState) → IsReady m → MayFollow es m → list_all (is_row m.header) (rows_drawn es) ≡ true → m.ticket + length es ≤ 2 ^ 40 → fit_from (m.ticket + 1) es ≡ true
+fits_from : (laws : ReadyLaws) (es : List Entry) (m : MachineState) → IsReady m → MayFollow es m
+    → list_all (is_row m.header) (rows_drawn es) ≡ true → m.ticket + length es ≤ 2 ^ 40 → fit_from (m.ticket + 1) es ≡ true
 unfolding after
 fits_from laws [] m k follow rows few = refl
 fits_from laws (e ∷ es) m k follow rows few =
@@ -163,4 +181,5 @@ entries_fit opens end laws t history accepted of =
     let follow = subst (λ (h : Header). MayFollow history.entries (start h)) of.header of.legal.0 in
     let few = end t history accepted of in
     let rows = accepted.most_rows in
-    fits_from laws history.entries (start t.header) (opens t.header accepted.header) follow (rows_accepted t history accepted of) (omega arith)
+    fits_from laws history.entries (start t.header) (opens t.header accepted.header) follow
+    (rows_accepted t history accepted of) (omega arith)

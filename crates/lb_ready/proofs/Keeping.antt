@@ -59,10 +59,11 @@ use Rattle.lb_core.proofs.EmptyHands.{is_out}
 use Rattle.lb_core.proofs.Equality.{decision_is, number_is}
 use Rattle.lb_core.proofs.Placing.{cpu_there, form_lets, leaving_is, entry}
 use Rattle.lb_core.proofs.Next.{run-append}
-use Rattle.lb_ready.specs.Ready.{IsSmall, is_mask_in, is_task_in, Fits, IsQueueOf, NamesPublished, HasSizes, IsReady, PullsSparing, Spares, is_pulling, is_in_range, Names, Speaks, unnamed, KeepsLocal, IsReached, AreInRange}
+use Rattle.lb_ready.specs.Ready.{ScansVersion, IsSmall, is_mask_in, is_task_in, Fits, IsQueueOf, NamesPublished, HasSizes, IsReady, PullsSparing, Spares, is_pulling, is_in_range, Names, Speaks, unnamed, KeepsLocal, IsReached, AreInRange}
 use Rattle.lb_ready.proofs.Queues.{queue_fits, out_goes}
 use Rattle.lb_ready.proofs.Figures.{figure_small, lens, snoc_small, none_tickless, tickless_inside, source_inside, small_kept}
 use Rattle.lb_ready.proofs.Decisions.{source_found}
+use Rattle.lb_ready.proofs.Scans.{scans_stay, scans_kept}
 use Rattle.lb_ready.proofs.Changes.{course_now, queue_now, sizes_kept, course_left, queue_left}
 use Rattle.lb_ready.proofs.Fitting.{Brings, course_fits, drew_fits, later_fits, look_spares, off_spares, spares_after, source_apart, later}
 use Rattle.lb_ready.proofs.Names.{names_kept, names_stay}
@@ -74,14 +75,29 @@ use Rattle.lb_ready.proofs.Counters.{none_in, counters_in}
 
 -- ---- courses
 opening_fits : (h : Header) (n : ℕ) → 0 < length h.cpus → Fits false h 0 (opening_course n)
-opening_fits h n some = record { says = record { counted = omega arith; turned = some; pulled = some; tickless = λ k y. absurd (none_tickless k y); names = tt; masks = refl; narrow = omega arith }; form = tt }
+opening_fits h n some = record {
+  says = record {
+    counted = omega arith;
+    turned = some;
+    pulled = some;
+    tickless = λ k y. absurd (none_tickless k y);
+    names = tt;
+    masks = refl;
+    narrow = omega arith;
+  };
+  form = tt;
+}
 
 -- each lane has such a course
 pub opening_course_at : (h : Header) (lane : ℕ) → (n : ℕ) × (course_at (start h).courses lane ≡ opening_course n)
 unfolding start
 opening_course_at h lane = elim (cases_lt lane h.lanes) [
   | inl lt ↦ (length h.cpus, get_or-replicate h.lanes lane (opening_course (length h.cpus)) no_course lt)
-  | inr ge ↦ (0, get_or_past (replicate h.lanes (opening_course (length h.cpus))) lane no_course (let e = length-replicate h.lanes (opening_course (length h.cpus)) in omega arith))
+  | inr ge ↦ (
+    0,
+    get_or_past (replicate h.lanes (opening_course (length h.cpus))) lane no_course
+        (let e = length-replicate h.lanes (opening_course (length h.cpus)) in omega arith),
+  )
 ]
 
 pub zero_at : (n k : ℕ) → get_or {A = ℕ} (replicate n 0) k 0 ≡ 0
@@ -94,7 +110,8 @@ opening_named : (m : MachineState) (n : ℕ) → NamesPublished m (opening_cours
 opening_named m n = record { version = omega arith; figures = λ cpu. let e = zero_at n cpu in omega arith }
 
 -- ---- queues
-tasks_below : (n cpu id : ℕ) (rows : List TaskRow) → list_all (is_task n) rows ≡ true → list_all (λ t. is_task_in n t) (tasks_at cpu id rows) ≡ true
+tasks_below : (n cpu id : ℕ) (rows : List TaskRow) → list_all (is_task n) rows ≡ true
+    → list_all (λ t. is_task_in n t) (tasks_at cpu id rows) ≡ true
 tasks_below n cpu id [] h = refl
 tasks_below n cpu id (row ∷ rows) h =
     let p = and_parts (is_task n row) _ h in
@@ -102,13 +119,22 @@ tasks_below n cpu id (row ∷ rows) h =
     by_home (row.home == cpu) (and_from (is_below row.mask n) _ q.1 ((and_parts _ _ q.0).1)) (tasks_below n cpu (id + 1) rows p.1)
   where
     by_home : (b : Bool) → is_mask_in n row.mask ≡ true → list_all (λ t. is_task_in n t) (tasks_at cpu (id + 1) rows) ≡ true →
-        list_all (λ t. is_task_in n t) (cond b (record { id = id; nice = row.nice; mask = row.mask; signal = zero_signal; put_down = None } ∷ tasks_at cpu (id + 1) rows) (tasks_at cpu (id + 1) rows)) ≡ true
+        list_all (λ t. is_task_in n t) (cond b
+        (record { id = id; nice = row.nice; mask = row.mask; signal = zero_signal; put_down = None } ∷ tasks_at
+        cpu (id + 1) rows) (tasks_at cpu (id + 1) rows)) ≡ true
     by_home true m k = and_from _ _ (and_from (is_mask_in n row.mask) _ m refl) k
     by_home false m k = k
 
 opening_queue_of : (h : Header) (cpu : ℕ) → IsHeader h → IsQueueOf (length h.cpus) cpu (opening_queue h cpu)
 unfolding opening_queue
-opening_queue_of h cpu accepted = record { own = refl; machine = refl; awake = refl; asleep = tasks_below (length h.cpus) cpu 0 h.tasks accepted.tasks; gone = refl; active = λ to e. absurd (let y : ⊥ = cc in y) }
+opening_queue_of h cpu accepted = record {
+  own = refl;
+  machine = refl;
+  awake = refl;
+  asleep = tasks_below (length h.cpus) cpu 0 h.tasks accepted.tasks;
+  gone = refl;
+  active = λ to e. absurd (let y : ⊥ = cc in y);
+}
 
 opening_in_range : (h : Header) (cpu : ℕ) → AreInRange (queue_at (start h).queues cpu).counters
 unfolding opening_queue
@@ -116,19 +142,24 @@ opening_in_range h cpu = elim (opening_at h cpu) [ inl a ↦ rw a.0 (λ p. none_
 
 nothing_owed : (h : Header) (cpu : ℕ) → has_owed (queue_at (start h).queues cpu) ≡ false
 unfolding opening_queue has_owed
-nothing_owed h cpu = elim (opening_at h cpu) [ inl a ↦ ap (λ (q : QueueState). has_owed q) a.0 | inr b ↦ ap (λ (q : QueueState). has_owed q) b.0 ]
+nothing_owed h cpu = elim (opening_at h cpu)
+    [ inl a ↦ ap (λ (q : QueueState). has_owed q) a.0 | inr b ↦ ap (λ (q : QueueState). has_owed q) b.0 ]
 
 queue_there : (h : Header) (cpu : ℕ) → cpu < length h.cpus → queue_at (start h).queues cpu ≡ opening_queue h cpu
 queue_there h cpu lt = elim (opening_at h cpu) [ inl a ↦ a.0 | inr b ↦ absurd (omega arith) ]
 
 -- ---- sizes
-pub opening_figures : (h : Header) (cpu : ℕ) → cpu < length h.cpus → figures_at (start h).figures cpu ≡ figure (opening_queue h cpu) 0 0 ∷ []
+pub opening_figures : (h : Header) (cpu : ℕ) → cpu < length h.cpus
+    → figures_at (start h).figures cpu ≡ figure (opening_queue h cpu) 0 0 ∷ []
 unfolding start
-opening_figures h cpu lt = get_or-map-range_with_len (λ cpu. figure (opening_queue h cpu) 0 0 ∷ []) 0 (length h.cpus) cpu cpu [] lt (omega arith)
+opening_figures h cpu lt = get_or-map-range_with_len (λ cpu. figure (opening_queue h cpu) 0 0 ∷ []) 0
+    (length h.cpus) cpu cpu [] lt (omega arith)
 
 pub no_figures : (h : Header) (cpu : ℕ) → length h.cpus ≤ cpu → figures_at (start h).figures cpu ≡ []
 unfolding start
-no_figures h cpu ge = get_or_past (map (λ cpu. figure (opening_queue h cpu) 0 0 ∷ []) (range_with_len 0 (length h.cpus))) cpu [] (let e = length-map-range_with_len (λ cpu. figure (opening_queue h cpu) 0 0 ∷ []) 0 (length h.cpus) in omega arith)
+no_figures h cpu ge = get_or_past (map (λ cpu. figure (opening_queue h cpu) 0 0 ∷ [])
+    (range_with_len 0 (length h.cpus))) cpu [] (let e =
+    length-map-range_with_len (λ cpu. figure (opening_queue h cpu) 0 0 ∷ []) 0 (length h.cpus) in omega arith)
 
 opening_sizes : (h : Header) → HasSizes (start h)
 unfolding start
@@ -136,6 +167,8 @@ opening_sizes h = record {
   queues = length-map-range_with_len (opening_queue h) 0 (length h.cpus);
   figures = length-map-range_with_len (λ cpu. figure (opening_queue h cpu) 0 0 ∷ []) 0 (length h.cpus);
   courses = length-replicate h.lanes (opening_course (length h.cpus));
+  lasts = length-replicate h.lanes 0;
+  ticks = length-replicate (length h.cpus) (let none : Option ℕ = None in none);
   versions = omega arith;
   few_versions = omega arith;
   drawn = λ cpu. elim (cases_lt cpu (length h.cpus)) [
@@ -143,13 +176,16 @@ opening_sizes h = record {
     | inr ge ↦ let e = ap (λ (fs : List Fig). length fs) (no_figures h cpu ge) in omega arith
   ];
   last = λ lane. let z = zero_at h.lanes lane in omega arith;
-  published = λ cpu lt. let e = ap (λ (fs : List Fig). length fs) (get_or-map-range_with_len (λ cpu. figure (opening_queue h cpu) 0 0 ∷ []) 0 (length h.cpus) cpu cpu [] lt (omega arith)) in omega arith;
+  published = λ cpu lt. let e = ap (λ (fs : List Fig). length fs)
+      (get_or-map-range_with_len (λ cpu. figure (opening_queue h cpu) 0 0 ∷ []) 0 (length h.cpus) cpu cpu [] lt
+      (omega arith)) in omega arith;
 }
 
 none_small : (n : ℕ) → IsSmall (get_or [] n no_fig)
 none_small n = record { nr = omega arith; load = omega arith; util = omega arith; runnable = omega arith }
 
-opening_small : (laws : QueueLaws) → (h : Header) → IsHeader h → IsPlaced (start h) → (cpu n : ℕ) → IsSmall (get_or (figures_at (start h).figures cpu) n no_fig)
+opening_small : (laws : QueueLaws) → (h : Header) → IsHeader h → IsPlaced (start h) → (cpu n : ℕ)
+    → IsSmall (get_or (figures_at (start h).figures cpu) n no_fig)
 unfolding start
 opening_small laws h accepted placed cpu n = elim (cases_lt cpu (length h.cpus)) [
   | inl lt ↦
@@ -166,7 +202,8 @@ opening_small laws h accepted placed cpu n = elim (cases_lt cpu (length h.cpus))
 there : (n t : ℕ) → not (ltb t n) ≡ false → t < n
 there n t h = ltb-true t n (not-false _ h)
 
-row_names : (h : Header) (n at : ℕ) (command : Command) → is_undeclared h command ≡ false → is_in_range (Row n at command) ≡ true → Names h (Some command)
+row_names : (h : Header) (n at : ℕ) (command : Command) → is_undeclared h command ≡ false
+    → is_in_range (Row n at command) ≡ true → Names h (Some command)
 row_names h n at (Wake t) d r = there (length h.tasks) t d
 row_names h n at (Sleep t) d r = there (length h.tasks) t d
 row_names h n at (Exit t) d r = there (length h.tasks) t d
@@ -175,7 +212,8 @@ row_names h n at (Nice t nice) d r = (there (length h.tasks) t d, r)
 row_names h n at (Tick cpu) d r = there (length h.cpus) cpu d
 row_names h n at (Rebuild parts) d r = tt
 
-source_brought : (m : MachineState) (names : List FigName) (shape : Shape) (groups : List Mask) (cpu : ℕ) (kind : Kind) (excluded : Mask) (d : Decision) → HasSizes m → 0 < length m.header.cpus →
+source_brought : (m : MachineState) (names : List FigName) (shape : Shape) (groups : List Mask) (cpu : ℕ)
+    (kind : Kind) (excluded : Mask) (d : Decision) → HasSizes m → 0 < length m.header.cpus →
     d ≡ decision shape groups (by_cpu (figures_named m.figures names)) cpu kind excluded → source_of (Some d) < length m.header.cpus
 source_brought m names shape groups cpu kind excluded NotMine sizes some e = some
 source_brought m names shape groups cpu kind excluded Balanced sizes some e = some
@@ -185,31 +223,39 @@ source_brought m names shape groups cpu kind excluded (Pull s k i) sizes some e 
     let z = sizes.figures in
     omega arith
 
-owner_there : (m : MachineState) (o : Owner) (lane prev : ℕ) (w : What) → MayBeAdded m (entry o lane prev w) → 0 < length m.queues → cpu_of o < length m.queues
+owner_there : (m : MachineState) (o : Owner) (lane prev : ℕ) (w : What) → MayBeAdded m (entry o lane prev w)
+    → 0 < length m.queues → cpu_of o < length m.queues
 owner_there m (Queue cpu) lane prev w h some = cpu_there m cpu lane prev w h
 owner_there m Publisher lane prev w h some = some
 owner_there m (Lane l) lane prev w h some = some
 
 -- the number of a row is the next of its lane
-pub row_next : (m : MachineState) (o : Owner) (lane prev n at : ℕ) (command : Command) → MayBeAdded m (entry o lane prev (Row n at command)) → (course_at m.courses lane).rows ≤ m.ticket → n ≤ m.ticket + 1
+pub row_next : (m : MachineState) (o : Owner) (lane prev n at : ℕ) (command : Command)
+    → MayBeAdded m (entry o lane prev (Row n at command)) → (course_at m.courses lane).rows ≤ m.ticket → n ≤ m.ticket + 1
 unfolding sight
 row_next m o lane prev n at command h less =
     let rows = (course_at m.courses lane).rows + 1 in
-    let e = eqb-true n rows (not-false (n == rows) (or_parts (not (n == rows)) _ (unbroken_here m (entry o lane prev (Row n at command)) h RowRule)).0) in
+    let e = eqb-true n rows (not-false (n == rows)
+    (or_parts (not (n == rows)) _ (unbroken_here m (entry o lane prev (Row n at command)) h RowRule)).0) in
     omega arith
 
-brings : (m : MachineState) (o : Owner) (lane prev : ℕ) (w : What) → HasSizes m → 0 < length m.header.cpus → MayBeAdded m (entry o lane prev w) → is_in_range w ≡ true → (course_at m.courses lane).rows ≤ m.ticket → Brings m.header (m.ticket + 1) (sight m (entry o lane prev w)) (cpu_of o) w
+brings : (m : MachineState) (o : Owner) (lane prev : ℕ) (w : What) → HasSizes m → 0 < length m.header.cpus
+    → MayBeAdded m (entry o lane prev w) → is_in_range w ≡ true → (course_at m.courses lane).rows ≤ m.ticket
+    → Brings m.header (m.ticket + 1) (sight m (entry o lane prev w)) (cpu_of o) w
 unfolding sight
 brings m o lane prev (Row n at command) sizes some h r less =
-    let said = or_parts (not (n == (course_at m.courses lane).rows + 1)) _ (unbroken_here m (entry o lane prev (Row n at command)) h RowRule) in
+    let said = or_parts (not (n == (course_at m.courses lane).rows + 1)) _
+    (unbroken_here m (entry o lane prev (Row n at command)) h RowRule) in
     (row_next m o lane prev n at command h less, row_names m.header n at command said.1 r)
 brings m o lane prev (Look p x names d) sizes some h r less =
-    source_brought m names _ _ _ _ _ d sizes some (decision_is d _ (not-false _ ((or_parts _ _ (unbroken_here m (entry o lane prev (Look p x names d)) h DecisionRule)).1)))
+    source_brought m names _ _ _ _ _ d sizes some
+    (decision_is d _ (not-false _ ((or_parts _ _ (unbroken_here m (entry o lane prev (Look p x names d)) h DecisionRule)).1)))
 brings m o lane prev (Scan names t) sizes some h r less = (
   λ k y. let lt = tickless_inside m.figures names k y in let z = sizes.figures in omega arith,
   number_is t _ (not-false _ (unbroken_here m (entry o lane prev (Scan names t)) h DecisionRule)),
 )
-brings m o lane prev (Did reply) sizes some h r less = let z = sizes.queues in let k = owner_there m o lane prev (Did reply) h (omega arith) in omega arith
+brings m o lane prev (Did reply) sizes some h r less = let z = sizes.queues in let k =
+    owner_there m o lane prev (Did reply) h (omega arith) in omega arith
 brings m o lane prev w sizes some h r less = tt
 
 -- ---- tasks that leave
@@ -221,11 +267,26 @@ pub record OutFits (m : MachineState) (cpu : ℕ) (c : Course) (q : QueueState) 
 live : (m : MachineState) (e : Entry) → MayBeAdded m e → m.ended ≡ false
 live m e h = (or_parts m.ended _ (unbroken_elsewhere m e h EndRule)).0
 
-off_fits : (h : Header) (n : ℕ) (o : Option Leaving) (l : Leaving) (c : Course) → o ≡ Some l → l.to < length h.cpus → list_all (λ t. is_task_in (length h.cpus) t) l.hand ≡ true → Speaks h n c → Fits false h n (takes_off o c)
-off_fits h n o l c e to hand k = rw e (record { says = record { counted = k.counted; turned = k.turned; pulled = k.pulled; tickless = k.tickless; names = k.names; masks = hand; narrow = k.narrow }; form = to })
+off_fits : (h : Header) (n : ℕ) (o : Option Leaving) (l : Leaving) (c : Course) → o ≡ Some l → l.to < length h.cpus
+    → list_all (λ t. is_task_in (length h.cpus) t) l.hand ≡ true → Speaks h n c → Fits false h n (takes_off o c)
+off_fits h n o l c e to hand k = rw e (record {
+  says =
+      record {
+        counted = k.counted;
+        turned = k.turned;
+        pulled = k.pulled;
+        tickless = k.tickless;
+        names = k.names;
+        masks = hand;
+        narrow = k.narrow;
+      };
+  form = to;
+})
 
-out_fits : (laws : QueueLaws) → (m : MachineState) (cpu lane prev : ℕ) (cause : OutCause) (to : ℕ) (ids : List ℕ) → IsReady m → MayBeAdded m (entry (Queue cpu) lane prev (Out cause to ids)) →
-    OutFits m cpu (course_left m (entry (Queue cpu) lane prev (Out cause to ids))) (queue_left m (entry (Queue cpu) lane prev (Out cause to ids)))
+out_fits : (laws : QueueLaws) → (m : MachineState) (cpu lane prev : ℕ) (cause : OutCause) (to : ℕ) (ids : List ℕ)
+    → IsReady m → MayBeAdded m (entry (Queue cpu) lane prev (Out cause to ids)) →
+    OutFits m cpu (course_left m (entry (Queue cpu) lane prev (Out cause to ids)))
+    (queue_left m (entry (Queue cpu) lane prev (Out cause to ids)))
 unfolding course_after leaving queue_after sight
 out_fits laws m cpu lane prev cause to ids k h =
     let e = entry (Queue cpu) lane prev (Out cause to ids) in
@@ -239,12 +300,14 @@ out_fits laws m cpu lane prev cause to ids k h =
     let says = (k.fits lane).says in
     let g = out_goes laws n cpu c.form m.header c q l says.turned (k.queues cpu lt) is in
     record {
-      course = drew_fits false m.header (m.ticket + 1) (Queue cpu) ((sight m e).count + 1) _ (off_fits m.header (m.ticket + 1) (out_by c.form m.header c q) l c is g.to g.hand (later m.header m.ticket c says));
+      course = drew_fits false m.header (m.ticket + 1) (Queue cpu) ((sight m e).count + 1) _
+          (off_fits m.header (m.ticket + 1) (out_by c.form m.header c q) l c is g.to g.hand (later m.header m.ticket c says));
       queue = let r : rest_of (out_by c.form m.header c q) q ≡ l.rest = ap (λ (x : Option Leaving). rest_of x q) is in rw r g.rest;
     }
 
 -- ---- courses
-course_kept : (m : MachineState) (o : Owner) (lane prev : ℕ) (w : What) → IsReady m → MayBeAdded m (entry o lane prev w) → is_in_range w ≡ true → is_out w ≡ false →
+course_kept : (m : MachineState) (o : Owner) (lane prev : ℕ) (w : What) → IsReady m
+    → MayBeAdded m (entry o lane prev w) → is_in_range w ≡ true → is_out w ≡ false →
     Fits (ended_after w false) m.header (m.ticket + 1) (course_left m (entry o lane prev w))
 unfolding course_after sight
 course_kept m o lane prev w k h r n =
@@ -253,33 +316,45 @@ course_kept m o lane prev w k h r n =
     let says = (k.fits lane).says in
     let some : 0 < length m.header.cpus = let t = says.turned in omega arith in
     drew_fits _ m.header (m.ticket + 1) o (s.count + 1) _
-    (course_fits m.header (m.ticket + 1) s lane (cpu_of o) (queue_after s e) w k.accepted.most_cpus refl (form_lets m e h).1 n (brings m o lane prev w k.sizes some h r says.counted) (later m.header m.ticket s.course says))
+    (course_fits m.header (m.ticket + 1) s lane (cpu_of o) (queue_after s e) w k.accepted.most_cpus refl
+    (form_lets m e h).1 n (brings m o lane prev w k.sizes some h r says.counted) (later m.header m.ticket s.course says))
 
-courses_kept : (m : MachineState) (o : Owner) (lane prev : ℕ) (w : What) → IsReady m → MayBeAdded m (entry o lane prev w) → Fits (ended_after w false) m.header (m.ticket + 1) (course_left m (entry o lane prev w)) →
+courses_kept : (m : MachineState) (o : Owner) (lane prev : ℕ) (w : What) → IsReady m
+    → MayBeAdded m (entry o lane prev w) → Fits (ended_after w false) m.header (m.ticket + 1) (course_left m (entry o lane prev w)) →
     (l : ℕ) → Fits (ended_after w m.ended) m.header (m.ticket + 1) (course_at (after m (entry o lane prev w)).courses l)
 courses_kept m o lane prev w k h new =
     let e = entry o lane prev w in
     let alive = live m e h in
     subst (λ (b : Bool). (l : ℕ) → Fits (ended_after w b) m.header (m.ticket + 1) (course_at (after m e).courses l)) (sym alive)
-    (course_now m e h (λ l c. Fits (ended_after w false) m.header (m.ticket + 1) c) (λ l. later_fits w m.header m.ticket (course_at m.courses l) (subst (λ (b : Bool). Fits b m.header m.ticket (course_at m.courses l)) alive (k.fits l))) new)
+    (course_now m e h (λ l c. Fits (ended_after w false) m.header (m.ticket + 1) c)
+    (λ l. later_fits w m.header m.ticket (course_at m.courses l)
+    (subst (λ (b : Bool). Fits b m.header m.ticket (course_at m.courses l)) alive (k.fits l))) new)
 
-new_course : (laws : QueueLaws) → (m : MachineState) (o : Owner) (lane prev : ℕ) (w : What) → IsReady m → MayBeAdded m (entry o lane prev w) → is_in_range w ≡ true → Fits (ended_after w false) m.header (m.ticket + 1) (course_left m (entry o lane prev w))
+new_course : (laws : QueueLaws) → (m : MachineState) (o : Owner) (lane prev : ℕ) (w : What) → IsReady m
+    → MayBeAdded m (entry o lane prev w) → is_in_range w ≡ true
+    → Fits (ended_after w false) m.header (m.ticket + 1) (course_left m (entry o lane prev w))
 new_course laws m (Queue cpu) lane prev (Out cause to ids) k h r = (out_fits laws m cpu lane prev cause to ids k h).course
-new_course laws m o lane prev (Out cause to ids) k h r = absurd (let y = (form_lets m (entry o lane prev (Out cause to ids)) h).0 in let z : ⊥ = cc in z)
+new_course laws m o lane prev (Out cause to ids) k h r =
+    absurd (let y = (form_lets m (entry o lane prev (Out cause to ids)) h).0 in let z : ⊥ = cc in z)
 new_course laws m o lane prev w k h r = course_kept m o lane prev w k h r refl
 
 -- ---- queues
-new_queue : (laws : QueueLaws) → (m : MachineState) (cpu lane prev : ℕ) (w : What) → IsReady m → MayBeAdded m (entry (Queue cpu) lane prev w) → IsQueueOf (length m.header.cpus) cpu (queue_left m (entry (Queue cpu) lane prev w))
+new_queue : (laws : QueueLaws) → (m : MachineState) (cpu lane prev : ℕ) (w : What) → IsReady m
+    → MayBeAdded m (entry (Queue cpu) lane prev w) → IsQueueOf (length m.header.cpus) cpu (queue_left m (entry (Queue cpu) lane prev w))
 unfolding queue_after sight
 new_queue laws m cpu lane prev (Out cause to ids) k h = (out_fits laws m cpu lane prev cause to ids k h).queue
 new_queue laws m cpu lane prev w k h =
     let lt : cpu < length m.header.cpus = let z = k.sizes.queues in let y = cpu_there m cpu lane prev w h in omega arith in
     let says = (k.fits lane).says in
-    queue_fits laws (length m.header.cpus) cpu (sight m (entry (Queue cpu) lane prev w)) w lane refl says.turned says.masks (k.queues cpu lt)
+    queue_fits laws (length m.header.cpus) cpu
+    (sight m (entry (Queue cpu) lane prev w)) w lane refl says.turned says.masks (k.queues cpu lt)
 
-queue_of : (laws : QueueLaws) → (m : MachineState) (o : Owner) (lane prev : ℕ) (w : What) → IsReady m → MayBeAdded m (entry o lane prev w) → (cpu : ℕ) → o ≡ Queue cpu → IsQueueOf (length m.header.cpus) cpu (queue_left m (entry o lane prev w))
+queue_of : (laws : QueueLaws) → (m : MachineState) (o : Owner) (lane prev : ℕ) (w : What) → IsReady m
+    → MayBeAdded m (entry o lane prev w) → (cpu : ℕ) → o ≡ Queue cpu
+    → IsQueueOf (length m.header.cpus) cpu (queue_left m (entry o lane prev w))
 queue_of laws m o lane prev w k h cpu e =
-    subst (λ (x : Owner). MayBeAdded m (entry x lane prev w) → IsQueueOf (length m.header.cpus) cpu (queue_left m (entry x lane prev w))) (sym e) (new_queue laws m cpu lane prev w k) h
+    subst (λ (x : Owner). MayBeAdded m (entry x lane prev w)
+    → IsQueueOf (length m.header.cpus) cpu (queue_left m (entry x lane prev w))) (sym e) (new_queue laws m cpu lane prev w k) h
 
 -- ---- excluded CPUs
 -- what the laws of domains say
@@ -296,17 +371,24 @@ can_be_read h accepted = record { some = let s = accepted.some_cpu in omega arit
 abbrev pub InWork : MachineState → Course → Type 0
 InWork m c = c.position < length (turn_domains m.header c)
 
-pub parted : DomainLaws → (m : MachineState) (lane : ℕ) → IsReady m → InWork m (course_at m.courses lane) → IsParted (course_at m.courses lane).cpu (turn_domain m.header (course_at m.courses lane))
-parted laws m lane k lt = let c = course_at m.courses lane in laws.part m.header.cpus m.header.distances c.masks (can_be_read m.header k.accepted) c.cpu (k.fits lane).says.turned c.position lt
+pub parted : DomainLaws → (m : MachineState) (lane : ℕ) → IsReady m → InWork m (course_at m.courses lane)
+    → IsParted (course_at m.courses lane).cpu (turn_domain m.header (course_at m.courses lane))
+parted laws m lane k lt = let c = course_at m.courses lane in
+    laws.part m.header.cpus m.header.distances c.masks (can_be_read m.header k.accepted) c.cpu (k.fits lane).says.turned c.position lt
 
-pub look_inside : (f : Form) (m : MachineState) (lane p : ℕ) (x : Mask) (names : List FigName) (d : Decision) (q : QueueState) → draws f m.header (course_at m.courses lane) q lane (Look p x names d) ≡ true → TurnIn f m lane (course_at m.courses lane) → InWork m (course_at m.courses lane)
+pub look_inside : (f : Form) (m : MachineState) (lane p : ℕ) (x : Mask) (names : List FigName) (d : Decision)
+    (q : QueueState) → draws f m.header (course_at m.courses lane) q lane (Look p x names d) ≡ true
+    → TurnIn f m lane (course_at m.courses lane) → InWork m (course_at m.courses lane)
 unfolding draws
 look_inside Position m lane p x names d q y t = t.0.inside (course_at m.courses lane).position t.1
 look_inside LandedForm m lane p x names d q y t = t.0.inside (course_at m.courses lane).position t.1
 look_inside f m lane p x names d q y t = absurd (let z : ⊥ = cc in z)
 
-source_spared : (groups : List Mask) (shape : Shape) (figs : List Fig) (cpu : ℕ) (kind : Kind) (excluded : Mask) (d : Decision) → are_disjoint groups ≡ true → d ≡ decision shape groups figs cpu kind excluded → is_pull (Some d) ≡ true → has (group_at groups 0) (source_of (Some d)) ≡ false
-source_spared groups shape figs cpu kind excluded (Pull s k i) a e p = let f = source_found shape groups figs cpu kind excluded s k i e in source_apart groups f.group s a f.after_local f.numbered f.member
+source_spared : (groups : List Mask) (shape : Shape) (figs : List Fig) (cpu : ℕ) (kind : Kind) (excluded : Mask)
+    (d : Decision) → are_disjoint groups ≡ true → d ≡ decision shape groups figs cpu kind excluded
+    → is_pull (Some d) ≡ true → has (group_at groups 0) (source_of (Some d)) ≡ false
+source_spared groups shape figs cpu kind excluded (Pull s k i) a e p = let f =
+    source_found shape groups figs cpu kind excluded s k i e in source_apart groups f.group s a f.after_local f.numbered f.member
 source_spared groups shape figs cpu kind excluded d a e p = absurd (let z : ⊥ = cc in z)
 
 pulls_spare : (o : OutCause) (h : Header) (c : Course) → is_pulling o ≡ false → PullsSparing o h c
@@ -320,7 +402,8 @@ looked_spares o h c p k = tt
 drew_local : (h : Header) (o : Owner) (n : ℕ) (c : Course) → KeepsLocal h c → KeepsLocal h (drew o n c)
 drew_local h o n c k = drew_by (KeepsLocal h) o n c k (λ u. k)
 
-new_spares : DomainLaws → (m : MachineState) (o : Owner) (lane prev : ℕ) (w : What) → IsReady m → MayBeAdded m (entry o lane prev w) → KeepsLocal m.header (course_left m (entry o lane prev w))
+new_spares : DomainLaws → (m : MachineState) (o : Owner) (lane prev : ℕ) (w : What) → IsReady m
+    → MayBeAdded m (entry o lane prev w) → KeepsLocal m.header (course_left m (entry o lane prev w))
 unfolding course_after sight leaving
 new_spares laws m o lane prev (Look p x names d) k h =
     let e = entry o lane prev (Look p x names d) in
@@ -328,23 +411,33 @@ new_spares laws m o lane prev (Look p x names d) k h =
     let lets = form_lets m e h in
     let domain = turn_domain m.header c in
     let inside = look_inside c.form m lane p x names d (sight m e).queue lets.1 (k.turns lane) in
-    let right = decision_is d (decision domain.shape domain.groups (by_cpu (figures_named m.figures names)) c.cpu (turn_kind c) c.excluded) (not-false _ ((or_parts _ _ (unbroken_here m e h DecisionRule)).1)) in
-    let apart = source_spared domain.groups domain.shape (by_cpu (figures_named m.figures names)) c.cpu (turn_kind c) c.excluded d (parted laws m lane k inside).apart right in
-    drew_local m.header o ((sight m e).count + 1) _ (look_spares c.form m.header (sight m e) lane (cpu_of o) (queue_left m e) p x names d lets.1 apart (k.spares lane))
+    let right = decision_is d (decision domain.shape domain.groups (by_cpu (figures_named m.figures names)) c.cpu
+    (turn_kind c) c.excluded) (not-false _ ((or_parts _ _ (unbroken_here m e h DecisionRule)).1)) in
+    let apart = source_spared domain.groups domain.shape (by_cpu (figures_named m.figures names)) c.cpu
+    (turn_kind c) c.excluded d (parted laws m lane k inside).apart right in
+    drew_local m.header o ((sight m e).count + 1) _
+    (look_spares c.form m.header (sight m e) lane (cpu_of o) (queue_left m e) p x names d lets.1 apart (k.spares lane))
 new_spares laws m o lane prev (Out cause to ids) k h =
     let e = entry o lane prev (Out cause to ids) in
     let c = course_at m.courses lane in
     let q = owned_queue o m in
     let lets = form_lets m e h in
     drew_local m.header o ((sight m e).count + 1) _ (off_spares m.header (out_by c.form m.header c q) c
-    (λ l is. of_cause (λ x. PullsSparing x m.header (unnamed c)) c.form m.header c q l (λ x n. pulls_spare x m.header (unnamed c) n) (λ f x. looked_spares x m.header (unnamed c) ((out_says c.form m.header c q lane cause to ids lets.1).1 f) (subst (λ (g : Form). Spares g m.header (unnamed c)) f (k.spares lane))) is) (k.spares lane))
+    (λ l is. of_cause (λ x. PullsSparing x m.header (unnamed c)) c.form m.header c q l
+    (λ x n. pulls_spare x m.header (unnamed c) n)
+    (λ f x. looked_spares x m.header (unnamed c) ((out_says c.form m.header c q lane cause to ids lets.1).1 f)
+    (subst (λ (g : Form). Spares g m.header (unnamed c)) f (k.spares lane))) is) (k.spares lane))
 new_spares laws m o lane prev w k h =
     let e = entry o lane prev w in
-    drew_local m.header o ((sight m e).count + 1) _ (spares_after (course_at m.courses lane).form m.header (sight m e) lane (cpu_of o) (queue_left m e) w refl (form_lets m e h).1 refl refl (k.spares lane))
+    drew_local m.header o ((sight m e).count + 1) _
+    (spares_after (course_at m.courses lane).form m.header (sight m e) lane (cpu_of o) (queue_left m e) w refl
+    (form_lets m e h).1 refl refl (k.spares lane))
 
-counters_now : (laws : QueueLaws) (m : MachineState) (o : Owner) (lane prev : ℕ) (w : What) (cpu : ℕ) → o ≡ Queue cpu → AreInRange (queue_at m.queues cpu).counters → AreInRange (queue_left m (entry o lane prev w)).counters
+counters_now : (laws : QueueLaws) (m : MachineState) (o : Owner) (lane prev : ℕ) (w : What) (cpu : ℕ) → o ≡ Queue cpu
+    → AreInRange (queue_at m.queues cpu).counters → AreInRange (queue_left m (entry o lane prev w)).counters
 unfolding queue_after sight
-counters_now laws m (Queue u) lane prev w cpu i a = let e : u ≡ cpu = cc in counters_in laws (sight m (entry (Queue u) lane prev w)) lane w (subst (λ (x : ℕ). AreInRange (queue_at m.queues x).counters) (sym e) a)
+counters_now laws m (Queue u) lane prev w cpu i a = let e : u ≡ cpu = cc in
+    counters_in laws (sight m (entry (Queue u) lane prev w)) lane w (subst (λ (x : ℕ). AreInRange (queue_at m.queues x).counters) (sym e) a)
 counters_now laws m o lane prev w cpu i a = absurd (let y : ⊥ = cc in y)
 
 -- ---- ready machines
@@ -402,13 +495,15 @@ ready_start laws h accepted =
       owed = λ cpu y. let n = nothing_owed h cpu in absurd (let z : ⊥ = cc in z);
       named = λ lane. let c = opening_course_at h lane in rw c.1 (opening_named (start h) c.0);
       turns = facts.turns;
+      scans = λ lane. let c = opening_course_at h lane in rw c.1 tt;
       spares = λ lane. let c = opening_course_at h lane in rw c.1 tt;
       small = opening_small laws.queues h accepted placed.0;
       counts = facts.counts;
       in_range = opening_in_range h;
     }
 
-pub ready_kept : (laws : LawsBelow) (m : MachineState) (o : Owner) (lane prev : ℕ) (w : What) → IsReady m → MayBeAdded m (entry o lane prev w) → is_in_range w ≡ true → IsReady (after m (entry o lane prev w))
+pub ready_kept : (laws : LawsBelow) (m : MachineState) (o : Owner) (lane prev : ℕ) (w : What) → IsReady m
+    → MayBeAdded m (entry o lane prev w) → is_in_range w ≡ true → IsReady (after m (entry o lane prev w))
 unfolding after
 ready_kept laws m o lane prev w k h r =
     let e = entry o lane prev w in
@@ -423,12 +518,21 @@ ready_kept laws m o lane prev w k h r =
       permitted = facts.permitted;
       hands = placed.1;
       fits = courses_kept m o lane prev w k h (new_course laws.queues m o lane prev w k h r);
-      queues = queue_now m o lane prev w h (λ cpu q. cpu < length m.header.cpus → IsQueueOf (length m.header.cpus) cpu q) k.queues (λ cpu i lt there. queue_of laws.queues m o lane prev w k h cpu i);
+      queues = queue_now m o lane prev w h
+          (λ cpu q. cpu < length m.header.cpus → IsQueueOf (length m.header.cpus) cpu q) k.queues
+          (λ cpu i lt there. queue_of laws.queues m o lane prev w k h cpu i);
       owed = owed_kept laws.queues m o lane prev w k.owed h;
-      named = course_now m e h (λ l c. NamesPublished (after m e) c) (λ l. names_stay m o lane prev w (course_at m.courses l) k.sizes h (k.named l)) (names_kept m o lane prev w k.sizes h (k.named lane));
+      named = course_now m e h (λ l c. NamesPublished (after m e) c)
+          (λ l. names_stay m o lane prev w (course_at m.courses l) k.sizes h (k.named l))
+          (names_kept m o lane prev w k.sizes h (k.named lane));
       turns = facts.turns;
+      scans = course_now m e h (λ l c. ScansVersion (after m e) c)
+          (λ l. scans_stay m e (course_at m.courses l) (k.scans l)) (scans_kept m e h (k.turns lane) (k.scans lane));
       spares = course_now m e h (λ l c. KeepsLocal m.header c) k.spares (new_spares laws.domains m o lane prev w k h);
-      small = small_kept laws.queues m o lane prev w h (k.sizes.queues ∙ sym k.sizes.figures) placed.0 k.accepted.most_tasks (λ cpu i. queue_of laws.queues m o lane prev w k h cpu i) k.small;
+      small = small_kept laws.queues m o lane prev w h
+          (k.sizes.queues ∙ sym k.sizes.figures) placed.0 k.accepted.most_tasks
+          (λ cpu i. queue_of laws.queues m o lane prev w k h cpu i) k.small;
       counts = facts.counts;
-      in_range = queue_now m o lane prev w h (λ cpu q. AreInRange q.counters) k.in_range (λ cpu i lt. counters_now laws.queues m o lane prev w cpu i (k.in_range cpu));
+      in_range = queue_now m o lane prev w h (λ cpu q. AreInRange q.counters) k.in_range
+          (λ cpu i lt. counters_now laws.queues m o lane prev w cpu i (k.in_range cpu));
     }

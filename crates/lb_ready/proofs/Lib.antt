@@ -1,5 +1,6 @@
 pub mod Counting
 pub mod Steps
+pub mod Staging
 pub mod Requests
 pub mod Courses
 pub mod Decisions
@@ -11,9 +12,12 @@ pub mod Queues
 pub mod Names
 pub mod Owed
 pub mod Counters
+pub mod Scans
 pub mod Keeping
 pub mod Going
 pub mod Running
 pub mod Calls
+pub mod Drawing
 pub mod Ranges
 pub mod Histories
+pub mod Lanes

@@ -58,7 +58,11 @@ unowed = record {
 
 owed_none : (q : QueueState) → has_owed q ≡ false → Passes unowed q
 unfolding has_owed
-owed_none q h = record { awake = not-false _ (sym (any_all (λ a. is_owed a.stop) q.awake) ∙ h); asleep = all_free q.asleep; gone = all_free q.gone }
+owed_none q h = record {
+  awake = not-false _ (sym (any_all (λ a. is_owed a.stop) q.awake) ∙ h);
+  asleep = all_free q.asleep;
+  gone = all_free q.gone;
+}
 
 none_owed : (q : QueueState) → Passes unowed q → has_owed q ≡ false
 unfolding has_owed
@@ -84,22 +88,29 @@ abbrev ticks : What → Option Command → Bool
 ticks (Did r) command = is_tick command
 ticks w command = false
 
-owed_before : (laws : QueueLaws) (w : What) (s : Sight) (lane : ℕ) → ticks w s.course.command ≡ false → has_owed (queue_by w s lane) ≡ true → has_owed s.queue ≡ true
+owed_before : (laws : QueueLaws) (w : What) (s : Sight) (lane : ℕ) → ticks w s.course.command ≡ false
+    → has_owed (queue_by w s lane) ≡ true → has_owed s.queue ≡ true
 unfolding close_look ask_active kick leaving has_owed
-owed_before laws (Did r) s lane n h = by_absence s.queue (answer_to s.course.command s.course.at s.queue).1 (answer_passes laws unowed s.course.command s.course.at s.queue (takes_unowed s.queue s.course.command n)) h
+owed_before laws (Did r) s lane n h = by_absence s.queue (answer_to s.course.command s.course.at s.queue).1
+    (answer_passes laws unowed s.course.command s.course.at s.queue (takes_unowed s.queue s.course.command n)) h
 owed_before laws (Out cause to tasks) s lane n h = by_out (out_by s.course.form s.header s.course s.queue) refl h
   where
-    by_out : (o : Option Leaving) → out_by s.course.form s.header s.course s.queue ≡ o → has_owed (rest_of o s.queue) ≡ true → has_owed s.queue ≡ true
+    by_out : (o : Option Leaving) → out_by s.course.form s.header s.course s.queue ≡ o
+        → has_owed (rest_of o s.queue) ≡ true → has_owed s.queue ≡ true
     by_out None e h = h
     by_out (Some l) e h = by_absence s.queue l.rest (λ k. (out_passes laws unowed s.course.form s.header s.course s.queue l e k).rest) h
-owed_before laws (Landed tasks) s lane n h = by_absence s.queue (land s.queue s.course.at (cause_of s.course) s.course.moment s.course.hand) (land_passes laws unowed s.queue s.course.at (cause_of s.course) s.course.moment s.course.hand (all_free s.course.hand)) h
+owed_before laws (Landed tasks) s lane n h =
+    by_absence s.queue (land s.queue s.course.at (cause_of s.course) s.course.moment s.course.hand)
+    (land_passes laws unowed s.queue s.course.at (cause_of s.course) s.course.moment s.course.hand (all_free s.course.hand)) h
 owed_before laws w s lane n h = h
 
 -- ---- the lane goes on serving
-off_serves : (o : Option Leaving) (l : Leaving) (c : Course) (cpu : ℕ) → o ≡ Some l → ticked_cpu c.command ≡ Some cpu → is_pulling l.cause ≡ false → Serves (takes_off o c) cpu
+off_serves : (o : Option Leaving) (l : Leaving) (c : Course) (cpu : ℕ) → o ≡ Some l → ticked_cpu c.command ≡ Some cpu
+    → is_pulling l.cause ≡ false → Serves (takes_off o c) cpu
 off_serves o l c cpu e t n = rw e (t, n)
 
-back_serves : (b : Bool) (c : Course) (cpu : ℕ) → is_tick c.command ≡ b → ticked_cpu c.command ≡ Some cpu → Serves (cond b (record (lets_go c) { form = Serving }) (comes_to_rest c)) cpu
+back_serves : (b : Bool) (c : Course) (cpu : ℕ) → is_tick c.command ≡ b → ticked_cpu c.command ≡ Some cpu
+    → Serves (cond b (record (lets_go c) { form = Serving }) (comes_to_rest c)) cpu
 back_serves true c cpu e t = t
 back_serves false c cpu e t = absurd (let k = ap is_some t in let y : ⊥ = cc in y)
 
@@ -108,8 +119,11 @@ lands_serves PullOut c cpu n t = absurd (let y : ⊥ = cc in y)
 lands_serves o c cpu n t = back_serves (is_tick c.command) c cpu refl t
 
 -- the entry's own lane, by its form
-goes_on_serving : (f : Form) (m : MachineState) (o : Owner) (lane prev : ℕ) (w : What) (cpu u : ℕ) (now : QueueState) → (course_at m.courses lane).form ≡ f → ServesIn f (unnamed (course_at m.courses lane)) cpu →
-    draws f m.header (course_at m.courses lane) (owned_queue o m) lane w ≡ true → owed_elsewhere m w ≡ false → breaks_pick (sight m (entry o lane prev w)) w ≡ false → has_owed (queue_at m.queues cpu) ≡ true → Serves (course_by w (sight m (entry o lane prev w)) u now) cpu
+goes_on_serving : (f : Form) (m : MachineState) (o : Owner) (lane prev : ℕ) (w : What) (cpu u : ℕ) (now : QueueState)
+    → (course_at m.courses lane).form ≡ f → ServesIn f (unnamed (course_at m.courses lane)) cpu →
+    draws f m.header (course_at m.courses lane) (owned_queue o m) lane w ≡ true → owed_elsewhere m w ≡ false
+    → breaks_pick (sight m (entry o lane prev w)) w ≡ false → has_owed (queue_at m.queues cpu) ≡ true
+    → Serves (course_by w (sight m (entry o lane prev w)) u now) cpu
 unfolding draws sight leaving
 goes_on_serving Serving m o lane prev (Out cause to tasks) cpu u now f k d e p h =
     let c = course_at m.courses lane in
@@ -117,7 +131,9 @@ goes_on_serving Serving m o lane prev (Out cause to tasks) cpu u now f k d e p h
     let found = leaving_is (out_by c.form m.header c q) cause to tasks p in
     let l : Leaving = found.0 in
     let is : out_by c.form m.header c q ≡ Some l = found.1 in
-    off_serves (out_by c.form m.header c q) l c cpu is k (of_cause (λ x. is_pulling x ≡ false) c.form m.header c q l (λ x n. n) (λ g x. absurd (let z : Serving ≡ Looked = sym f ∙ g in let y : ⊥ = cc in y)) is)
+    off_serves (out_by c.form m.header c q) l c cpu is k
+    (of_cause (λ x. is_pulling x ≡ false) c.form m.header c q l (λ x n. n)
+    (λ g x. absurd (let z : Serving ≡ Looked = sym f ∙ g in let y : ⊥ = cc in y)) is)
 goes_on_serving Serving m o lane prev (Adopt v kind t) cpu u now f k d e p h =
     let x = and_parts (same_kind kind TickTurn) _ d in
     let same : t ≡ cpu = ticked_is (ticked_cpu (course_at m.courses lane).command) t cpu k x.1 in
@@ -127,17 +143,21 @@ goes_on_serving Serving m o lane prev (Adopt v kind t) cpu u now f k d e p h =
     ticked_is : (o : Option ℕ) (t cpu : ℕ) → o ≡ Some cpu → same_number o (Some t) ≡ true → t ≡ cpu
     ticked_is None t cpu e s = absurd (let y : ⊥ = cc in y)
     ticked_is (Some v) t cpu e s = let a = eqb-true v t s in let b : v ≡ cpu = cc in sym a ∙ b
-goes_on_serving Flight m o lane prev (Landed tasks) cpu u now f k d e p h = lands_serves (cause_of (course_at m.courses lane)) (course_at m.courses lane) cpu k.1 k.0
+goes_on_serving Flight m o lane prev (Landed tasks) cpu u now f k d e p h =
+    lands_serves (cause_of (course_at m.courses lane)) (course_at m.courses lane) cpu k.1 k.0
 goes_on_serving Serving m o lane prev w cpu u now f k d e p h = absurd (let y : ⊥ = cc in y)
 goes_on_serving Flight m o lane prev w cpu u now f k d e p h = absurd (let y : ⊥ = cc in y)
 goes_on_serving f m o lane prev w cpu u now g k d e p h = absurd k
 
 -- ---- a tick
-tick_serves : (command : Option Command) (cpu : ℕ) (before now : QueueState) (c : Course) → command ≡ c.command → ticked_cpu command ≡ Some cpu → Serves (answered command cpu before now c) cpu
+tick_serves : (command : Option Command) (cpu : ℕ) (before now : QueueState) (c : Course) → command ≡ c.command
+    → ticked_cpu command ≡ Some cpu → Serves (answered command cpu before now c) cpu
 tick_serves (Some (Tick u)) cpu before now c s t = rw (← s) t
 tick_serves command cpu before now c s t = absurd (let y : ⊥ = cc in y)
 
-ticked_owner : (f : Form) (h : Header) (c : Course) (q : QueueState) (lane : ℕ) (r : Reply) (o : Owner) (cpu : ℕ) → draws f h c q lane (Did r) ≡ true → is_owner (Did r) lane (queue_due f c) o ≡ true → is_tick c.command ≡ true → o ≡ Queue cpu → ticked_cpu c.command ≡ Some cpu
+ticked_owner : (f : Form) (h : Header) (c : Course) (q : QueueState) (lane : ℕ) (r : Reply) (o : Owner) (cpu : ℕ)
+    → draws f h c q lane (Did r) ≡ true → is_owner (Did r) lane (queue_due f c) o ≡ true → is_tick c.command ≡ true
+    → o ≡ Queue cpu → ticked_cpu c.command ≡ Some cpu
 unfolding draws
 ticked_owner Asked h c q lane r o cpu d w t e = by_cpu (ticked_cpu c.command) t w
   where
@@ -148,33 +168,41 @@ ticked_owner f h c q lane r o cpu d w t e = absurd (let y : ⊥ = cc in y)
 
 -- ---- every queue
 -- a queue that owes was one that owed, or is ticked
-owned : (m : MachineState) (o : Owner) (cpu : ℕ) → o ≡ Queue cpu → has_owed (owned_queue o m) ≡ true → has_owed (queue_at m.queues cpu) ≡ true
+owned : (m : MachineState) (o : Owner) (cpu : ℕ) → o ≡ Queue cpu → has_owed (owned_queue o m) ≡ true
+    → has_owed (queue_at m.queues cpu) ≡ true
 owned m o cpu e h = rw e at h
 
-pub owed_from : (laws : QueueLaws) (m : MachineState) (o : Owner) (lane prev : ℕ) (w : What) → MayBeAdded m (entry o lane prev w) → (cpu : ℕ) → has_owed (queue_at (after m (entry o lane prev w)).queues cpu) ≡ true →
+pub owed_from : (laws : QueueLaws) (m : MachineState) (o : Owner) (lane prev : ℕ) (w : What)
+    → MayBeAdded m (entry o lane prev w) → (cpu : ℕ) → has_owed (queue_at (after m (entry o lane prev w)).queues cpu) ≡ true →
     (has_owed (queue_at m.queues cpu) ≡ true) ⊎ (o ≡ Queue cpu) × (ticks w (course_at m.courses lane).command ≡ true)
 unfolding queue_after sight
 owed_from laws m o lane prev w h =
-    queue_now m o lane prev w h (λ cpu q. has_owed q ≡ true → (has_owed (queue_at m.queues cpu) ≡ true) ⊎ (o ≡ Queue cpu) × (ticks w (course_at m.courses lane).command ≡ true))
+    queue_now m o lane prev w h (λ cpu q. has_owed q ≡ true
+    → (has_owed (queue_at m.queues cpu) ≡ true) ⊎ (o ≡ Queue cpu) × (ticks w (course_at m.courses lane).command ≡ true))
     (λ cpu y. inl y)
     (λ cpu e lt y. by_tick cpu e (ticks w (course_at m.courses lane).command) refl y)
   where
-    by_tick : (cpu : ℕ) → o ≡ Queue cpu → (b : Bool) → ticks w (course_at m.courses lane).command ≡ b → has_owed (queue_left m (entry o lane prev w)) ≡ true → (has_owed (queue_at m.queues cpu) ≡ true) ⊎ (o ≡ Queue cpu) × (ticks w (course_at m.courses lane).command ≡ true)
+    by_tick : (cpu : ℕ) → o ≡ Queue cpu → (b : Bool) → ticks w (course_at m.courses lane).command ≡ b
+        → has_owed (queue_left m (entry o lane prev w)) ≡ true
+        → (has_owed (queue_at m.queues cpu) ≡ true) ⊎ (o ≡ Queue cpu) × (ticks w (course_at m.courses lane).command ≡ true)
     by_tick cpu e true t y = inr (e, t)
     by_tick cpu e false t y = inl (owned m o cpu e (owed_before laws w (sight m (entry o lane prev w)) lane t y))
 
 -- the entry's lane serves on
-serves_on : (m : MachineState) (o : Owner) (lane prev : ℕ) (w : What) (cpu : ℕ) → MayBeAdded m (entry o lane prev w) → Serves (course_at m.courses lane) cpu → has_owed (queue_at m.queues cpu) ≡ true → IsServedBy (after m (entry o lane prev w)) cpu
+serves_on : (m : MachineState) (o : Owner) (lane prev : ℕ) (w : What) (cpu : ℕ) → MayBeAdded m (entry o lane prev w)
+    → Serves (course_at m.courses lane) cpu → has_owed (queue_at m.queues cpu) ≡ true → IsServedBy (after m (entry o lane prev w)) cpu
 unfolding course_after sight
 serves_on m o lane prev w cpu h k y =
     let e = entry o lane prev w in
     let s = sight m e in
-    let g = goes_on_serving (course_at m.courses lane).form m o lane prev w cpu (cpu_of o) (queue_after s e) refl k (form_lets m e h).1 (unbroken_elsewhere m e h OwedRule) (unbroken_here m e h Pick) y in
+    let g = goes_on_serving (course_at m.courses lane).form m o lane prev w cpu (cpu_of o) (queue_after s e) refl k
+    (form_lets m e h).1 (unbroken_elsewhere m e h OwedRule) (unbroken_here m e h Pick) y in
     let d = drew_by (λ c. Serves c cpu) o (s.count + 1) (course_by w s (cpu_of o) (queue_after s e)) g (λ u. g) in
     record { lane = lane; serves = rw (course_of_lane m e h) d }
 
 -- a tick that was answered is served
-serves_tick : (m : MachineState) (o : Owner) (lane prev : ℕ) (w : What) (cpu : ℕ) → MayBeAdded m (entry o lane prev w) → o ≡ Queue cpu → ticks w (course_at m.courses lane).command ≡ true → IsServedBy (after m (entry o lane prev w)) cpu
+serves_tick : (m : MachineState) (o : Owner) (lane prev : ℕ) (w : What) (cpu : ℕ) → MayBeAdded m (entry o lane prev w)
+    → o ≡ Queue cpu → ticks w (course_at m.courses lane).command ≡ true → IsServedBy (after m (entry o lane prev w)) cpu
 unfolding course_after sight
 serves_tick m o lane prev (Did r) cpu h i t =
     let e = entry o lane prev (Did r) in
@@ -182,7 +210,8 @@ serves_tick m o lane prev (Did r) cpu h i t =
     let c = course_at m.courses lane in
     let lets = form_lets m e h in
     let u = ticked_owner c.form m.header c s.queue lane r o cpu lets.1 lets.0 t i in
-    let g : Serves (answered c.command (cpu_of o) s.queue (queue_after s e) c) cpu = rw (← cpu_is o cpu i) (tick_serves c.command cpu s.queue (queue_after s e) c refl u) in
+    let g : Serves (answered c.command (cpu_of o) s.queue (queue_after s e) c) cpu =
+    rw (← cpu_is o cpu i) (tick_serves c.command cpu s.queue (queue_after s e) c refl u) in
     let d = drew_by (λ c. Serves c cpu) o (s.count + 1) (answered c.command (cpu_of o) s.queue (queue_after s e) c) g (λ u. g) in
     record { lane = lane; serves = rw (course_of_lane m e h) d }
   where
@@ -190,7 +219,8 @@ serves_tick m o lane prev (Did r) cpu h i t =
     cpu_is o cpu i = rw i refl
 serves_tick m o lane prev w cpu h i t = absurd (let y : ⊥ = cc in y)
 
-pub owed_kept : (laws : QueueLaws) (m : MachineState) (o : Owner) (lane prev : ℕ) (w : What) → ((cpu : ℕ) → has_owed (queue_at m.queues cpu) ≡ true → IsServedBy m cpu) → MayBeAdded m (entry o lane prev w) →
+pub owed_kept : (laws : QueueLaws) (m : MachineState) (o : Owner) (lane prev : ℕ) (w : What)
+    → ((cpu : ℕ) → has_owed (queue_at m.queues cpu) ≡ true → IsServedBy m cpu) → MayBeAdded m (entry o lane prev w) →
     (cpu : ℕ) → has_owed (queue_at (after m (entry o lane prev w)).queues cpu) ≡ true → IsServedBy (after m (entry o lane prev w)) cpu
 owed_kept laws m o lane prev w old h cpu owes = elim (owed_from laws m o lane prev w h cpu owes) [
   | inl y ↦

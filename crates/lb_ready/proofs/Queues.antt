@@ -42,22 +42,37 @@ bounded_is x h =
     let a = and_parts _ _ h in
     let b = and_parts _ _ a.0 in
     let c = and_parts _ _ b.0 in
-    record { part_small = ltb-true x.part 1024 c.0; load_small = leb-true x.load_sum (46718 + x.part) c.1; runnable_small = leb-true x.runnable_sum (1024 * (46718 + x.part) + 49152) b.1; util_small = leb-true x.util_sum (1024 * (46718 + x.part) + 49152) a.1 }
+    record {
+      part_small = ltb-true x.part 1024 c.0;
+      load_small = leb-true x.load_sum (46718 + x.part) c.1;
+      runnable_small = leb-true x.runnable_sum (1024 * (46718 + x.part) + 49152) b.1;
+      util_small =
+          leb-true x.util_sum (1024 * (46718 + x.part) + 49152) a.1;
+    }
 
 is_so_bounded : (x : Sums) → IsBounded x → is_bounded x ≡ true
-is_so_bounded x k = and_from _ _ (and_from _ _ (and_from _ _ (lt-ltb x.part 1024 k.part_small) (le-leb x.load_sum (46718 + x.part) k.load_small)) (le-leb x.runnable_sum (1024 * (46718 + x.part) + 49152) k.runnable_small)) (le-leb x.util_sum (1024 * (46718 + x.part) + 49152) k.util_small)
+is_so_bounded x k = and_from _ _ (and_from _ _
+    (and_from _ _ (lt-ltb x.part 1024 k.part_small) (le-leb x.load_sum (46718 + x.part) k.load_small))
+    (le-leb x.runnable_sum (1024 * (46718 + x.part) + 49152) k.runnable_small))
+    (le-leb x.util_sum (1024 * (46718 + x.part) + 49152) k.util_small)
 
 pub still_bounded : (laws : QueueLaws) → (x : Sums) (run : Run) (clock : ℕ) → is_bounded x ≡ true → is_bounded (advanced x run clock) ≡ true
 still_bounded laws x run clock h = is_so_bounded (advanced x run clock) (laws.advanced_is x run clock (bounded_is x h))
 
-pub still_in : (laws : QueueLaws) (n : ℕ) (t : TaskRecord) (run : Run) (clock : ℕ) → is_task_in n t ≡ true → is_task_in n (record t { signal = advanced t.signal run clock }) ≡ true
-still_in laws n t run clock h = let p = and_parts (is_mask_in n t.mask) (is_bounded t.signal) h in and_from (is_mask_in n t.mask) _ p.0 (still_bounded laws t.signal run clock p.1)
+pub still_in : (laws : QueueLaws) (n : ℕ) (t : TaskRecord) (run : Run) (clock : ℕ) → is_task_in n t ≡ true
+    → is_task_in n (record t { signal = advanced t.signal run clock }) ≡ true
+still_in laws n t run clock h = let p = and_parts (is_mask_in n t.mask) (is_bounded t.signal) h in
+    and_from (is_mask_in n t.mask) _ p.0 (still_bounded laws t.signal run clock p.1)
 
 abbrev pub below : QueueLaws → ℕ → Test
 below laws n = record {
   up = λ s t. is_task_in n t;
   down = λ t. is_task_in n t;
-  lasts = record { leaves = λ s t h. h; ages_awake = λ s t run clock d h. still_in laws n t run clock h; ages = λ t run clock d h. still_in laws n t run clock h };
+  lasts = record {
+    leaves = λ s t h. h;
+    ages_awake = λ s t run clock d h. still_in laws n t run clock h;
+    ages = λ t run clock d h. still_in laws n t run clock h;
+  };
   joins = λ t h. h;
   renices = λ id nice. record { awake = λ s t i h. h; asleep = λ t i h. h };
 }
@@ -68,30 +83,59 @@ masks_pass laws n cpu q k = record { awake = k.awake; asleep = k.asleep; gone = 
 good_mask : (n cpu : ℕ) (q : QueueState) (m : Mask) → IsQueueOf n cpu q → is_bad_mask q m ≡ false → is_mask_in n m ≡ true
 good_mask n cpu q m k h = let p = or_parts (is_empty m) _ h in let b = not-false _ p.1 in and_from _ _ (rw k.machine at b) (rw p.0 refl)
 
-masked_in : (n : ℕ) (mask : Mask) (t : TaskRecord) → is_mask_in n mask ≡ true → is_task_in n t ≡ true → is_task_in n (with_mask mask t) ≡ true
+masked_in : (n : ℕ) (mask : Mask) (t : TaskRecord) → is_mask_in n mask ≡ true → is_task_in n t ≡ true
+    → is_task_in n (with_mask mask t) ≡ true
 masked_in n mask t m h = and_from (is_mask_in n mask) _ m ((and_parts (is_mask_in n t.mask) _ h).1)
 
-takes_below : (laws : QueueLaws) → (n cpu : ℕ) (q : QueueState) (command : Option Command) → IsQueueOf n cpu q → Takes (below laws n) q command
-takes_below laws n cpu q (Some (SetMask id mask)) k = λ good. let m = good_mask n cpu q mask k good in record { awake = λ s t i h. masked_in n mask t m h; asleep = λ t i h. masked_in n mask t m h }
+takes_below : (laws : QueueLaws) → (n cpu : ℕ) (q : QueueState) (command : Option Command) → IsQueueOf n cpu q
+    → Takes (below laws n) q command
+takes_below laws n cpu q (Some (SetMask id mask)) k = λ good. let m = good_mask n cpu q mask k good in
+    record { awake = λ s t i h. masked_in n mask t m h; asleep = λ t i h. masked_in n mask t m h }
 takes_below laws n cpu q (Some (Tick u)) k = λ s t p h. h
 takes_below laws n cpu q command k = tt
 
 -- what is alike, with such masks
-pub still_queue : (laws : QueueLaws) → (n cpu : ℕ) (q q' : QueueState) → IsQueueOf n cpu q → Alike q q' → Passes (below laws n) q' → IsQueueOf n cpu q'
-still_queue laws n cpu q q' k a p = record { own = a.own ∙ k.own; machine = a.machine ∙ k.machine; awake = p.awake; asleep = p.asleep; gone = p.gone; active = λ to e. k.active to (a.asked to e) }
+pub still_queue : (laws : QueueLaws) → (n cpu : ℕ) (q q' : QueueState) → IsQueueOf n cpu q → Alike q q'
+    → Passes (below laws n) q' → IsQueueOf n cpu q'
+still_queue laws n cpu q q' k a p = record {
+  own = a.own ∙ k.own;
+  machine = a.machine ∙ k.machine;
+  awake = p.awake;
+  asleep = p.asleep;
+  gone = p.gone;
+  active = λ to e. k.active to (a.asked to e);
+}
 
 -- an active request goes to this CPU, or stays
 asked_stays : (n : ℕ) (o : Option ℕ) (to : ℕ) → to < n → ((u : ℕ) → o ≡ Some u → u < n) → (u : ℕ) → asked_for o to ≡ Some u → u < n
 asked_stays n None to lt old u e = let k : to ≡ u = cc in rw (← k) lt
 asked_stays n (Some v) to lt old u e = old u e
 
-pub queue_fits : (laws : QueueLaws) → (n cpu : ℕ) (s : Sight) (w : What) (lane : ℕ) → is_out w ≡ false → s.course.cpu < n → list_all (λ t. is_task_in n t) s.course.hand ≡ true → IsQueueOf n cpu s.queue → IsQueueOf n cpu (queue_by w s lane)
+pub queue_fits : (laws : QueueLaws) → (n cpu : ℕ) (s : Sight) (w : What) (lane : ℕ) → is_out w ≡ false
+    → s.course.cpu < n → list_all (λ t. is_task_in n t) s.course.hand ≡ true → IsQueueOf n cpu s.queue → IsQueueOf n cpu (queue_by w s lane)
 unfolding close_look ask_active kick
-queue_fits laws n cpu s (Did r) lane o lt h k = still_queue laws n cpu s.queue (answer_to s.course.command s.course.at s.queue).1 k (answer_alike laws s.course.command s.course.at s.queue) (answer_passes laws (below laws n) s.course.command s.course.at s.queue (takes_below laws n cpu s.queue s.course.command k) (masks_pass laws n cpu s.queue k))
+queue_fits laws n cpu s (Did r) lane o lt h k =
+    still_queue laws n cpu s.queue (answer_to s.course.command s.course.at s.queue).1 k
+    (answer_alike laws s.course.command s.course.at s.queue)
+    (answer_passes laws (below laws n) s.course.command s.course.at s.queue
+    (takes_below laws n cpu s.queue s.course.command k) (masks_pass laws n cpu s.queue k))
 queue_fits laws n cpu s (Out cause to tasks) lane o lt h k = absurd (let y : ⊥ = cc in y)
-queue_fits laws n cpu s (Landed tasks) lane o lt h k = still_queue laws n cpu s.queue (land s.queue s.course.at (cause_of s.course) s.course.moment s.course.hand) k (land_alike laws s.queue s.course.at (cause_of s.course) s.course.moment s.course.hand) (land_passes laws (below laws n) s.queue s.course.at (cause_of s.course) s.course.moment s.course.hand h (masks_pass laws n cpu s.queue k))
-queue_fits laws n cpu s (Ask r) lane o lt h k = record { own = k.own; machine = k.machine; awake = k.awake; asleep = k.asleep; gone = k.gone; active = asked_stays n s.queue.active s.course.cpu lt k.active }
-queue_fits laws n cpu s w lane o lt h k = record { own = k.own; machine = k.machine; awake = k.awake; asleep = k.asleep; gone = k.gone; active = k.active }
+queue_fits laws n cpu s (Landed tasks) lane o lt h k =
+    still_queue laws n cpu s.queue (land s.queue s.course.at (cause_of s.course) s.course.moment s.course.hand) k
+    (land_alike laws s.queue s.course.at (cause_of s.course) s.course.moment s.course.hand)
+    (land_passes laws (below laws n) s.queue s.course.at (cause_of s.course) s.course.moment s.course.hand h
+    (masks_pass laws n cpu s.queue k))
+queue_fits laws n cpu s (Ask r) lane o lt h k =
+    record {
+      own = k.own;
+      machine = k.machine;
+      awake = k.awake;
+      asleep = k.asleep;
+      gone = k.gone;
+      active = asked_stays n s.queue.active s.course.cpu lt k.active;
+    }
+queue_fits laws n cpu s w lane o lt h k =
+    record { own = k.own; machine = k.machine; awake = k.awake; asleep = k.asleep; gone = k.gone; active = k.active }
 
 -- ---- tasks that leave
 -- where they go
@@ -103,7 +147,8 @@ pub record GoesTo (n cpu : ℕ) (l : Leaving) : Type 0 where
   pub hand : list_all (λ t. is_task_in n t) l.hand ≡ true
   pub rest : IsQueueOf n cpu l.rest
 
-away_to : (n cpu : ℕ) (o : Option TaskRecord) (q : QueueState) (to : ℕ) → ((x : TaskRecord) → o ≡ Some x → is_task_in n x ≡ true) → away_of q o ≡ Some to → to < n
+away_to : (n cpu : ℕ) (o : Option TaskRecord) (q : QueueState) (to : ℕ)
+    → ((x : TaskRecord) → o ≡ Some x → is_task_in n x ≡ true) → away_of q o ≡ Some to → to < n
 away_to n cpu None q to h e = absurd (let y : ⊥ = cc in y)
 away_to n cpu (Some x) q to h e = by_test (has x.mask q.cpu) e
   where
@@ -115,7 +160,8 @@ least_or_none : (n : ℕ) (m : Mask) (o : Option ℕ) → 0 < n → is_mask_in n
 least_or_none n m None some h e = some
 least_or_none n m (Some c) some h e = least_below m n c h e
 
-next_goes : (n cpu : ℕ) (o : Option Awake) (owed : Bool) (q : QueueState) (s : Stop) → 0 < n → IsQueueOf n cpu q → next_asked owed q.awake ≡ o → stop_of o ≡ Some s → s.to < n
+next_goes : (n cpu : ℕ) (o : Option Awake) (owed : Bool) (q : QueueState) (s : Stop) → 0 < n → IsQueueOf n cpu q
+    → next_asked owed q.awake ≡ o → stop_of o ≡ Some s → s.to < n
 unfolding next_asked
 next_goes n cpu None owed q s some k a e = absurd (let y : ⊥ = cc in y)
 next_goes n cpu (Some x) owed q s some k a e =
@@ -132,16 +178,23 @@ env_to n (Some (Pull s k i)) h c env lt e = let w : c.cpu ≡ env.to = ap to_of 
     to_of (Some env) = env.to
 env_to n d h c env lt e = absurd (let y : ⊥ = cc in y)
 
-out_to : (n cpu : ℕ) (f : Form) (h : Header) (c : Course) (q : QueueState) (l : Leaving) → c.cpu < n → IsQueueOf n cpu q → out_by f h c q ≡ Some l → l.to < n
+out_to : (n cpu : ℕ) (f : Form) (h : Header) (c : Course) (q : QueueState) (l : Leaving) → c.cpu < n
+    → IsQueueOf n cpu q → out_by f h c q ≡ Some l → l.to < n
 unfolding away
 out_to n cpu f h c q l lt k e = of_out (λ (l : Leaving). l.to < n) f h c q l (record {
-  wake = λ id to i j a. away_to n cpu (task_with id q.asleep) q to (λ x f. all_find (λ (t : TaskRecord). is_task_in n t) (λ t. t.id == id) q.asleep x k.asleep f) a;
+  wake = λ id to i j a. away_to n cpu (task_with id q.asleep) q to
+      (λ x f. all_find (λ (t : TaskRecord). is_task_in n t) (λ t. t.id == id) q.asleep x k.asleep f) a;
   stop = λ s owed i m. next_goes n cpu (next_asked owed q.awake) owed q s (omega arith) k refl m;
   push = λ to i m a. k.active to a;
   pulls = λ env i m. env_to n c.decision h c env lt m;
 }) e
 
-pub out_goes : (laws : QueueLaws) → (n cpu : ℕ) (f : Form) (h : Header) (c : Course) (q : QueueState) (l : Leaving) → c.cpu < n → IsQueueOf n cpu q → out_by f h c q ≡ Some l → GoesTo n cpu l
+pub out_goes : (laws : QueueLaws) → (n cpu : ℕ) (f : Form) (h : Header) (c : Course) (q : QueueState) (l : Leaving)
+    → c.cpu < n → IsQueueOf n cpu q → out_by f h c q ≡ Some l → GoesTo n cpu l
 out_goes laws n cpu f h c q l lt k e =
     let p = out_passes laws (below laws n) f h c q l e (masks_pass laws n cpu q k) in
-    record { to = out_to n cpu f h c q l lt k e; hand = p.hand; rest = still_queue laws n cpu q l.rest k (out_alike laws f h c q l e) p.rest }
+    record {
+      to = out_to n cpu f h c q l lt k e;
+      hand = p.hand;
+      rest = still_queue laws n cpu q l.rest k (out_alike laws f h c q l e) p.rest;
+    }

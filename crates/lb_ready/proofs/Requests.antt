@@ -51,7 +51,8 @@ pub any_all : {X : Type 0} (p : X → Bool) (xs : List X) → list_any p xs ≡ 
 any_all p [] = refl
 any_all p (x ∷ xs) = by_test (p x) (any_all p xs)
   where
-    by_test : (t : Bool) → list_any p xs ≡ not (list_all (λ x. not (p x)) xs) → (t || list_any p xs) ≡ not (not t && list_all (λ x. not (p x)) xs)
+    by_test : (t : Bool) → list_any p xs ≡ not (list_all (λ x. not (p x)) xs)
+        → (t || list_any p xs) ≡ not (not t && list_all (λ x. not (p x)) xs)
     by_test true e = refl
     by_test false e = e
 
@@ -60,13 +61,19 @@ all_free [] = refl
 all_free (x ∷ xs) = all_free xs
 
 free_passes : (u : ℕ) (q : QueueState) → is_asked q.awake u ≡ false → Passes (free_of u) q
-free_passes u q h = record { awake = not-false _ (sym (any_all (λ a. a.task.id == u && is_pending a.stop) q.awake) ∙ h); asleep = all_free q.asleep; gone = all_free q.gone }
+free_passes u q h = record {
+  awake = not-false _
+      (sym (any_all (λ a. a.task.id == u && is_pending a.stop) q.awake) ∙ h);
+  asleep = all_free q.asleep;
+  gone = all_free q.gone;
+}
 
 passes_free : (u : ℕ) (q : QueueState) → Passes (free_of u) q → is_asked q.awake u ≡ false
 passes_free u q k = any_all (λ a. a.task.id == u && is_pending a.stop) q.awake ∙ ap not k.awake
 
 -- what a step that asks nobody leaves
-by_absence : (u : ℕ) (q q' : QueueState) → (Passes (free_of u) q → Passes (free_of u) q') → is_asked q'.awake u ≡ true → is_asked q.awake u ≡ true
+by_absence : (u : ℕ) (q q' : QueueState) → (Passes (free_of u) q → Passes (free_of u) q') → is_asked q'.awake u ≡ true
+    → is_asked q.awake u ≡ true
 by_absence u q q' step h = not_brought (is_asked q.awake u) _ (λ e. passes_free u q' (step (free_passes u q e))) h
 
 -- ---- the steps
@@ -76,7 +83,11 @@ named_by (Some (SetMask id mask)) = id
 named_by command = 0
 
 takes_free : (u : ℕ) (q : QueueState) (command : Option Command) → u ≢ named_by command → Takes (free_of u) q command
-takes_free u q (Some (SetMask id mask)) n = λ good. record { awake = λ s t i h. let e : (t.id == u) ≡ false = ne_eqb t.id u (λ e. n (sym e ∙ i)) in rw e refl; asleep = λ t i h. refl }
+takes_free u q (Some (SetMask id mask)) n =
+    λ good. record {
+      awake = λ s t i h. let e : (t.id == u) ≡ false = ne_eqb t.id u (λ e. n (sym e ∙ i)) in rw e refl;
+      asleep = λ t i h. refl;
+    }
 takes_free u q (Some (Tick cpu)) n = λ s t p h. by_id (t.id == u) (is_pending s) p h
   where
     by_id : (a b : Bool) → b ≡ true → not (a && b) ≡ true → not (a && true) ≡ true
@@ -84,16 +95,23 @@ takes_free u q (Some (Tick cpu)) n = λ s t p h. by_id (t.id == u) (is_pending s
     by_id false b e h = refl
 takes_free u q command n = tt
 
-pub answer_asks : (laws : QueueLaws) (tasks : ℕ) (command : Option Command) (at : ℕ) (q : QueueState) → asked_count tasks (answer_to command at q).1 ≤ asked_count tasks q + 1
-answer_asks laws tasks command at q = count_more _ (is_asked q.awake) tasks (named_by command) (λ u n h. by_absence u q (answer_to command at q).1 (answer_passes laws (free_of u) command at q (takes_free u q command n)) h)
+pub answer_asks : (laws : QueueLaws) (tasks : ℕ) (command : Option Command) (at : ℕ) (q : QueueState)
+    → asked_count tasks (answer_to command at q).1 ≤ asked_count tasks q + 1
+answer_asks laws tasks command at q = count_more _ (is_asked q.awake) tasks (named_by command)
+    (λ u n h. by_absence u q (answer_to command at q).1 (answer_passes laws (free_of u) command at q (takes_free u q command n)) h)
 
-pub land_asks : (laws : QueueLaws) (tasks at : ℕ) (cause : OutCause) (moment : ℕ) (hand : List TaskRecord) (q : QueueState) → asked_count tasks (land q at cause moment hand) ≤ asked_count tasks q
-land_asks laws tasks at cause moment hand q = count_within _ (is_asked q.awake) tasks (λ u lt h. by_absence u q (land q at cause moment hand) (land_passes laws (free_of u) q at cause moment hand (all_free hand)) h)
+pub land_asks : (laws : QueueLaws) (tasks at : ℕ) (cause : OutCause) (moment : ℕ) (hand : List TaskRecord)
+    (q : QueueState) → asked_count tasks (land q at cause moment hand) ≤ asked_count tasks q
+land_asks laws tasks at cause moment hand q =
+    count_within _ (is_asked q.awake) tasks (λ u lt h. by_absence u q (land q at cause moment hand)
+    (land_passes laws (free_of u) q at cause moment hand (all_free hand)) h)
 
-pub out_asks_nobody : (laws : QueueLaws) (u : ℕ) (f : Form) (h : Header) (c : Course) (q : QueueState) (l : Leaving) → out_by f h c q ≡ Some l → is_asked l.rest.awake u ≡ true → is_asked q.awake u ≡ true
+pub out_asks_nobody : (laws : QueueLaws) (u : ℕ) (f : Form) (h : Header) (c : Course) (q : QueueState) (l : Leaving)
+    → out_by f h c q ≡ Some l → is_asked l.rest.awake u ≡ true → is_asked q.awake u ≡ true
 out_asks_nobody laws u f h c q l e a = by_absence u q l.rest (λ k. (out_passes laws (free_of u) f h c q l e k).rest) a
 
-pub out_asks : (laws : QueueLaws) (tasks : ℕ) (f : Form) (h : Header) (c : Course) (q : QueueState) (l : Leaving) → out_by f h c q ≡ Some l → asked_count tasks l.rest ≤ asked_count tasks q
+pub out_asks : (laws : QueueLaws) (tasks : ℕ) (f : Form) (h : Header) (c : Course) (q : QueueState) (l : Leaving)
+    → out_by f h c q ≡ Some l → asked_count tasks l.rest ≤ asked_count tasks q
 out_asks laws tasks f h c q l e = count_within _ (is_asked q.awake) tasks (λ u lt a. out_asks_nobody laws u f h c q l e a)
 
 -- ---- a stop serves a request
@@ -122,7 +140,8 @@ asked_of true a h = owed_pending a.stop h
 asked_of false a h = h
 
 -- the task leaves in the hand
-leaves_in_hand : (o : Option Awake) (id at : ℕ) (q : QueueState) → ((a : Awake) → o ≡ Some a → a.task.id ≡ id) → is_some o ≡ true → 1 ≤ occurs id (ids (leaves_awake q at o).0)
+leaves_in_hand : (o : Option Awake) (id at : ℕ) (q : QueueState) → ((a : Awake) → o ≡ Some a → a.task.id ≡ id)
+    → is_some o ≡ true → 1 ≤ occurs id (ids (leaves_awake q at o).0)
 leaves_in_hand None id at q named h = absurd (let y : ⊥ = cc in y)
 leaves_in_hand (Some a) id at q named h = by_run a.running refl
   where
@@ -134,7 +153,8 @@ leaves_in_hand (Some a) id at q named h = by_run a.running refl
     by_run false e = rw (e, same) (omega arith)
 
 -- and so it is no longer awake
-stopped_free : (laws : QueueLaws) (q : QueueState) (id to at : ℕ) → AreDistinct q → is_some (awake_with id q.awake) ≡ true → is_asked (take_stop q at id).1.awake id ≡ false
+stopped_free : (laws : QueueLaws) (q : QueueState) (id to at : ℕ) → AreDistinct q
+    → is_some (awake_with id q.awake) ≡ true → is_asked (take_stop q at id).1.awake id ≡ false
 unfolding take_stop
 stopped_free laws q id to at distinct some = by_test (is_asked (leaves_awake q at (awake_with id q.awake)).1.awake id) refl
   where
@@ -142,7 +162,8 @@ stopped_free laws q id to at distinct some = by_test (is_asked (leaves_awake q a
     by_test true e =
         let there = asked_there (leaves_awake q at (awake_with id q.awake)).1.awake id e in
         let moved = laws.moves q distinct (TakeStopCall at id to) OnAwake id in
-        let hand = leaves_in_hand (awake_with id q.awake) id at q (λ a i. eqb-true a.task.id id (found (λ (x : Awake). x.task.id == id) (λ (x : Awake). x.task.id) q.awake a i).passes) some in
+        let hand = leaves_in_hand (awake_with id q.awake) id at q
+        (λ a i. eqb-true a.task.id id (found (λ (x : Awake). x.task.id == id) (λ (x : Awake). x.task.id) q.awake a i).passes) some in
         let one = distinct.awake id in
         absurd (omega arith)
     by_test false e = refl
@@ -152,7 +173,8 @@ pub record IsServed (q : QueueState) (s : Stop) (at : ℕ) : Type 0 where
   pub before : is_asked q.awake s.id ≡ true
   pub after : is_asked (take_stop q at s.id).1.awake s.id ≡ false
 
-served : (laws : QueueLaws) (o : Option Awake) (owed : Bool) (q : QueueState) (s : Stop) (at : ℕ) → AreDistinct q → next_asked owed q.awake ≡ o → stop_of o ≡ Some s → IsServed q s at
+served : (laws : QueueLaws) (o : Option Awake) (owed : Bool) (q : QueueState) (s : Stop) (at : ℕ) → AreDistinct q
+    → next_asked owed q.awake ≡ o → stop_of o ≡ Some s → IsServed q s at
 unfolding next_asked
 served laws None owed q s at distinct e h = absurd (let y : ⊥ = cc in y)
 served laws (Some a) owed q s at distinct e h =
@@ -160,11 +182,13 @@ served laws (Some a) owed q s at distinct e h =
     let f = and_parts (asks owed a) _ (found (is_next_asked owed q.awake) (λ a. a.task.id) q.awake a e).passes in
     let named : (a.task.id == s.id) ≡ true = eq-eqb a.task.id s.id n in
     record {
-      before = sym (found_any (λ a. a.task.id == s.id && is_pending a.stop) q.awake) ∙ any_found (is_next_asked owed q.awake) _ q.awake a e (and_from _ _ named (asked_of owed a f.0));
+      before = sym (found_any (λ a. a.task.id == s.id && is_pending a.stop) q.awake)
+          ∙ any_found (is_next_asked owed q.awake) _ q.awake a e (and_from _ _ named (asked_of owed a f.0));
       after = stopped_free laws q s.id s.to at distinct (any_found (is_next_asked owed q.awake) (λ x. x.task.id == s.id) q.awake a e named);
     }
 
-pub next_served : (laws : QueueLaws) (owed : Bool) (q : QueueState) (s : Stop) (at : ℕ) → AreDistinct q → next_stop q owed ≡ Some s → IsServed q s at
+pub next_served : (laws : QueueLaws) (owed : Bool) (q : QueueState) (s : Stop) (at : ℕ) → AreDistinct q
+    → next_stop q owed ≡ Some s → IsServed q s at
 next_served laws owed q s at distinct h = served laws (next_asked owed q.awake) owed q s at distinct refl h
 
 -- ---- where tasks stand

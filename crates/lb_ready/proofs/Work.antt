@@ -70,21 +70,29 @@ above_itself m p = rw (le-ltb p p (omega arith)) refl
 above_more : (m : Mask) (a p k : ℕ) → a < p → (ltb p k && has m k) ≡ true → (ltb a k && has m k) ≡ true
 above_more m a p k lt h = let x = and_parts (ltb p k) (has m k) h in let y = ltb-true p k x.0 in and_from _ _ (lt-ltb a k (omega arith)) x.1
 
-above_less : (m : Mask) (a p : ℕ) → (has m p ≡ true) × (a < p) × (p < 64) → count_where (λ k. ltb p k && has m k) 64 < count_where (λ k. ltb a k && has m k) 64
-above_less m a p f = count_less (λ k. ltb p k && has m k) (λ k. ltb a k && has m k) 64 p f.2 (above_itself m p) (and_from _ _ (lt-ltb a p f.1) f.0) (λ k h. above_more m a p k f.1 h)
+above_less : (m : Mask) (a p : ℕ) → (has m p ≡ true) × (a < p) × (p < 64)
+    → count_where (λ k. ltb p k && has m k) 64 < count_where (λ k. ltb a k && has m k) 64
+above_less m a p f = count_less (λ k. ltb p k && has m k) (λ k. ltb a k && has m k) 64 p f.2 (above_itself m p)
+    (and_from _ _ (lt-ltb a p f.1) f.0) (λ k h. above_more m a p k f.1 h)
 
-goes_work : (o : Option ℕ) (c : Course) (b : ℕ) → ((p : ℕ) → o ≡ Some p → 195 + 195 * count_where (λ k. ltb p k && has c.positions k) 64 ≤ b) → work_of (goes_to o c) ≤ b + work_at_end c
+goes_work : (o : Option ℕ) (c : Course) (b : ℕ)
+    → ((p : ℕ) → o ≡ Some p → 195 + 195 * count_where (λ k. ltb p k && has c.positions k) 64 ≤ b)
+    → work_of (goes_to o c) ≤ b + work_at_end c
 goes_work None c b h = omega arith
 goes_work (Some p) c b h = let x = h p refl in let y = count_most (λ k. not (has no_cpus k)) 64 in omega arith
 
 pub goes_on_work : (c : Course) → work_of (goes_on c) ≤ work_above c
-goes_on_work c = goes_work (least_above c.positions c.position) c (195 * positions_above c) (λ p e. let k = above_less c.positions c.position p (least_above_found c.positions c.position p e) in omega arith)
+goes_on_work c = goes_work (least_above c.positions c.position) c (195 * positions_above c)
+    (λ p e. let k = above_less c.positions c.position p (least_above_found c.positions c.position p e) in omega arith)
 
 pub goes_first_work : (ps : Mask) (c : Course) → c.positions ≡ ps → work_of (goes_to (least ps) c) ≤ 12480 + work_at_end c
-goes_first_work ps c s = goes_work (least ps) c 12480 (λ p e. let f = least_found ps p e in let k = count_missing (λ k. ltb p k && has c.positions k) 64 p f.1 (above_itself c.positions p) in omega arith)
+goes_first_work ps c s = goes_work (least ps) c 12480
+    (λ p e. let f = least_found ps p e in let k = count_missing (λ k. ltb p k && has c.positions k) 64 p f.1
+    (above_itself c.positions p) in omega arith)
 
 -- ---- turns
-kicks_work : (o : Option ℕ) (c : Course) (b : ℕ) → ((t : ℕ) → o ≡ Some t → 12483 * (1 + kicks_above t c.figures) ≤ b) → work_of (kicks_next o c) ≤ b
+kicks_work : (o : Option ℕ) (c : Course) (b : ℕ) → ((t : ℕ) → o ≡ Some t → 12483 * (1 + kicks_above t c.figures) ≤ b)
+    → work_of (kicks_next o c) ≤ b
 kicks_work None c b h = omega arith
 kicks_work (Some t) c b h = let x = h t refl in omega arith
 
@@ -96,7 +104,8 @@ ends_work : (k : Kind) (h : Header) (c : Course) → work_of (turn_ends_by k h c
 ends_work TickTurn h c = cond_work (ltb 1 c.awake && ltb 0 (length (turn_domains h c))) _ _ _ (omega arith) (omega arith)
 ends_work Idle h c = omega arith
 ends_work Nohz h c =
-    let w = kicks_work (least_above (tickless_in c.figures) c.cpu) c (12483 * kicks_above c.cpu c.figures) (λ t e. let k = above_less (tickless_in c.figures) c.cpu t (least_above_found (tickless_in c.figures) c.cpu t e) in omega arith) in
+    let w = kicks_work (least_above (tickless_in c.figures) c.cpu) c (12483 * kicks_above c.cpu c.figures)
+    (λ t e. let k = above_less (tickless_in c.figures) c.cpu t (least_above_found (tickless_in c.figures) c.cpu t e) in omega arith) in
     omega arith
 
 pub turn_ends_work : (h : Header) (c : Course) → work_of (turn_ends h c) < work_at_end c
@@ -105,9 +114,12 @@ turn_ends_work h c = ends_work (turn_kind c) h c
 
 pub kicked_work : (r : AskReply) (c : Course) → work_of (kicked r c) < 1 + 12483 * count_where (has (tickless_in c.figures)) 64
 kicked_work New c =
-    let w : work_of (kicks_next (target_of c) c) ≤ 12483 * count_where (has (tickless_in c.figures)) 64 = kicks_work (target_of c) c (12483 * count_where (has (tickless_in c.figures)) 64) (λ t e.
+    let w : work_of (kicks_next (target_of c) c) ≤ 12483 * count_where (has (tickless_in c.figures)) 64 =
+    kicks_work (target_of c) c (12483 * count_where (has (tickless_in c.figures)) 64) (λ t e.
     let f = least_found (tickless_in c.figures) t e in
-    let k : kicks_above t c.figures < count_where (has (tickless_in c.figures)) 64 = count_less (λ k. ltb t k && has (tickless_in c.figures) k) (has (tickless_in c.figures)) 64 t f.1 (above_itself (tickless_in c.figures) t) f.0 (λ k h. (and_parts (ltb t k) _ h).1) in
+    let k : kicks_above t c.figures < count_where (has (tickless_in c.figures)) 64 =
+    count_less (λ k. ltb t k && has (tickless_in c.figures) k) (has (tickless_in c.figures)) 64 t f.1
+    (above_itself (tickless_in c.figures) t) f.0 (λ k h. (and_parts (ltb t k) _ h).1) in
     omega arith) in
     omega arith
 kicked_work Old c = omega arith
@@ -128,7 +140,8 @@ sleep_work : (b : Bool) (cpu : ℕ) (c : Course) → work_of (after_sleep b cpu 
 sleep_work true cpu c = omega arith
 sleep_work false cpu c = omega arith
 
-pub answered_work : (command : Option Command) (cpu : ℕ) (before now : QueueState) (c : Course) → work_of (answered command cpu before now c) ≤ 811400
+pub answered_work : (command : Option Command) (cpu : ℕ) (before now : QueueState) (c : Course)
+    → work_of (answered command cpu before now c) ≤ 811400
 answered_work (Some (Sleep t)) cpu before now c = sleep_work (left_idle t before now) cpu c
 answered_work (Some (Exit t)) cpu before now c = sleep_work (left_idle t before now) cpu c
 answered_work (Some (Tick u)) cpu before now c = serving_most c
@@ -138,16 +151,20 @@ answered_work command cpu before now c = omega arith
 pub closes_work : (w : OutcomeWord) (c : Course) → work_of (closes w c) ≤ 1 + work_above c
 closes_work AskingWord c = omega arith
 closes_work NotMineWord c = omega arith
-closes_work MovedWord c = let k = goes_on_work c in let w = cond_work (is_newly (turn_kind c)) (goes_to None c) (goes_on c) (2 + work_above c) (omega arith) (omega arith) in omega arith
+closes_work MovedWord c = let k = goes_on_work c in let w =
+    cond_work (is_newly (turn_kind c)) (goes_to None c) (goes_on c) (2 + work_above c) (omega arith) (omega arith) in omega arith
 closes_work w c = let k = goes_on_work c in omega arith
 
 -- ---- tasks in the hand
-excluded_rest : (c : Course) → sources_left (either c.excluded (only (source_of c.decision))) ≤ sources_but (source_of c.decision) c.excluded
+excluded_rest : (c : Course) → sources_left (either c.excluded (only (source_of c.decision))) ≤ sources_but
+    (source_of c.decision) c.excluded
 excluded_rest c = count_within _ (λ k. not (k == source_of c.decision) && not (has c.excluded k)) 64 (λ k lt h. rest k h)
   where
-    rest : (k : ℕ) → not (has (either c.excluded (only (source_of c.decision))) k) ≡ true → (not (k == source_of c.decision) && not (has c.excluded k)) ≡ true
+    rest : (k : ℕ) → not (has (either c.excluded (only (source_of c.decision))) k) ≡ true
+        → (not (k == source_of c.decision) && not (has c.excluded k)) ≡ true
     rest k h =
-        let f = or_parts (has c.excluded k) (has (only (source_of c.decision)) k) (sym (either_has c.excluded (only (source_of c.decision)) k) ∙ not-true _ h) in
+        let f = or_parts (has c.excluded k) (has (only (source_of c.decision)) k)
+        (sym (either_has c.excluded (only (source_of c.decision)) k) ∙ not-true _ h) in
         let g : (k == source_of c.decision) ≡ false = sym (only_has (source_of c.decision) k) ∙ f.1 in
         rw (f.0, g) refl
 
@@ -155,7 +172,8 @@ landed_work : (b : Bool) (c : Course) → is_all_pinned c.taken ≡ b → work_o
 landed_work true c e = let k = excluded_rest c in rw e (omega arith)
 landed_work false c e = rw e (omega arith)
 
-back_work : (b : Bool) (c d e : Course) → work_of d ≡ work_serving c → work_of e ≡ 0 → work_of (cond b d e) < 1 + cond {A = ℕ} b (work_serving c) 0
+back_work : (b : Bool) (c d e : Course) → work_of d ≡ work_serving c → work_of e ≡ 0
+    → work_of (cond b d e) < 1 + cond {A = ℕ} b (work_serving c) 0
 back_work true c d e h k = omega arith
 back_work false c d e h k = omega arith
 
@@ -188,9 +206,12 @@ Decided c (Look p x names d) = FromFree c d
 Decided c w = Unit {0}
 
 fewer_sources : (m : Mask) (s : ℕ) → (has m s ≡ false) × (s < 64) → sources_but s m < sources_left m
-fewer_sources m s f = count_less _ (λ k. not (has m k)) 64 s f.1 (rw (eq-eqb s s refl) refl) (rw f.0 refl) (λ k h. (and_parts (not (k == s)) _ h).1)
+fewer_sources m s f = count_less _ (λ k. not (has m k)) 64 s f.1 (rw (eq-eqb s s refl) refl) (rw f.0 refl)
+    (λ k h. (and_parts (not (k == s)) _ h).1)
 
-look_work : (c : Course) (d : Decision) (more : ℕ) → FromFree c d → cond {A = ℕ} (is_pull (Some d)) (3 * sources_but (source_of (Some d)) c.excluded + 5) 2 + more < 3 * sources_left c.excluded + 3 + more
+look_work : (c : Course) (d : Decision) (more : ℕ) → FromFree c d
+    → cond {A = ℕ} (is_pull (Some d)) (3 * sources_but (source_of (Some d)) c.excluded + 5) 2 + more < 3 *
+    sources_left c.excluded + 3 + more
 look_work c NotMine more f = omega arith
 look_work c Balanced more f = omega arith
 look_work c (Pull s k i) more f = let n = fewer_sources c.excluded s f in omega arith
@@ -206,7 +227,8 @@ same_work : (o : Owner) (n : ℕ) (c : Course) → work_of (drew o n c) ≡ work
 same_work o n c = drew_by (λ d. work_of d ≡ work_of c) o n c refl (λ u. refl)
 
 abbrev Fall : Form → Type 0
-Fall f = (s : Sight) (lane cpu : ℕ) (now : QueueState) (w : What) → draws f s.header s.course s.queue lane w ≡ true → is_out w ≡ false → Decided s.course w →
+Fall f = (s : Sight) (lane cpu : ℕ) (now : QueueState) (w : What) → draws f s.header s.course s.queue lane w ≡ true
+    → is_out w ≡ false → Decided s.course w →
     work_of (course_by w s cpu now) + 2 * may_ask w < work_in f (unnamed s.course) + row_gain w + end_gain w
 
 falls : (f : Form) → Fall f
@@ -224,18 +246,25 @@ falls Due s lane cpu now (Adopt v k u) d o f =
     let e : k ≡ turn_kind s.course = kind_is k (turn_kind s.course) p.0 in
     let g : u ≡ s.course.cpu = eqb-true u s.course.cpu p.1 in
     rw (e, g) (omega arith)
-falls Used s lane cpu now (Turn ps) d o f = let k = goes_first_work ps (record s.course { positions = ps; counters = counters_found s.queue s.course.at s.course.version (shapes_of (turn_domains s.header s.course)) }) refl in omega arith
+falls Used s lane cpu now (Turn ps) d o f = let k =
+    goes_first_work ps (record s.course {
+      positions = ps;
+      counters = counters_found s.queue s.course.at s.course.version (shapes_of (turn_domains s.header s.course));
+    }) refl in omega arith
 falls Used s lane cpu now Shut d o f = let k = turn_ends_work s.header s.course in omega arith
 falls Position s lane cpu now (Look p x names d) w o f = let k = look_work s.course d (work_above s.course) f in omega arith
-falls Looked s lane cpu now (Close p w i n) d o f = let e = settled s.course.decision d in let k = closes_work w s.course in rw e (omega arith)
+falls Looked s lane cpu now (Close p w i n) d o f = let e = settled s.course.decision d in let k =
+    closes_work w s.course in rw e (omega arith)
 falls LandedForm s lane cpu now (Look p x names d) w o f =
     let e = (and_parts (is_all_pinned s.course.taken) _ w).0 in
     let k = look_work s.course d (work_above s.course) f in
     rw e (omega arith)
-falls LandedForm s lane cpu now (Close p w i n) d o f = let k = closes_work w s.course in let l = landed_most (is_all_pinned s.course.taken) (sources_left s.course.excluded) (work_above s.course) in omega arith
+falls LandedForm s lane cpu now (Close p w i n) d o f = let k = closes_work w s.course in let l =
+    landed_most (is_all_pinned s.course.taken) (sources_left s.course.excluded) (work_above s.course) in omega arith
 falls Closed s lane cpu now (Ask r) d o f = let k = goes_on_work s.course in omega arith
 falls Done s lane cpu now Over d o f = let k = turn_ends_work s.header s.course in omega arith
-falls ScanDue s lane cpu now (Scan names t) d o f = let k = scanned_work t (record s.course { figures = s.figs; named = raised_numbers names s.course.named }) in omega arith
+falls ScanDue s lane cpu now (Scan names t) d o f = let k =
+    scanned_work t (record s.course { figures = s.figs; named = raised_numbers names s.course.named }) in omega arith
 falls Kicking s lane cpu now (Kick r) d o f = let k = kicked_work r s.course in omega arith
 falls f s lane cpu now (Out cause to tasks) d o n = absurd (let y : ⊥ = cc in y)
 falls f s lane cpu now w d o n = absurd (let y : ⊥ = cc in y)
@@ -256,7 +285,8 @@ pushes_less true b = omega arith
 pushes_less false true = omega arith
 pushes_less false false = omega arith
 
-tick_less : (t : Bool) (p b : Bool) → cond {A = ℕ} t (cond {A = ℕ} (p || b) 0 2 + 12483 + 798915) 0 ≤ cond {A = ℕ} t (cond {A = ℕ} p 0 2 + 12483 + 798915) 0
+tick_less : (t : Bool) (p b : Bool) → cond {A = ℕ} t (cond {A = ℕ} (p || b) 0 2 + 12483 + 798915) 0 ≤ cond {A = ℕ} t
+    (cond {A = ℕ} p 0 2 + 12483 + 798915) 0
 tick_less true p b = let k = pushes_less p b in omega arith
 tick_less false p b = omega arith
 
@@ -273,11 +303,13 @@ abbrev Fewer : QueueState → QueueState → Type 0
 Fewer q q' = (u : ℕ) → is_asked q'.awake u ≡ true → is_asked q.awake u ≡ true
 
 -- in the two forms that stops are drawn in
-stop_pays : (f : Form) (c : Course) → (f ≡ Rest) ⊎ (f ≡ Serving) → cond {A = ℕ} (is_tick c.command) (cond {A = ℕ} (c.pushed || false) 0 2 + 12483 + 798915) 0 ≤ work_in f (unnamed c)
+stop_pays : (f : Form) (c : Course) → (f ≡ Rest) ⊎ (f ≡ Serving)
+    → cond {A = ℕ} (is_tick c.command) (cond {A = ℕ} (c.pushed || false) 0 2 + 12483 + 798915) 0 ≤ work_in f (unnamed c)
 stop_pays f c (inl e) = rw e (tick_less (is_tick c.command) c.pushed false)
 stop_pays f c (inr e) = rw e (tick_under (is_tick c.command) c.pushed false)
 
-push_work : (t p : Bool) → p ≡ false → 1 + cond {A = ℕ} t (cond {A = ℕ} (p || true) 0 2 + 12483 + 798915) 0 < cond {A = ℕ} p 0 2 + 12483 + 798915 + 2 * 0
+push_work : (t p : Bool) → p ≡ false → 1 + cond {A = ℕ} t
+    (cond {A = ℕ} (p || true) 0 2 + 12483 + 798915) 0 < cond {A = ℕ} p 0 2 + 12483 + 798915 + 2 * 0
 push_work true p e = rw e (omega arith)
 push_work false p e = rw e (omega arith)
 
@@ -286,13 +318,17 @@ not_owed : (laws : QueueLaws) (q : QueueState) → next_stop q true ≡ None →
 not_owed laws q e = sym (laws.asked q true) ∙ ap is_some e
 
 -- what the form of the course says of a push and of a pull
-pub out_says : (f : Form) (h : Header) (c : Course) (q : QueueState) (lane : ℕ) (cause : OutCause) (to : ℕ) (ids : List ℕ) → draws f h c q lane (Out cause to ids) ≡ true → (f ≡ Serving → (has_owed q || push_is_due c q) ≡ true) × (f ≡ Looked → is_pull c.decision ≡ true)
+pub out_says : (f : Form) (h : Header) (c : Course) (q : QueueState) (lane : ℕ) (cause : OutCause) (to : ℕ)
+    (ids : List ℕ) → draws f h c q lane (Out cause to ids) ≡ true
+    → (f ≡ Serving → (has_owed q || push_is_due c q) ≡ true) × (f ≡ Looked → is_pull c.decision ≡ true)
 unfolding draws
 out_says Serving h c q lane cause to ids d = (λ e. (and_parts (is_tick c.command) _ d).1, λ e. absurd (let y : ⊥ = cc in y))
 out_says Looked h c q lane cause to ids d = (λ e. absurd (let y : ⊥ = cc in y), λ e. d)
 out_says f h c q lane cause to ids d = (λ e. absurd (let y : ⊥ = cc in y), λ e. absurd (let y : ⊥ = cc in y))
 
-out_falls : (laws : QueueLaws) (tasks : ℕ) (f : Form) (h : Header) (c : Course) (q : QueueState) (lane : ℕ) (l : Leaving) (cause : OutCause) (to : ℕ) (ids : List ℕ) → draws f h c q lane (Out cause to ids) ≡ true → out_by f h c q ≡ Some l → AreDistinct q → Few tasks q → OutFalls tasks f c q l
+out_falls : (laws : QueueLaws) (tasks : ℕ) (f : Form) (h : Header) (c : Course) (q : QueueState) (lane : ℕ)
+    (l : Leaving) (cause : OutCause) (to : ℕ) (ids : List ℕ) → draws f h c q lane (Out cause to ids) ≡ true
+    → out_by f h c q ≡ Some l → AreDistinct q → Few tasks q → OutFalls tasks f c q l
 out_falls laws tasks f h c q lane l cause to ids d e distinct few =
     let says = out_says f h c q lane cause to ids d in
     of_out (λ (l : Leaving). Fewer q l.rest → asked_count tasks l.rest ≤ asked_count tasks q → OutFalls tasks f c q l) f h c q l (record {
@@ -304,11 +340,15 @@ out_falls laws tasks f h c q lane l cause to ids d e distinct few =
       stop = λ s owed i n fewer less. record {
         served = 1;
         work = let k = stop_pays f c i in omega arith;
-        requests = let v = next_served laws owed q s c.at distinct n in let k = count_less (is_asked (take_stop q c.at s.id).1.awake) (is_asked q.awake) tasks s.id (few s.id v.before) v.after v.before fewer in omega arith;
+        requests = let v = next_served laws owed q s c.at distinct n in let k =
+            count_less (is_asked (take_stop q c.at s.id).1.awake) (is_asked q.awake) tasks s.id
+            (few s.id v.before) v.after v.before fewer in omega arith;
       };
       push = λ to i n a fewer less. record {
         served = 0;
-        work = rw i (push_work (is_tick c.command) c.pushed (let due : push_is_due c q ≡ true = rw (not_owed laws q n) at (says.0 i) in not-true _ ((and_parts (is_some q.active) _ due).1)));
+        work = rw i (push_work (is_tick c.command) c.pushed
+            (let due : push_is_due c q ≡ true = rw (not_owed laws q n) at (says.0 i) in
+            not-true _ ((and_parts (is_some q.active) _ due).1)));
         requests = omega arith;
       };
       pulls = λ env i n fewer less. record {
@@ -320,27 +360,35 @@ out_falls laws tasks f h c q lane l cause to ids d e distinct few =
 
 -- ---- the machine
 few_asked : (m : MachineState) (cpu : ℕ) → IsPlaced m → Few (length m.header.tasks) (queue_at m.queues cpu)
-few_asked m cpu placed u h = inside (is_its_place m (AwakeAt cpu) u) refl (placed.once (AwakeAt cpu) u) (asked_there (queue_at m.queues cpu).awake u h)
+few_asked m cpu placed u h = inside (is_its_place m (AwakeAt cpu) u) refl (placed.once (AwakeAt cpu) u)
+    (asked_there (queue_at m.queues cpu).awake u h)
   where
-    inside : (b : Bool) → is_its_place m (AwakeAt cpu) u ≡ b → occurs u (awake_ids (queue_at m.queues cpu).awake) ≡ cond {A = ℕ} (is_its_place m (AwakeAt cpu) u) 1 0 → 1 ≤ occurs u (awake_ids (queue_at m.queues cpu).awake) → u < length m.header.tasks
-    inside true e o t = let k = ltb-true u (length m.places) ((and_parts (ltb u (length m.places)) _ e).0) in let l = placed.mapped in omega arith
+    inside : (b : Bool) → is_its_place m (AwakeAt cpu) u ≡ b
+        → occurs u (awake_ids (queue_at m.queues cpu).awake) ≡ cond {A = ℕ} (is_its_place m (AwakeAt cpu) u) 1 0
+        → 1 ≤ occurs u (awake_ids (queue_at m.queues cpu).awake) → u < length m.header.tasks
+    inside true e o t = let k = ltb-true u (length m.places) ((and_parts (ltb u (length m.places)) _ e).0) in let l =
+        placed.mapped in omega arith
     inside false e o t = let z : occurs u (awake_ids (queue_at m.queues cpu).awake) ≡ 0 = o ∙ rw e refl in absurd (omega arith)
 
-free_source : (c : Course) (shape : Shape) (groups : List Mask) (figs : List Fig) (cpu : ℕ) (kind : Kind) (d : Decision) → d ≡ decision shape groups figs cpu kind c.excluded → FromFree c d
+free_source : (c : Course) (shape : Shape) (groups : List Mask) (figs : List Fig) (cpu : ℕ) (kind : Kind)
+    (d : Decision) → d ≡ decision shape groups figs cpu kind c.excluded → FromFree c d
 free_source c shape groups figs cpu kind NotMine e = tt
 free_source c shape groups figs cpu kind Balanced e = tt
-free_source c shape groups figs cpu kind (Pull s k i) e = let f = source_found shape groups figs cpu kind c.excluded s k i e in (f.free, f.numbered)
+free_source c shape groups figs cpu kind (Pull s k i) e = let f =
+    source_found shape groups figs cpu kind c.excluded s k i e in (f.free, f.numbered)
 
 decided : (m : MachineState) (e : Entry) (w : What) → breaks_decision (sight m e) w ≡ false → Decided (course_at m.courses e.lane) w
 unfolding sight
 decided m e (Look p x names d) h = free_source (course_at m.courses e.lane) _ _ _ _ _ d (decision_is d _ (not-false _ ((or_parts _ _ h).1)))
 decided m e w h = tt
 
-requests_kept : (laws : QueueLaws) (tasks : ℕ) (w : What) (s : Sight) (lane : ℕ) → is_out w ≡ false → asked_count tasks (queue_by w s lane) ≤ asked_count tasks s.queue + may_ask w
+requests_kept : (laws : QueueLaws) (tasks : ℕ) (w : What) (s : Sight) (lane : ℕ) → is_out w ≡ false
+    → asked_count tasks (queue_by w s lane) ≤ asked_count tasks s.queue + may_ask w
 unfolding close_look ask_active kick
 requests_kept laws tasks (Did r) s lane o = answer_asks laws tasks s.course.command s.course.at s.queue
 requests_kept laws tasks (Out c to ids) s lane o = absurd (let y : ⊥ = cc in y)
-requests_kept laws tasks (Landed ids) s lane o = let k = land_asks laws tasks s.course.at (cause_of s.course) s.course.moment s.course.hand s.queue in omega arith
+requests_kept laws tasks (Landed ids) s lane o = let k =
+    land_asks laws tasks s.course.at (cause_of s.course) s.course.moment s.course.hand s.queue in omega arith
 requests_kept laws tasks w s lane o = omega arith
 
 -- what all queues are asked
@@ -357,7 +405,9 @@ end_left w = refl
 
 -- by what becomes of the lane's work and of the requests
 falls_by : (m : MachineState) (e : Entry) (rows asked served : ℕ) → MayBeAdded m e → requests (after m e) + served ≤ requests m + asked →
-    work_of (course_left m e) + 2 * asked < work_of (course_at m.courses e.lane) + 2 * served + row_gain e.what + end_gain e.what → entries_left rows (after m e) < entries_left (rows_before e.what rows) m
+    work_of (course_left m e) + 2 * asked < work_of
+    (course_at m.courses e.lane) + 2 * served + row_gain e.what + end_gain e.what
+    → entries_left rows (after m e) < entries_left (rows_before e.what rows) m
 unfolding after
 falls_by m e rows asked served h r w =
     let s = sum_by-set work_of m.courses e.lane (course_left m e) no_course (lane_there m e h) in
@@ -368,27 +418,34 @@ falls_by m e rows asked served h r w =
     omega arith
 
 requests_by : (m : MachineState) (o : Owner) (lane prev : ℕ) (w : What) (served asked : ℕ) → MayBeAdded m (entry o lane prev w) →
-    asked_count (length m.header.tasks) (queue_left m (entry o lane prev w)) + served ≤ asked_count (length m.header.tasks) (owned_queue o m) + asked → (is_no_queue o ≡ true → served ≡ 0) →
+    asked_count (length m.header.tasks) (queue_left m (entry o lane prev w)) + served ≤ asked_count
+    (length m.header.tasks) (owned_queue o m) + asked → (is_no_queue o ≡ true → served ≡ 0) →
     requests (after m (entry o lane prev w)) + served ≤ requests m + asked
 unfolding after
 requests_by m (Queue cpu) lane prev w served asked h le z =
-    let s = sum_by-set (asked_count (length m.header.tasks)) m.queues cpu (queue_left m (entry (Queue cpu) lane prev w)) no_queue (cpu_there m cpu lane prev w h) in
+    let s = sum_by-set (asked_count (length m.header.tasks)) m.queues cpu
+    (queue_left m (entry (Queue cpu) lane prev w)) no_queue (cpu_there m cpu lane prev w h) in
     omega arith
 requests_by m o lane prev w served asked h le z = let n = z refl in omega arith
 
-other_falls : (laws : QueueLaws) (m : MachineState) (o : Owner) (lane prev : ℕ) (w : What) (rows : ℕ) → is_out w ≡ false → MayBeAdded m (entry o lane prev w) → entries_left rows (after m (entry o lane prev w)) < entries_left (rows_before w rows) m
+other_falls : (laws : QueueLaws) (m : MachineState) (o : Owner) (lane prev : ℕ) (w : What) (rows : ℕ)
+    → is_out w ≡ false → MayBeAdded m (entry o lane prev w)
+    → entries_left rows (after m (entry o lane prev w)) < entries_left (rows_before w rows) m
 unfolding course_after queue_after sight
 other_falls laws m o lane prev w rows stays h =
     let e = entry o lane prev w in
     let s = sight m e in
-    let k : asked_count (length m.header.tasks) (queue_after s e) ≤ asked_count (length m.header.tasks) (owned_queue o m) + may_ask w = requests_kept laws (length m.header.tasks) w s lane stays in
+    let k : asked_count (length m.header.tasks) (queue_after s e) ≤ asked_count (length m.header.tasks)
+    (owned_queue o m) + may_ask w = requests_kept laws (length m.header.tasks) w s lane stays in
     let r = requests_by m o lane prev w 0 (may_ask w) h (omega (arith, k)) (λ z. refl) in
     let d = decided m e w (unbroken_here m e h DecisionRule) in
     let f = falls (course_at m.courses lane).form s lane (cpu_of o) (queue_after s e) w (form_lets m e h).1 stays d in
     let g = same_work o (s.count + 1) (course_by w s (cpu_of o) (queue_after s e)) in
     falls_by m e rows (may_ask w) 0 h r (omega arith)
 
-out_lowers : (laws : QueueLaws) (m : MachineState) (o : Owner) (lane prev : ℕ) (cause : OutCause) (to : ℕ) (ids : List ℕ) (rows : ℕ) → IsPlaced m → MayBeAdded m (entry o lane prev (Out cause to ids)) → entries_left rows (after m (entry o lane prev (Out cause to ids))) < entries_left rows m
+out_lowers : (laws : QueueLaws) (m : MachineState) (o : Owner) (lane prev : ℕ) (cause : OutCause) (to : ℕ)
+    (ids : List ℕ) (rows : ℕ) → IsPlaced m → MayBeAdded m (entry o lane prev (Out cause to ids))
+    → entries_left rows (after m (entry o lane prev (Out cause to ids))) < entries_left rows m
 unfolding course_after leaving queue_after sight
 out_lowers laws m (Queue cpu) lane prev cause to ids rows placed h =
     let e = entry (Queue cpu) lane prev (Out cause to ids) in
@@ -398,18 +455,24 @@ out_lowers laws m (Queue cpu) lane prev cause to ids rows placed h =
     let found = leaving_is (out_by c.form m.header c q) cause to ids (unbroken_here m e h Pick) in
     let l : Leaving = found.0 in
     let is : out_by c.form m.header c q ≡ Some l = found.1 in
-    let f = out_falls laws (length m.header.tasks) c.form m.header c q lane l cause to ids lets.1 is (distinct m cpu placed) (few_asked m cpu placed) in
+    let f = out_falls laws (length m.header.tasks) c.form m.header c q lane l cause to ids lets.1 is
+    (distinct m cpu placed) (few_asked m cpu placed) in
     let left : queue_left m e ≡ l.rest = ap (λ (x : Option Leaving). rest_of x q) is in
-    let r = requests_by m (Queue cpu) lane prev (Out cause to ids) f.served 0 h (rw left (omega (arith, f.requests))) (λ z. absurd (let y : ⊥ = cc in y)) in
-    let off : work_of (takes_off (out_by c.form m.header c q) c) ≡ work_of (takes_off (Some l) c) = ap (λ (x : Option Leaving). work_of (takes_off x c)) is in
+    let r = requests_by m (Queue cpu) lane prev (Out cause to ids) f.served 0 h (rw left (omega (arith, f.requests)))
+    (λ z. absurd (let y : ⊥ = cc in y)) in
+    let off : work_of (takes_off (out_by c.form m.header c q) c) ≡ work_of (takes_off (Some l) c) =
+    ap (λ (x : Option Leaving). work_of (takes_off x c)) is in
     let g = same_work (Queue cpu) ((sight m e).count + 1) (takes_off (out_by c.form m.header c q) c) in
     let k = f.work in
     falls_by m e rows 0 f.served h r (omega arith)
-out_lowers laws m o lane prev cause to ids rows placed h = absurd (let k = (form_lets m (entry o lane prev (Out cause to ids)) h).0 in let y : ⊥ = cc in y)
+out_lowers laws m o lane prev cause to ids rows placed h =
+    absurd (let k = (form_lets m (entry o lane prev (Out cause to ids)) h).0 in let y : ⊥ = cc in y)
 
-pub entries_fall : (laws : QueueLaws) (m : MachineState) (e : Entry) (rows : ℕ) → IsPlaced m → MayBeAdded m e → entries_left rows (after m e) < entries_left (rows_before e.what rows) m
+pub entries_fall : (laws : QueueLaws) (m : MachineState) (e : Entry) (rows : ℕ) → IsPlaced m → MayBeAdded m e
+    → entries_left rows (after m e) < entries_left (rows_before e.what rows) m
 entries_fall laws m e rows placed h = by_kind e.owner e.lane e.prev e.what h
   where
-    by_kind : (o : Owner) (lane prev : ℕ) (w : What) → MayBeAdded m (entry o lane prev w) → entries_left rows (after m (entry o lane prev w)) < entries_left (rows_before w rows) m
+    by_kind : (o : Owner) (lane prev : ℕ) (w : What) → MayBeAdded m (entry o lane prev w)
+        → entries_left rows (after m (entry o lane prev w)) < entries_left (rows_before w rows) m
     by_kind o lane prev (Out cause to ids) h = out_lowers laws m o lane prev cause to ids rows placed h
     by_kind o lane prev w h = other_falls laws m o lane prev w rows refl h

@@ -1,6 +1,6 @@
 -- What the call that an entry stands for asks, with the values that the course of its lane fixes: of the
 -- queue that draws the entry, of a decision, and of the search for the target of a kick.
-use Rattle.std.specs.Prelude.{◌≡◌, ℕ, pos, negsuc, ◌≤◌, ◌≤ℤ◌, true, false, Option, Some, None, IfSome, IsSome, Bool, All, length, find, is_some, ◌==◌, List}
+use Rattle.std.specs.Prelude.{◌≡◌, ℕ, pos, negsuc, ◌<◌, ◌≤◌, ◌≤ℤ◌, true, false, Option, Some, None, IfSome, IsSome, Bool, All, length, find, is_some, ◌==◌, List}
 use Rattle.lb_base.specs.declared.mask.TheConstants.{MAX_CPUS}
 use Rattle.lb_base.specs.Mask.{has}
 use Rattle.lb_base.specs.Figures.{AllHaveFigures}
@@ -10,7 +10,7 @@ use Rattle.lb_trace.specs.declared.trace.Command.TheVariants.{Wake, Nice, Tick}
 use Rattle.lb_queue.specs.declared.record.TaskRecord.{TaskRecord}
 use Rattle.lb_queue.specs.declared.answers.OutCause.{OutCause}
 use Rattle.lb_queue.specs.declared.answers.OutCause.TheVariants.{Wake as WakeOut, Push as PushOut}
-use Rattle.lb_queue.specs.Tasks.{ids, occurs}
+use Rattle.lb_queue.specs.Tasks.{ids, occurs, awake_with, task_with}
 use Rattle.lb_queue.specs.Queue.{QueueState, away, knows}
 use Rattle.lb_queue.specs.Requests.{has_owed, next_stop}
 use Rattle.lb_queue.specs.Hands.{stop_to}
@@ -19,6 +19,9 @@ use Rattle.lb_core.specs.declared.course.Course.{Course}
 use Rattle.lb_core.specs.declared.entry.What.{What}
 use Rattle.lb_core.specs.declared.entry.What.TheVariants.{Look, Did, Out, Landed, Turn, Shut, Close, Over, Scan}
 use Rattle.lb_core.specs.declared.entry.CpuFig.{CpuFig}
+use Rattle.lb_core.specs.declared.place.Place.{Place}
+use Rattle.lb_core.specs.declared.place.Place.TheVariants.{Awake as AwakeAt, Asleep as AsleepAt, Gone as GoneAt, Hand as HandOf}
+use Rattle.lb_core.specs.Machine.{MachineState, queue_at}
 use Rattle.lb_core.specs.Course.{turn_domains, turn_domain, shapes_of, widest_span}
 use Rattle.lb_core.specs.Sight.{Sight, by_cpu}
 use Rattle.lb_core.specs.Leaving.{leaving}
@@ -61,9 +64,28 @@ QueueAsks (Close p w i f) s = IsOpenAt s.queue.open_turn (turn_domain s.header s
 QueueAsks Over s = IsSome s.queue.open_turn
 QueueAsks w s = Unit {0}
 
+-- before the answer is known: all but what a command asks
+abbrev pub TrialAsks : What → Sight → Type 0
+TrialAsks (Did r) s = Unit {0}
+TrialAsks w s = QueueAsks w s
+
 -- the next stop of a queue is that of a task that is asked to leave
 abbrev pub StopAsks : QueueState → Type 0
 StopAsks q = (owed : Bool) → IfSome (next_stop q owed) (λ s. stop_to q s.id ≡ Some s.to)
+
+-- ---- where a task is
+-- in which of the lists of a queue it stands
+pub record IsOn (q : QueueState) (t : ℕ) (is_awake is_asleep is_gone : Bool) : Type 0 where
+  pub awake : is_some (awake_with t q.awake) ≡ is_awake
+  pub asleep : is_some (task_with t q.asleep) ≡ is_asleep
+  pub gone : is_some (task_with t q.gone) ≡ is_gone
+
+-- in the list of the place, and in no other
+abbrev pub IsOnAt : MachineState → ℕ → Place → Type 0
+IsOnAt m t (AwakeAt cpu) = (cpu < length m.header.cpus) × IsOn (queue_at m.queues cpu) t true false false
+IsOnAt m t (AsleepAt cpu) = (cpu < length m.header.cpus) × IsOn (queue_at m.queues cpu) t false true false
+IsOnAt m t (GoneAt cpu) = (cpu < length m.header.cpus) × IsOn (queue_at m.queues cpu) t false false true
+IsOnAt m t (HandOf lane) = Unit {0}
 
 -- ---- decisions
 -- the entry names a figure of the CPU

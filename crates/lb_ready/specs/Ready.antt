@@ -38,7 +38,7 @@ use Rattle.lb_core.specs.Machine.{MachineState, queue_at, course_at, figures_at,
 use Rattle.lb_core.specs.Placed.{IsPlaced, HandsRest}
 use Rattle.lb_core.specs.Legal.{run, IsLegalFront}
 use Rattle.lb_core.specs.Permitted.{IsPermitted}
-use Rattle.lb_core.specs.OpenTurns.{KeepsTurn}
+use Rattle.lb_core.specs.OpenTurns.{IsVersion, KeepsTurn}
 use Rattle.lb_core.specs.TurnCounters.{FitsDomains, domains_in_version}
 
 -- ---- entries in range
@@ -54,6 +54,8 @@ pub record HasSizes (m : MachineState) : Type 0 where
   pub queues : length m.queues ≡ length m.header.cpus
   pub figures : length m.figures ≡ length m.header.cpus
   pub courses : length m.courses ≡ m.header.lanes
+  pub lasts : length m.last ≡ m.header.lanes
+  pub ticks : length m.ticked ≡ length m.header.cpus
   pub versions : 1 ≤ length m.versions
   pub few_versions : length m.versions ≤ m.ticket + 1
   pub published : (cpu : ℕ) → cpu < length m.header.cpus → 1 ≤ length (figures_at m.figures cpu)
@@ -96,7 +98,8 @@ is_mask_in cpus m = is_below m cpus && not (is_empty m)
 -- the signal is in its bounds
 abbrev pub is_bounded : Sums → Bool
 is_bounded s =
-    nat_lt s.part 1024 && nat_le s.load_sum (46718 + s.part) && nat_le s.runnable_sum (1024 * (46718 + s.part) + 49152) && nat_le s.util_sum (1024 * (46718 + s.part) + 49152)
+    nat_lt s.part 1024 && nat_le s.load_sum (46718 + s.part) && nat_le s.runnable_sum
+    (1024 * (46718 + s.part) + 49152) && nat_le s.util_sum (1024 * (46718 + s.part) + 49152)
 
 -- both, of a task
 abbrev pub is_task_in : ℕ → TaskRecord → Bool
@@ -105,7 +108,8 @@ is_task_in cpus t = is_mask_in cpus t.mask && is_bounded t.signal
 -- what a course speaks of is of the machine: the CPU of its turn, the source of its pull, the CPUs
 -- that its scan shows tickless, its command, and where the tasks in its hand may run; it drew at most
 -- `ticket` rows, and the excluded CPUs are a mask
-pub record IsOfMachine (h : Header) (ticket rows cpu source : ℕ) (figures : List CpuFig) (command : Option Command) (hand : List TaskRecord) (excluded : Mask) : Type 0 where
+pub record IsOfMachine (h : Header) (ticket rows cpu source : ℕ) (figures : List CpuFig) (command : Option Command)
+    (hand : List TaskRecord) (excluded : Mask) : Type 0 where
   pub counted : rows ≤ ticket
   pub turned : cpu < length h.cpus
   pub pulled : source < length h.cpus
@@ -159,6 +163,15 @@ pub record IsServedBy (m : MachineState) (cpu : ℕ) : Type 0 where
 pub record NamesPublished (m : MachineState) (c : Course) : Type 0 where
   pub version : c.named_version ≤ length m.versions
   pub figures : (cpu : ℕ) → named_at c cpu ≤ entries_at m cpu
+
+-- ---- scans
+-- a scan that is due is over a published version
+abbrev pub ScansIn : Form → MachineState → ℕ → List Mask → Type 0
+ScansIn ScanDue m version masks = IsVersion m version masks
+ScansIn f m version masks = Unit {0}
+
+abbrev pub ScansVersion : MachineState → Course → Type 0
+ScansVersion m c = ScansIn c.form m c.version c.masks
 
 -- ---- excluded CPUs
 -- the local group of the position in work
@@ -217,7 +230,7 @@ pub record IsReached (m : MachineState) : Type 0 where
 
 -- `accepted`: the header is that of an accepted trace. `placed` and `permitted`: each task stands at one
 -- place, and may be there or is asked to leave. `hands`: a hand is empty but in flight. `fits`, `named`,
--- `turns` and `spares` are of each lane; `queues`, `owed`, `small`, `counts` and `in_range` of each CPU:
+-- `turns`, `scans` and `spares` are of each lane; `queues`, `owed`, `small`, `counts` and `in_range` of each CPU:
 -- its queue, who serves its owed requests, its figures, and its counters, as many as it has domains.
 pub record IsReady (m : MachineState) : Type 0 where
   pub reached : IsReached m
@@ -231,6 +244,7 @@ pub record IsReady (m : MachineState) : Type 0 where
   pub owed : (cpu : ℕ) → has_owed (queue_at m.queues cpu) ≡ true → IsServedBy m cpu
   pub named : (lane : ℕ) → NamesPublished m (course_at m.courses lane)
   pub turns : (lane : ℕ) → KeepsTurn m lane (course_at m.courses lane)
+  pub scans : (lane : ℕ) → ScansVersion m (course_at m.courses lane)
   pub spares : (lane : ℕ) → KeepsLocal m.header (course_at m.courses lane)
   pub small : (cpu n : ℕ) → IsSmall (slice_index_or (figures_at m.figures cpu) n no_fig)
   pub counts : (cpu : ℕ) → (let q = queue_at m.queues cpu in FitsDomains (length m.versions) (domains_in_version m q.version cpu) q)

@@ -1,8 +1,9 @@
 //! Laws of the machine's states, over the definitions alone: each function's contract is the law,
 //! and its body calls the laws that it stands on.
-ghost use Rattle.lb_ready.specs.Laws.{OpensReady, StaysReady, ReadsInRange, EntriesFall, CallsMayBeMade, LooksMayBeDecided, StopsMayBeTaken, ServiceGoesOn, RowsAreTaken, ClosingGoesOn, TracesHaveRuns, HistoriesEnd, EntriesFit, EntryFits};
+ghost use Rattle.lb_ready.specs.Lanes.{LanesSuit};
+ghost use Rattle.lb_ready.specs.Laws.{OpensReady, StaysReady, ReadsInRange, EntriesFall, CallsMayBeTried, CallsMayBeMade, LooksMayBeDecided, StopsMayBeTaken, TasksStand, ServiceGoesOn, RowsAreTaken, ClosingGoesOn, NextIsSerial, SerialIsNext, TracesHaveRuns, HistoriesEnd, EntriesFit, EntryFits};
 
-use lb_core::laws::{permitted, placed_stays, turns_fit, turns_stay_open};
+use lb_core::laws::{choices, permitted, placed_stays, turns_fit, turns_stay_open};
 use lb_domain::laws::{
     domains_are_few, domains_stand_in_order, groups_part_the_span, spans_lie_inside,
 };
@@ -54,12 +55,16 @@ pub fn entries_fall()
 }
 
 /// An entry that may be added to a ready machine meets what the calls of its queue ask, with the
-/// values that the course of its lane fixes; a look meets what a decision asks, and a scan what the
-/// search for a target asks; and the next stop of each queue may be taken.
+/// values that the course of its lane fixes; all but what a command asks it meets as soon as its lane may
+/// draw it (`tried`). A look that names the figures that are due meets what a decision asks, and a scan
+/// what the search for a target asks; the next stop of each queue may be taken; and each task stands in the
+/// list of its place alone, if no lane has it in its hand.
 pub fn calls_may_be_made()
+    ensures tried { CallsMayBeTried }
     ensures calls { CallsMayBeMade }
     ensures looks { LooksMayBeDecided }
     ensures stops { StopsMayBeTaken }
+    ensures stand { TasksStand }
 {
     // the domains of a turn are few, in order and parted
     domains_are_few();
@@ -88,6 +93,19 @@ pub fn serial_runs()
     entries_fall();
 }
 
+/// The entry that a lane draws next with the newest version and figures, as it is computed, may be added;
+/// and it is the only serial entry of the lane that may. So where none is computed, the lane has to wait
+/// for others, or has nothing to draw.
+pub fn next_entries()
+    ensures serial { NextIsSerial }
+    ensures all { SerialIsNext }
+{
+    // where a task is asked to leave, a stop is next
+    next_stops();
+    // which choices an entry makes
+    choices();
+}
+
 /// A history of an accepted trace has at most 811,405 entries for each row of the trace, and its end.
 pub fn histories_end()
     ensures { HistoriesEnd }
@@ -113,4 +131,13 @@ pub fn entries_fit()
     groups_part_the_span();
     // so tickets are few
     histories_end();
+}
+
+/// Each lane of a reachable state has the number of a figure for each CPU, and a position that a mask has
+/// room for; and where it is to publish masks, they part the CPUs.
+pub fn lanes_suit()
+    ensures { LanesSuit }
+{
+    // the masks of a row that may be taken up are a partition
+    a_partition_has_no_fault();
 }

@@ -1,5 +1,5 @@
 use Rattle.lb_ready.proofs.Keeping.{DomainLaws}
-use Rattle.lb_ready.proofs.Calls.{calls_may_be_made, looks_may_be_decided, stops_may_be_taken}
+use Rattle.lb_ready.proofs.Calls.{calls_may_be_tried, calls_may_be_made, looks_may_be_decided, stops_may_be_taken, tasks_stand}
 use Rattle.lb_ready.proofs.laws.calls_may_be_made.Goals as goal
 
 pub returns : goal.returns
@@ -10,4 +10,10 @@ returns c =
       inside = c.spans_lie_inside.ensures;
       part = c.groups_part_the_span.ensures;
     } in
-    record { calls = calls_may_be_made laws; looks = looks_may_be_decided laws; stops = stops_may_be_taken c.next_stops.ensures.taken }
+    record {
+      tried = calls_may_be_tried laws;
+      calls = calls_may_be_made laws;
+      looks = looks_may_be_decided laws;
+      stops = stops_may_be_taken c.next_stops.ensures.taken;
+      stand = tasks_stand;
+    }

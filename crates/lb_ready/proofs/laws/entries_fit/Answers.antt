@@ -14,4 +14,7 @@ returns c =
         part = c.groups_part_the_span.ensures;
       };
     } in
-    record { histories = entries_fit c.ready.ensures.opens c.histories_end.ensures laws; entries = λ m e k few h r. entry_in laws m e k few h r }
+    record {
+      histories = entries_fit c.ready.ensures.opens c.histories_end.ensures laws;
+      entries = λ m e k few h r. entry_in laws m e k few h r;
+    }

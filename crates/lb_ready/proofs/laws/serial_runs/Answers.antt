@@ -11,4 +11,11 @@ pub returns-clause-closing : goal.returns-clause-closing
 returns-clause-closing c = closing_goes_on c.next_stops.ensures.asked
 
 pub returns-clause-traces : goal.returns-clause-traces
-returns-clause-traces c = traces_have_runs (record { partition = c.a_partition_has_no_fault.ensures; asked = c.next_stops.ensures.asked; opens = c.ready.ensures.opens; stays = c.ready.ensures.stays; falls = c.entries_fall.ensures })
+returns-clause-traces c = traces_have_runs
+    (record {
+      partition = c.a_partition_has_no_fault.ensures;
+      asked = c.next_stops.ensures.asked;
+      opens = c.ready.ensures.opens;
+      stays = c.ready.ensures.stays;
+      falls = c.entries_fall.ensures;
+    })

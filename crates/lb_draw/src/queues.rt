@@ -1,0 +1,166 @@
+//! What the queues draw next: answers, tasks that leave and land, and turns.
+ghost use Rattle.std.specs.Prelude.{◌≡◌, ◌<◌, ◌^◌, IfOk, length};
+ghost use Rattle.lb_core.specs.declared.course.Form.TheVariants as form;
+ghost use Rattle.lb_core.specs.Leaving.{out_by};
+ghost use Rattle.lb_core.specs.Machine.{MachineState, queue_at};
+ghost use Rattle.lb_queue.specs.Queue.{QueueState};
+ghost use Rattle.lb_due.specs.Replies.{AnswersAt};
+ghost use Rattle.lb_due.specs.Turns.{HasPosition, HasTurn, PullsAt};
+ghost use Rattle.lb_ready.specs.Calls.{TurnAsks};
+ghost use Rattle.lb_ready.specs.Next.{bare, close_of, out_of, what_by};
+ghost use Rattle.lb_ready.specs.Ready.{IsReady, Names};
+
+use lb_base::{Kind, NoMemory};
+use lb_core::{Course, What};
+use lb_course::{is_pull, is_rebuild, ticked_cpu};
+use lb_due::{
+    counters_due, first_pending, has_owed, ids_in_hand, leaves_instead, out_of_queue, push_is_due,
+    reply_due, turn_due, unserved, word_due,
+};
+use lb_parts::Parts;
+use lb_queue::TurnReply;
+use std::alloc::Global;
+
+// The tasks that are to leave the queue of a CPU.
+fn out(alloc: Global, parts: &Parts, course: &Course, cpu: u32) -> Result<What, NoMemory>
+    requires turn { PullsAt course.now.form parts.now.machine course.now }
+    requires there { cpu < length parts.now.machine.queues }
+    ensures { IfOk result (λ what.
+        what ≡ out_of (out_by course.now.form parts.now.machine.header course.now (queue_at parts.now.machine.queues cpu))) }
+{
+    match out_of_queue(alloc, parts, course, parts.queue(cpu))? {
+        None => Ok(What::Over),
+        Some(due) => Ok(What::Out {
+            cause: due.cause,
+            to: due.to,
+            ids: due.ids,
+        }),
+    }
+}
+
+/// At rest, without a row: a pending stop, or the end.
+pub(crate) fn closing(
+    alloc: Global,
+    parts: &Parts,
+    course: &Course,
+    cpu: u32,
+) -> Result<What, NoMemory>
+    requires ready { IsReady parts.now.machine }
+    requires rest { course.now.form ≡ form.Rest }
+    requires there { cpu < length parts.now.machine.queues }
+    ensures { IfOk result (λ what. what ≡ what_by form.Rest parts.now.machine course.now (queue_at parts.now.machine.queues cpu)) }
+{
+    if first_pending(parts).is_some() {
+        return out(alloc, parts, course, cpu);
+    }
+    Ok(What::End {
+        unserved: unserved(parts),
+    })
+}
+
+/// The answer to the command in service, or the tasks that leave instead.
+pub(crate) fn answer(
+    alloc: Global,
+    parts: &Parts,
+    course: &Course,
+    cpu: u32,
+) -> Result<What, NoMemory>
+    requires ready { IsReady parts.now.machine }
+    requires few { parts.now.machine.ticket < 2 ^ 40 }
+    requires asked { course.now.form ≡ form.Asked }
+    requires names { Names parts.now.machine.header course.now.command }
+    requires there { cpu < length parts.now.machine.queues }
+    requires answers { AnswersAt course.now.command parts.now.machine cpu }
+    ensures { IfOk result (λ what. what ≡ what_by form.Asked parts.now.machine course.now (queue_at parts.now.machine.queues cpu)) }
+{
+    if is_rebuild(&course.command) {
+        return Ok(What::Pub {
+            version: parts.version() + 1,
+        });
+    }
+    if leaves_instead(&course.command, parts.queue(cpu)) {
+        return out(alloc, parts, course, cpu);
+    }
+    Ok(What::Did {
+        reply: reply_due(parts, &course.command),
+    })
+}
+
+/// The tasks of the hand land.
+pub(crate) fn landing(alloc: Global, course: &Course) -> Result<What, NoMemory>
+    ensures { IfOk result (λ what. (m : Machine) (q : QueueState) → what ≡ what_by form.Flight m course.now q) }
+{
+    Ok(What::Landed {
+        ids: ids_in_hand(alloc, course)?,
+    })
+}
+
+/// After a tick: the owed stops, the push, and then the turn.
+pub(crate) fn serving(
+    alloc: Global,
+    parts: &Parts,
+    course: &Course,
+    cpu: u32,
+) -> Result<What, NoMemory>
+    requires serving { course.now.form ≡ form.Serving }
+    requires there { cpu < length parts.now.machine.queues }
+    ensures { IfOk result (λ what. what ≡ what_by form.Serving parts.now.machine course.now (queue_at parts.now.machine.queues cpu)) }
+{
+    let queue = parts.queue(cpu);
+    if has_owed(queue) || push_is_due(course, queue) {
+        return out(alloc, parts, course, cpu);
+    }
+    Ok(What::Adopt {
+        version: parts.version(),
+        kind: Kind::Tick,
+        cpu: ticked_cpu(&course.command).unwrap_or(0),
+    })
+}
+
+/// The turn opens, or is shut.
+#[tactic(auto, unfolding(lb_queue::specs::Turns::opens))]
+pub(crate) fn opening(parts: &Parts, course: &Course, cpu: u32) -> What
+    requires there { cpu < length parts.now.machine.queues }
+    requires turn { HasTurn parts.now.machine course.now }
+    requires asks { TurnAsks (bare parts.now.machine course.now (queue_at parts.now.machine.queues cpu)) }
+    ensures { result ≡ what_by form.Used parts.now.machine course.now (queue_at parts.now.machine.queues cpu) }
+{
+    match turn_due(parts, course, parts.queue(cpu)) {
+        TurnReply::Opened(positions) => What::Turn { positions },
+        TurnReply::TurnOpen => What::Shut,
+    }
+}
+
+/// After a look: the take, or the close.
+pub(crate) fn looked(
+    alloc: Global,
+    parts: &Parts,
+    course: &Course,
+    cpu: u32,
+) -> Result<What, NoMemory>
+    requires looked { course.now.form ≡ form.Looked }
+    requires there { cpu < length parts.now.machine.queues }
+    requires position { HasPosition parts.now.machine course.now }
+    ensures { IfOk result (λ what. what ≡ what_by form.Looked parts.now.machine course.now (queue_at parts.now.machine.queues cpu)) }
+{
+    if is_pull(course.decision) {
+        out(alloc, parts, course, cpu)
+    } else {
+        Ok(close(parts, course, cpu))
+    }
+}
+
+/// The close of the position in work.
+pub(crate) fn close(parts: &Parts, course: &Course, cpu: u32) -> What
+    requires there { cpu < length parts.now.machine.queues }
+    requires position { HasPosition parts.now.machine course.now }
+    ensures { result ≡ close_of parts.now.machine course.now (queue_at parts.now.machine.queues cpu) }
+{
+    let counters = counters_due(parts, course, parts.queue(cpu));
+    What::Close {
+        position: course.position,
+        outcome: word_due(parts, course),
+        interval: counters.interval,
+        failures: counters.failures,
+    }
+}

@@ -1,0 +1,6 @@
+use Rattle.std.proofs.Common.{◌≡◌, drop}
+use Rattle.lb_base.specs.Sets.{are_disjoint}
+use Rattle.lb_due.proofs.rows.are_disjoint.Given as goal
+
+abbrev pub invariant-loop-i : goal.invariant-loop-i
+invariant-loop-i l = are_disjoint l.masks ≡ are_disjoint (drop l.i l.masks)

@@ -1,0 +1,9 @@
+use Rattle.std.proofs.Common.{sym, ◌∙◌, ap, Bool, not, ◌&&◌}
+use Rattle.lb_base.specs.Mask.{has}
+use Rattle.lb_base.proofs.Sets.{below_is, apart_is}
+use Rattle.lb_due.proofs.Lists.{same_unless}
+use Rattle.lb_due.proofs.rows.is_apart.Goals as goal
+
+pub returns : goal.returns
+returns c = same_unless _ _ (sym c.is_none.ensures
+    ∙ apart_is c.args.mask c.args.other c.and.result c.first.result c.and.ensures.cpus c.first.ensures.cpus)

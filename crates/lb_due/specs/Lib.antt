@@ -1,0 +1,4 @@
+pub mod Owners
+pub mod Turns
+pub mod Outs
+pub mod Replies

@@ -1,0 +1,9 @@
+-- The tasks that are to leave a queue, as an entry says it: without their records.
+use Rattle.std.specs.Prelude.{Option, Some, None}
+use Rattle.lb_queue.specs.Tasks.{ids}
+use Rattle.lb_core.specs.Leaving.{Leaving}
+use Rattle.lb_due.specs.declared.leaving.Out.{Out}
+
+abbrev pub out_due : Option Leaving → Option Out
+out_due None = None
+out_due (Some l) = Some (record { cause = l.cause; to = l.to; ids = ids l.hand })

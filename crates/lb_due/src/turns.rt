@@ -1,0 +1,148 @@
+//! What the turn of a course fixes: its positions, and how one of them ends.
+ghost use Rattle.std.specs.Prelude.{◌≡◌, [], false, is_some, unwrap_or};
+ghost use Rattle.lb_imbalance.specs.Decision.{decision};
+ghost use Rattle.lb_queue.specs.Turns.{opens, counters_at, turn_kind as kind_of_open};
+ghost use Rattle.lb_core.specs.declared.rule.Rule.TheVariants as rule;
+ghost use Rattle.lb_core.specs.Course.{env_of, looks_again, outcome_of, turn_domain, turn_domains, shapes_of, turn_kind};
+ghost use Rattle.lb_core.specs.Rules.{closed_counters, figures_due, positions_due, word_of};
+ghost use Rattle.lb_core.specs.Sight.{Sight};
+ghost use Rattle.lb_ready.specs.Calls.{TurnAsks};
+ghost use Rattle.lb_ready.specs.Next.{bare};
+ghost use Rattle.lb_turn.specs.Turns.{HasDue, MayDecide};
+ghost use Rattle.lb_due.specs.Turns.{HasTurn, HasPosition};
+
+use lb_base::{Fig, Kind, Mask};
+use lb_core::{Course, OutcomeWord, What};
+use lb_course::turn_kind;
+use lb_detach::Env;
+use lb_imbalance::Decision;
+use lb_interval::{Counters, after};
+use lb_parts::Parts;
+use lb_queue::{NANOSECONDS_PER_MILLISECOND, Queue, TurnReply, tries};
+use lb_turn::{Turn, flag, word_of};
+
+// The turn of a course.
+fn turn_of<'a>(parts: &'a Parts, course: &'a Course) -> Turn<'a>
+    requires { HasTurn parts.now.machine course.now }
+    ensures { result ≡ record { header = parts.now.machine.header; course = course.now } }
+{
+    Turn::new(parts.header(), parts.topology_of(course.version), course)
+}
+
+/// Whether a further look is due after a take.
+pub fn looks_again(parts: &Parts, course: &Course) -> bool
+    requires { HasPosition parts.now.machine course.now }
+    ensures { result ≡ looks_again parts.now.machine.header course.now }
+{
+    turn_of(parts, course).looks_again()
+}
+
+/// What the take that is due asks for; None where the last look does not pull.
+pub fn env_due(parts: &Parts, course: &Course) -> Option<Env>
+    requires { HasPosition parts.now.machine course.now }
+    ensures { result ≡ env_of parts.now.machine.header course.now }
+{
+    turn_of(parts, course).env()
+}
+
+/// The word for how the position in work ends, if it ends now.
+pub fn word_due(parts: &Parts, course: &Course) -> OutcomeWord
+    requires { HasPosition parts.now.machine course.now }
+    ensures { result ≡ word_of (outcome_of parts.now.machine.header course.now) }
+{
+    word_of(turn_of(parts, course).outcome())
+}
+
+/// What the queue of the turn's CPU answers to the turn that is due.
+pub fn turn_due(parts: &Parts, course: &Course, queue: &Queue) -> TurnReply
+    requires turn { HasTurn parts.now.machine course.now }
+    requires asks { TurnAsks (bare parts.now.machine course.now queue.now.state) }
+    ensures { result ≡ opens queue.now.state course.now.at (turn_kind course.now) course.now.version
+        (shapes_of (turn_domains parts.now.machine.header course.now)) }
+{
+    let shapes = turn_of(parts, course).shapes();
+    queue.opens(
+        course.at,
+        turn_kind(course),
+        course.version,
+        shapes.as_slice(),
+    )
+}
+
+// The positions of the turn that is due, where no turn is open.
+pub fn positions_due(parts: &Parts, course: &Course, queue: &Queue) -> Mask
+    requires turn { HasTurn parts.now.machine course.now }
+    requires asks { TurnAsks (bare parts.now.machine course.now queue.now.state) }
+    requires none { is_some queue.now.state.open_turn ≡ false }
+    ensures { result ≡ positions_due (bare parts.now.machine course.now queue.now.state) }
+{
+    match turn_due(parts, course, queue) {
+        TurnReply::Opened(positions) => positions,
+        TurnReply::TurnOpen => unreachable!(),
+    }
+}
+
+/// The counters that the position in work leaves, if it ends now.
+#[tactic(auto, unfolding(lb_core::specs::Rules::closed_counters, lb_queue::specs::Turns::counters_closed))]
+pub fn counters_due(parts: &Parts, course: &Course, queue: &Queue) -> Counters
+    requires { HasPosition parts.now.machine course.now }
+    ensures { result ≡ closed_counters (bare parts.now.machine course.now queue.now.state) }
+{
+    let turn = turn_of(parts, course);
+    let shape = turn.shape();
+    after(
+        &counters_of(queue, shape.position),
+        kind_of_turn(queue),
+        turn.outcome(),
+        flag(course),
+        shape.span.weight(),
+        tries(shape.name),
+        queue.clock().max(course.at) / NANOSECONDS_PER_MILLISECOND,
+    )
+}
+
+// The queue's counters of a position, or zeros where it has none.
+fn counters_of(queue: &Queue, position: u32) -> Counters
+    ensures { result ≡ counters_at (unwrap_or queue.now.state.counters []) position }
+{
+    match queue.counters(position) {
+        Some(counters) => counters,
+        None => Counters {
+            last: 0,
+            interval: 0,
+            failures: 0,
+            imb: false,
+        },
+    }
+}
+
+// The kind of the open turn; a tick's where none is open.
+fn kind_of_turn(queue: &Queue) -> Kind
+    ensures { result ≡ kind_of_open queue.now.state.open_turn }
+{
+    match queue.open_turn() {
+        Some(turn) => turn.kind,
+        None => Kind::Tick,
+    }
+}
+
+/// The CPUs whose figures are due.
+pub fn figures_due(parts: &Parts, course: &Course) -> Mask
+    requires turn { HasTurn parts.now.machine course.now }
+    requires due { HasDue course.now.form parts.now.machine.header course.now }
+    ensures { (s : Sight) → s.header ≡ parts.now.machine.header → s.course ≡ course.now → result ≡ figures_due s.course.form s }
+{
+    turn_of(parts, course).figures_due()
+}
+
+/// What figures, one for each CPU, decide about the position in work.
+pub fn decision_by(parts: &Parts, course: &Course, figs: &[Fig]) -> Decision
+    requires position { HasPosition parts.now.machine course.now }
+    requires asks { MayDecide (turn_domain parts.now.machine.header course.now) figs.now course.now }
+    ensures { result ≡ decision
+        (turn_domain parts.now.machine.header course.now).shape
+        (turn_domain parts.now.machine.header course.now).groups
+        figs.now course.now.cpu (turn_kind course.now) course.now.excluded }
+{
+    turn_of(parts, course).decision(figs)
+}

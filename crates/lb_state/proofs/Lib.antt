@@ -1,0 +1,6 @@
+pub mod LaneEntries
+pub mod QueueEntries
+pub mod Departures
+pub mod Taking
+pub mod Landings
+pub mod Drawing

@@ -1,0 +1,120 @@
+//! The state of the machine: its start, its step, and the entries that it draws.
+ghost use Rattle.std.specs.Prelude.{◌≡◌, ◌<◌, ℕ, length, true, None, Some, IfOk, IfSome, OnErr, option_copied};
+ghost use Rattle.lb_trace.specs.Accepted.{IsHeader, is_row};
+ghost use Rattle.lb_core.specs.declared.entry.Entry.{Entry};
+ghost use Rattle.lb_core.specs.Machine.{start};
+ghost use Rattle.lb_core.specs.Ranges.{what_fits};
+ghost use Rattle.lb_core.specs.Step.{after, first_broken};
+ghost use Rattle.lb_ready.specs.Next.{IsSerialNext};
+
+use crate::laws::{hands_may_land, steps_may_be_taken};
+use lb_base::NoMemory;
+use lb_core::{Entry, Rule};
+use lb_draw::next_entry;
+use lb_judge::first_broken;
+use lb_parts::Parts;
+use lb_ready::laws::{entries_fit, ready};
+use lb_trace::{Header, Row};
+use std::alloc::Global;
+use std::marker::Model;
+
+mod readers;
+
+// A history of an accepted trace has fewer than 2^37 entries: one that the machine is asked to draw beyond
+// this ticket is none of a trace.
+const MAX_TICKET: u64 = 1_099_511_627_776;
+
+/// The machine after some legal entries of an accepted trace (docs/rules/lanes.md). Its parts change in
+/// place: no step copies a queue, a topology or the history.
+///
+/// Contracts see the machine itself.
+pub struct State {
+    parts: Parts,
+}
+
+impl Model for State {
+    ghost use Rattle.lb_core.specs.Machine.{MachineState};
+    ghost use Rattle.lb_state.specs.Inside.{IsInside};
+
+    ghost Value = { MachineState };
+
+    ghost view = { λ s. s.parts.machine };
+
+    ghost invariant = { λ s. IsInside s.parts };
+}
+
+impl State {
+    /// The machine of an accepted header before any entry.
+    pub fn start(alloc: Global, header: &Header) -> Result<State, NoMemory>
+        requires { IsHeader header.now }
+        ensures { IfOk result (λ state. state ≡ start header.now) }
+    {
+        // the opening machine is ready
+        ready();
+        let parts = Parts::start(alloc, header)?;
+        Ok(State { parts })
+    }
+
+    /// Judges an entry, and takes it where it may be added. The answer is the first rule that it breaks
+    /// (docs/rules/legality.md): the machine stays as it was then. None says that it breaks no rule: the
+    /// machine is the one after it. Where memory runs out, or no ticket is left, the machine stays as it was.
+    pub fn step(&mut self, alloc: Global, entry: &Entry) -> Result<Option<Rule>, NoMemory>
+        requires { what_fits entry.now.what ≡ true }
+        ensures judged { IfOk result (λ rule. rule ≡ first_broken self.old entry.now) }
+        ensures taken { IfOk result (λ rule. rule ≡ None → self.new ≡ after self.old entry.now) }
+        ensures broken { IfOk result (λ rule. IfSome rule (λ _. self.new ≡ self.old)) }
+        ensures refused { OnErr result (self.new ≡ self.old) }
+    {
+        ready();
+        steps_may_be_taken();
+        let broken = first_broken(alloc, &self.parts, entry)?;
+        if broken.is_none() {
+            self.parts.take(alloc, entry)?;
+        }
+        Ok(broken)
+    }
+
+    /// Draws the serial entry of a lane, which takes up the last published version and reads each queue's
+    /// last figure, and takes it. A lane at rest takes up the given row; without one, lane 0 serves the
+    /// pending stops and then ends the history. None where the lane has to wait for others or has nothing
+    /// to draw: the machine stays as it was then, as where memory runs out (docs/rules/lanes.md).
+    ///
+    /// So every serial entry of the lane that may be added is the answer, and the answer is one. No entry is
+    /// drawn past ticket 2^40.
+    pub fn draw(
+        &mut self,
+        alloc: Global,
+        lane: u32,
+        row: Option<&Row>,
+    ) -> Result<Option<Entry>, NoMemory>
+        requires lane { lane < length self.old.courses }
+        requires own { IfSome row (λ r. r.now.lane ≡ lane) }
+        requires accepted { IfSome row (λ r. is_row self.old.header r.now ≡ true) }
+        ensures drawn { IfOk result (λ drawn. IfSome drawn (λ e. IsSerialNext self.old lane (option_copied row.entry) e)) }
+        ensures all { IfOk result (λ drawn. (e : Entry) → IsSerialNext self.old lane (option_copied row.entry) e → drawn ≡ Some e) }
+        ensures taken { IfOk result (λ drawn. IfSome drawn (λ e. self.new ≡ after self.old e)) }
+        ensures none { IfOk result (λ drawn. drawn ≡ None → self.new ≡ self.old) }
+        ensures refused { OnErr result (self.new ≡ self.old) }
+    {
+        ready();
+        entries_fit();
+        steps_may_be_taken();
+        if self.parts.ticket() >= MAX_TICKET {
+            return Err(NoMemory);
+        }
+        let drawn = next_entry(alloc, &self.parts, lane, row)?;
+        if let Some(entry) = &drawn {
+            self.parts.take(alloc, entry)?;
+        }
+        Ok(drawn)
+    }
+}
+
+impl Drop for State {
+    fn drop(self) {
+        // the hands go to queues where they may land
+        hands_may_land();
+        let State { parts } = self;
+        parts.end();
+    }
+}
