@@ -1,19 +1,19 @@
 -- The entry that a lane draws next may be added, the queue that draws it is there, and what its call asks is met.
-use Rattle.std.proofs.Common.{arith, ◌≡◌, ℕ, ◌<◌, Bool, true, false, not, ◌==◌, ◌&&◌, ◌||◌, cond, List, length, Option, Some, None, is_some, refl, sym, ◌∙◌, ap, subst, ltb}
-use Rattle.std.specs.Prelude.{unwrap_or}
+use Rattle.std.proofs.Common.{arith, ◌≡◌, ℕ, ◌<◌, Bool, true, false, not, ◌||◌, cond, List, length, Option, Some, None, is_some, refl, sym, ◌∙◌, ap, subst, ltb, Bor}
+use Rattle.std.specs.Prelude.{IfSome, option_map, unwrap_or}
 use Rattle.std.proofs.lemmas.Bool.{lt-ltb}
 use Rattle.lb_base.specs.declared.mask.Mask.{Mask}
 use Rattle.lb_base.specs.Mask.{has}
 use Rattle.lb_base.specs.Sets.{least}
 use Rattle.lb_base.proofs.Ranges.{found_at}
-use Rattle.lb_queue.specs.Queue.{QueueState}
 use Rattle.lb_queue.specs.Requests.{has_pending}
 use Rattle.lb_trace.specs.declared.trace.Command.{Command}
 use Rattle.lb_trace.specs.declared.trace.Command.TheVariants.{Wake, Sleep, Exit, SetMask, Nice, Tick, Rebuild}
 use Rattle.lb_trace.specs.declared.trace.Row.{Row}
 use Rattle.lb_core.specs.declared.course.Course.{Course}
 use Rattle.lb_core.specs.declared.course.Form.{Form}
-use Rattle.lb_core.specs.declared.course.Form.TheVariants.{Rest, Asked, Flight, Serving, Used, Position, Looked, Landed as LandedForm, Closed, ScanDue, Kicking}
+use Rattle.lb_core.specs.declared.course.Form.TheVariants.{Rest, Asked, Flight, Serving, Used, Position, Looked, Landed as LandedForm, Closed, Kicking}
+use Rattle.lb_core.specs.declared.entry.Entry.{Entry}
 use Rattle.lb_core.specs.declared.entry.FigName.{FigName}
 use Rattle.lb_core.specs.declared.entry.Owner.TheVariants.{Lane}
 use Rattle.lb_core.specs.declared.entry.What.{What}
@@ -26,16 +26,13 @@ use Rattle.lb_core.specs.Sight.{tickless_in}
 use Rattle.lb_core.specs.Stage.{target_of}
 use Rattle.lb_core.specs.Machine.{MachineState, course_at, queue_at, place_at, sight}
 use Rattle.lb_core.specs.Elsewhere.{is_rest, first_pending}
-use Rattle.lb_core.specs.OpenTurns.{IsVersion, IsAtPosition, TurnIn}
 use Rattle.lb_core.specs.Legal.{MayBeAdded}
-use Rattle.lb_core.specs.Step.{breaks}
 use Rattle.lb_core.proofs.Unbroken.{unbroken}
-use Rattle.lb_ready.specs.Ready.{IsReady, Names, FitsForm, ScansIn, unnamed}
+use Rattle.lb_ready.specs.Ready.{IsReady, Names, FitsForm, Speaks, unnamed}
 use Rattle.lb_ready.specs.Calls.{TrialAsks, TurnAsks, LookAsks, DecideAsks, IsOnAt}
 use Rattle.lb_ready.specs.Laws.{NextIsSerial, CallsMayBeTried, LooksMayBeDecided, TasksStand}
-use Rattle.lb_ready.specs.Next.{bare, cpu_of_place, cpu_of_task, cpu_next, owner_of, what_next, look_over, newest_due, is_answerable, drawn, next_in, next_entry}
-use Rattle.lb_due.specs.Replies.{AnswersAt}
-use Rattle.lb_due.specs.Turns.{HasTurn, HasPosition, named_sight}
+use Rattle.lb_ready.specs.Next.{bare, cpu_of_place, cpu_of_task, cpu_next, owner_of, look_over, newest_due, is_answerable, at_rest, drawn, next_in, next_entry, IsSerialNext}
+use Rattle.lb_due.specs.Turns.{named_sight}
 use Rattle.lb_draw.specs.Dues.{entry_due}
 
 -- ---- what comes next
@@ -46,20 +43,47 @@ goes_on Rest row m lane c b a = absurd (let y : ⊥ = cc in y)
 goes_on Asked row m lane c b a = rw (a refl) refl
 goes_on f row m lane c b a = refl
 
--- but while its command may not be answered
-pub waits : (f : Form) (row : Option Row) (m : MachineState) (lane : ℕ) (c : Course) → f ≡ Asked
-    → is_answerable c.command m ≡ false → next_in f row m lane c ≡ None
-waits f row m lane c e a = rw (e, a) refl
+-- it is the entry that comes next
+pub next_live : (m : MachineState) (lane : ℕ) (row : Option Row) → m.ended ≡ false → lane < length m.courses
+    → next_entry m lane row ≡ next_in (course_at m.courses lane).form row m lane (course_at m.courses lane)
+unfolding next_entry
+next_live m lane row live lt =
+    let there : ltb lane (length m.courses) ≡ true = lt-ltb lane (length m.courses) lt in
+    let test : (m.ended || not (ltb lane (length m.courses))) ≡ false = rw (live, there) refl in
+    ap (λ (b : Bool). cond b None (next_in (course_at m.courses lane).form row m lane (course_at m.courses lane))) test
 
--- and that may be added
+pub next_at_rest : (m : MachineState) (lane : ℕ) (row o : Option Row) → m.ended ≡ false → lane < length m.courses
+    → (course_at m.courses lane).form ≡ Rest → row ≡ o → at_rest o m lane (course_at m.courses lane) ≡ next_entry m lane row
+next_at_rest m lane row o live lt f e =
+    let c = course_at m.courses lane in
+    sym (next_live m lane row live lt ∙ ap (λ (g : Form). next_in g row m lane c) f ∙ ap (λ (x : Option Row). at_rest x m lane c) e)
+
+-- and there is none after the end
+pub none_after : (m : MachineState) (lane : ℕ) (row : Option Row) → m.ended ≡ true → None ≡ next_entry m lane row
+unfolding next_entry
+none_after m lane row over =
+    let test : (m.ended || not (ltb lane (length m.courses))) ≡ true = rw over refl in
+    sym (ap (λ (b : Bool). cond b None (next_in (course_at m.courses lane).form row m lane (course_at m.courses lane))) test)
+
+-- it is serial
+pub drawn_serial : NextIsSerial → (m : MachineState) (lane : ℕ) (row : Option Row) (d : Option Entry) → IsReady m
+    → IfSome row (λ r. r.lane ≡ lane) → d ≡ next_entry m lane row → IfSome d (λ e. IsSerialNext m lane row e)
+drawn_serial serial m lane row None k own h = tt
+drawn_serial serial m lane row (Some e) k own h = serial m lane row e k own (sym h)
+
+pub own_row : (o : Option (Bor Row)) (lane : ℕ) → IfSome o (λ r. r.now.lane ≡ lane)
+    → IfSome (option_map (λ r. r.now) o) (λ r. r.lane ≡ lane)
+own_row None lane h = tt
+own_row (Some r) lane h = h
+
+-- and it may be added
 pub may_come : NextIsSerial → (m : MachineState) (lane : ℕ) (f : Form) → IsReady m → m.ended ≡ false
     → lane < length m.courses → (course_at m.courses lane).form ≡ f → is_rest f ≡ false →
     (f ≡ Asked → is_answerable (course_at m.courses lane).command m ≡ true) → MayBeAdded m (entry_due f m lane (course_at m.courses lane))
-unfolding next_entry
 may_come serial m lane f k live lt e busy can =
     let c = course_at m.courses lane in
-    let there : ltb lane (length m.courses) ≡ true = lt-ltb lane (length m.courses) lt in
-    let next : next_entry m lane None ≡ Some (entry_due f m lane c) = rw (live, there, e) (goes_on f None m lane c busy can) in
+    let next : next_entry m lane None ≡ Some (entry_due f m lane c) =
+    next_live m lane None live lt ∙ ap (λ (g : Form). next_in g None m lane c) e ∙ goes_on f None m lane c busy can in
     (serial m lane None (entry_due f m lane c) k tt next).may
 
 -- ---- the queue that draws
@@ -112,6 +136,8 @@ queue_there stand m lane f r e = by_form f (subst (λ (g : Form). FitsForm m.end
   where
     c : Course
     c = course_at m.courses lane
+
+    says : Speaks m.header m.ticket c
     says = (r.fits lane).says
 
     same : length m.header.cpus ≡ length m.queues
@@ -134,47 +160,6 @@ queue_there stand m lane f r e = by_form f (subst (λ (g : Form). FitsForm m.end
     by_form Kicking h = target_in (target_of c) _ (length m.queues) h
         (λ k i. let s = same in let t = says.tickless k (least_has (tickless_in c.figures) k i) in omega arith)
     by_form g h = turned
-
--- where the task is that a command is about, its queue answers
-stands : (o : Option ℕ) (cpu : ℕ) → (is_some o || false) ≡ true → cpu ≡ unwrap_or o 0 → o ≡ Some cpu
-stands None cpu s e = absurd (let y : ⊥ = cc in y)
-stands (Some k) cpu s e = rw e refl
-
-pub answers_at : (command : Option Command) (m : MachineState) (cpu : ℕ) → is_answerable command m ≡ true
-    → cpu ≡ unwrap_or (ticked_cpu command) (unwrap_or (cpu_of_task (task_of command) m) 0) → AnswersAt command m cpu
-answers_at None m cpu a e = tt
-answers_at (Some (Wake t)) m cpu a e = stands (cpu_of_place (place_at m t)) cpu a e
-answers_at (Some (Sleep t)) m cpu a e = stands (cpu_of_place (place_at m t)) cpu a e
-answers_at (Some (Exit t)) m cpu a e = stands (cpu_of_place (place_at m t)) cpu a e
-answers_at (Some (SetMask t mask)) m cpu a e = stands (cpu_of_place (place_at m t)) cpu a e
-answers_at (Some (Nice t nice)) m cpu a e = stands (cpu_of_place (place_at m t)) cpu a e
-answers_at (Some (Tick k)) m cpu a e = tt
-answers_at (Some (Rebuild parts)) m cpu a e = tt
-
--- ---- turns
-pub at_position : (m : MachineState) (lane : ℕ) → IsReady m → IsAtPosition m lane (course_at m.courses lane)
-    → HasPosition m (course_at m.courses lane)
-at_position m lane r k = record {
-  turn = record { version = k.0.taken_up; turned = (r.fits lane).says.turned };
-  inside = k.0.inside (course_at m.courses lane).position k.1;
-}
-
-pub turn_in : (m : MachineState) (lane : ℕ) (f : Form) → IsReady m → (course_at m.courses lane).form ≡ f
-    → TurnIn f m lane (course_at m.courses lane)
-turn_in m lane f r e = subst (λ (g : Form). TurnIn g m lane (course_at m.courses lane)) e (r.turns lane)
-
-pub has_turn : (m : MachineState) (lane : ℕ) → IsReady m → (course_at m.courses lane).form ≡ Used → HasTurn m (course_at m.courses lane)
-has_turn m lane r e = record { version = turn_in m lane Used r e; turned = (r.fits lane).says.turned }
-
-pub scans_turn : (m : MachineState) (lane : ℕ) → IsReady m → (course_at m.courses lane).form ≡ ScanDue
-    → HasTurn m (course_at m.courses lane)
-scans_turn m lane r e =
-    let c = course_at m.courses lane in
-    record { version = subst (λ (g : Form). ScansIn g m c.version c.masks) e (r.scans lane); turned = (r.fits lane).says.turned }
-
-pub scan_fits : (m : MachineState) (lane : ℕ) → IsReady m → (course_at m.courses lane).form ≡ ScanDue
-    → FitsForm m.ended m.header ScanDue (unnamed (course_at m.courses lane))
-scan_fits m lane r e = subst (λ (g : Form). FitsForm m.ended m.header g (unnamed (course_at m.courses lane))) e (r.fits lane).form
 
 -- ---- what the calls ask
 turn_with : (m : MachineState) (lane cpu : ℕ) (b : Bool) (ps : Mask)
@@ -232,3 +217,40 @@ again_asks serial looks m lane r live lt e h =
     let may = may_come serial m lane LandedForm r live lt e refl (λ a. absurd (let y : ⊥ = cc in y)) in
     again_with m lane (cpu_next LandedForm m (course_at m.courses lane)) _ _ _ h
     (looks m x r (unbroken m x may Stage) (unbroken m x may Figure))
+
+-- ---- over the course of the lane
+of_lane : (m : MachineState) (lane : ℕ) (c : Course) (f : Form) → c ≡ course_at m.courses lane → c.form ≡ f
+    → (course_at m.courses lane).form ≡ f
+of_lane m lane c f e i = ap (λ (k : Course). k.form) (sym e) ∙ i
+
+pub drawn_there : TasksStand → (m : MachineState) (lane cpu : ℕ) (c : Course) → IsReady m
+    → c ≡ course_at m.courses lane → cpu ≡ cpu_next c.form m c → cpu < length m.queues
+drawn_there stand m lane cpu c r e i =
+    subst (λ (n : ℕ). n < length m.queues) (sym (i ∙ ap (λ (k : Course). cpu_next k.form m k) e))
+    (queue_there stand m lane (course_at m.courses lane).form r refl)
+
+pub opening_asks : NextIsSerial → CallsMayBeTried → (m : MachineState) (lane cpu : ℕ) (c : Course) → IsReady m
+    → m.ended ≡ false → lane < length m.courses → c ≡ course_at m.courses lane → cpu ≡ cpu_next c.form m c → c.form ≡ Used →
+    TurnAsks (bare m c (queue_at m.queues cpu))
+opening_asks serial tried m lane cpu c r live lt e i f =
+    let n : cpu ≡ cpu_next Used m (course_at m.courses lane) =
+    i ∙ ap (λ (g : Form). cpu_next g m c) f ∙ ap (λ (k : Course). cpu_next Used m k) e in
+    subst (λ (k : Course). TurnAsks (bare m k (queue_at m.queues cpu))) (sym e)
+    (subst (λ (k : ℕ). TurnAsks (bare m (course_at m.courses lane) (queue_at m.queues k))) (sym n)
+    (turn_asks serial tried m lane r live lt (of_lane m lane c Used e f)))
+
+pub looking_asks : NextIsSerial → LooksMayBeDecided → (m : MachineState) (lane : ℕ) (c : Course) → IsReady m
+    → m.ended ≡ false → lane < length m.courses → c ≡ course_at m.courses lane → c.form ≡ Position →
+    DecideAsks (named_sight m c (newest_due c.form m c))
+looking_asks serial looks m lane c r live lt e f =
+    let i = of_lane m lane c Position e f in
+    subst (λ (k : Course). DecideAsks (named_sight m k (newest_due k.form m k))) (sym e)
+    (subst (λ (g : Form). DecideAsks (named_sight m (course_at m.courses lane)
+    (newest_due g m (course_at m.courses lane)))) (sym i) (look_asks serial looks m lane r live lt i))
+
+pub landed_asks : NextIsSerial → LooksMayBeDecided → (m : MachineState) (lane : ℕ) (c : Course) → IsReady m
+    → m.ended ≡ false → lane < length m.courses → c ≡ course_at m.courses lane → c.form ≡ LandedForm →
+    looks_again m.header c ≡ true → DecideAsks (named_sight m c (newest_due LandedForm m c))
+landed_asks serial looks m lane c r live lt e f =
+    subst (λ (k : Course). looks_again m.header k ≡ true → DecideAsks (named_sight m k (newest_due LandedForm m k)))
+    (sym e) (again_asks serial looks m lane r live lt (of_lane m lane c LandedForm e f))

@@ -7,7 +7,6 @@ ghost use Rattle.lb_ready.specs.Calls.{DecideAsks};
 ghost use Rattle.lb_ready.specs.Next.{look_over, newest_due, scan_over, what_by};
 ghost use Rattle.lb_ready.specs.Ready.{IsReady};
 ghost use Rattle.lb_turn.specs.Turns.{HasDue};
-ghost use Rattle.lb_queue.specs.Queue.{QueueState};
 ghost use Rattle.lb_core.specs.Course.{looks_again};
 ghost use Rattle.std.specs.Prelude.{true};
 
@@ -75,7 +74,7 @@ pub(crate) fn scan(alloc: Global, parts: &Parts, course: &Course) -> Result<What
     requires scan { course.now.form ≡ form.ScanDue }
     requires turn { HasTurn parts.now.machine course.now }
     requires due { HasDue form.ScanDue parts.now.machine.header course.now }
-    ensures { IfOk result (λ what. (q : QueueState) → what ≡ what_by form.ScanDue parts.now.machine course.now q) }
+    ensures { IfOk result (λ what. what ≡ scan_over parts.now.machine (newest_due form.ScanDue parts.now.machine course.now)) }
 {
     let figures = newest_due(alloc, parts, course)?;
     let target = target_among(parts, figures.as_slice());

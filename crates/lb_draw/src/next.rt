@@ -5,31 +5,18 @@ ghost use Rattle.lb_core.specs.declared.course.Form.TheVariants as form;
 ghost use Rattle.lb_core.specs.declared.entry.Entry.{Entry};
 ghost use Rattle.lb_core.specs.Elsewhere.{is_rest};
 ghost use Rattle.lb_core.specs.Machine.{course_at};
-ghost use Rattle.lb_ready.specs.Next.{
-  IsSerialNext,
-  at_rest,
-  cpu_next,
-  drawn,
-  drawn_if,
-  is_answerable,
-  may_take,
-  next_entry,
-  next_in,
-  owner_of,
-  row_by,
-  what_next,
-};
+ghost use Rattle.lb_ready.specs.Next.{IsSerialNext, at_rest, cpu_next, drawn, is_answerable, may_take, next_entry, next_in, owner_of, what_next};
 ghost use Rattle.lb_draw.specs.Dues.{entry_due};
 ghost use Rattle.lb_ready.specs.Ready.{IsReady};
 ghost use Rattle.lb_trace.specs.declared.trace.Row.{Row};
 
 use crate::looks::{landed, look, scan};
 use crate::owners::{cpu_next, is_answerable, owner_of};
-use crate::queues::{answer, closing, landing, looked, opening, serving};
+use crate::queues::{answer, closing, looked, opening, serving};
 use lb_base::NoMemory;
 use lb_core::{Course, Entry, Form, Owner, What};
 use lb_course::turn_kind;
-use lb_due::{all_rest, ask_due, is_undeclared, kick_due, ticked_elsewhere};
+use lb_due::{all_rest, ask_due, ids_in_hand, is_undeclared, kick_due, ticked_elsewhere};
 use lb_parts::Parts;
 use lb_ready::laws::{calls_may_be_made, next_entries};
 use lb_trace::Row;
@@ -51,21 +38,36 @@ pub fn next_entry(
     requires few { parts.now.machine.ticket < 2 ^ 40 }
     requires lane { lane < length parts.now.machine.courses }
     requires own { IfSome row (λ r. r.now.lane ≡ lane) }
-    ensures value { IfOk result (λ drawn. drawn ≡ next_entry parts.now.machine lane (option_map (λ r. r.now) row)) }
-    ensures drawn { IfOk result (λ drawn. IfSome drawn (λ e. IsSerialNext parts.now.machine lane (option_map (λ r. r.now) row) e)) }
-    ensures all { IfOk result (λ drawn. (e : Entry) → IsSerialNext parts.now.machine lane (option_map (λ r. r.now) row) e → drawn ≡ Some e) }
+    ensures value { IfOk result (λ drawn. drawn ≡ next_entry parts.now.machine lane (option_map (λ r. r.now) row.entry)) }
+    ensures drawn { IfOk result (λ drawn. IfSome drawn (λ e. IsSerialNext parts.now.machine lane (option_map (λ r. r.now) row.entry) e)) }
+    ensures all { IfOk result (λ drawn. (e : Entry) → IsSerialNext parts.now.machine lane (option_map (λ r. r.now) row.entry) e → drawn ≡ Some e) }
 {
     // what comes next by its definition is the one serial entry
     next_entries();
+    next_of(alloc, parts, lane, row)
+}
+
+// By the definition.
+fn next_of(
+    alloc: Global,
+    parts: &Parts,
+    lane: u32,
+    row: Option<&Row>,
+) -> Result<Option<Entry>, NoMemory>
+    requires ready { IsReady parts.now.machine }
+    requires few { parts.now.machine.ticket < 2 ^ 40 }
+    requires lane { lane < length parts.now.machine.courses }
+    ensures { IfOk result (λ drawn. drawn ≡ next_entry parts.now.machine lane (option_map (λ r. r.now) row.entry)) }
+{
     if parts.has_ended() {
         return Ok(None);
     }
-    if parts.course(lane).form != Form::Rest {
-        return at_work(alloc, parts, lane);
-    }
-    match row {
-        Some(row) => taking(alloc, parts, lane, row),
-        None => ending(alloc, parts, lane),
+    match parts.course(lane).form {
+        Form::Rest => match row {
+            Some(row) => taking(alloc, parts, lane, row),
+            None => ending(alloc, parts, lane),
+        },
+        _ => at_work(alloc, parts, lane),
     }
 }
 
@@ -183,7 +185,9 @@ fn what_next(
     match course.form {
         Form::Rest => closing(alloc, parts, course, cpu),
         Form::Asked => answer(alloc, parts, course, cpu),
-        Form::Flight => landing(alloc, course),
+        Form::Flight => Ok(What::Landed {
+            ids: ids_in_hand(alloc, course)?,
+        }),
         Form::Serving => serving(alloc, parts, course, cpu),
         Form::Due => Ok(What::Adopt {
             version: parts.version(),

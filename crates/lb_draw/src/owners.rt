@@ -1,7 +1,6 @@
 //! Whose the next entry of a lane is, and whether its command may be answered.
-ghost use Rattle.std.specs.Prelude.{◌≡◌, ◌<◌, length};
+ghost use Rattle.std.specs.Prelude.{◌≡◌, ◌<◌};
 ghost use Rattle.lb_core.specs.Course.{task_of};
-ghost use Rattle.lb_core.specs.Machine.{course_at};
 ghost use Rattle.lb_ready.specs.Ready.{IsReady, Names};
 ghost use Rattle.lb_ready.specs.Next.{cpu_next, cpu_of_task, cpu_open, is_answerable, owner_of};
 

@@ -2,8 +2,7 @@
 ghost use Rattle.std.specs.Prelude.{◌≡◌, ◌<◌, ◌^◌, IfOk, length};
 ghost use Rattle.lb_core.specs.declared.course.Form.TheVariants as form;
 ghost use Rattle.lb_core.specs.Leaving.{out_by};
-ghost use Rattle.lb_core.specs.Machine.{MachineState, queue_at};
-ghost use Rattle.lb_queue.specs.Queue.{QueueState};
+ghost use Rattle.lb_core.specs.Machine.{queue_at};
 ghost use Rattle.lb_due.specs.Replies.{AnswersAt};
 ghost use Rattle.lb_due.specs.Turns.{HasPosition, HasTurn, PullsAt};
 ghost use Rattle.lb_ready.specs.Calls.{TurnAsks};
@@ -14,8 +13,8 @@ use lb_base::{Kind, NoMemory};
 use lb_core::{Course, What};
 use lb_course::{is_pull, is_rebuild, ticked_cpu};
 use lb_due::{
-    counters_due, first_pending, has_owed, ids_in_hand, leaves_instead, out_of_queue, push_is_due,
-    reply_due, turn_due, unserved, word_due,
+    counters_due, first_pending, has_owed, leaves_instead, out_of_queue, push_is_due, reply_due,
+    turn_due, unserved, word_due,
 };
 use lb_parts::Parts;
 use lb_queue::TurnReply;
@@ -83,15 +82,6 @@ pub(crate) fn answer(
     }
     Ok(What::Did {
         reply: reply_due(parts, &course.command),
-    })
-}
-
-/// The tasks of the hand land.
-pub(crate) fn landing(alloc: Global, course: &Course) -> Result<What, NoMemory>
-    ensures { IfOk result (λ what. (m : Machine) (q : QueueState) → what ≡ what_by form.Flight m course.now q) }
-{
-    Ok(What::Landed {
-        ids: ids_in_hand(alloc, course)?,
     })
 }
 

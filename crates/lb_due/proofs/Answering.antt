@@ -1,5 +1,5 @@
 -- What a queue replies to the command of a lane, by the place of the task that the command is about.
-use Rattle.std.proofs.Common.{arith, ◌≡◌, ℕ, ℤ, ◌<◌, ◌||◌, Bool, true, false, not, cond, length, Option, Some, None, is_some, refl, sym, ◌∙◌, ap, subst}
+use Rattle.std.proofs.Common.{◌≡◌, ℕ, ℤ, ◌<◌, ◌||◌, Bool, true, false, not, cond, length, Option, Some, None, is_some, refl, sym, ap, subst}
 use Rattle.lb_base.specs.declared.mask.Mask.{Mask}
 use Rattle.lb_base.specs.Sets.{is_empty, is_below}
 use Rattle.lb_queue.specs.declared.awake.Awake.{Awake}
@@ -16,7 +16,7 @@ use Rattle.lb_core.specs.declared.place.Place.TheVariants.{Awake as AwakeAt, Asl
 use Rattle.lb_core.specs.Machine.{MachineState, queue_at, place_at}
 use Rattle.lb_core.specs.QueueAfter.{answer_to}
 use Rattle.lb_ready.specs.Ready.{IsReady, Names}
-use Rattle.lb_ready.specs.Calls.{IsOn, IsOnAt}
+use Rattle.lb_ready.specs.Calls.{IsOnAt}
 use Rattle.lb_ready.specs.Laws.{TasksStand}
 use Rattle.lb_ready.specs.Next.{cpu_of_place}
 use Rattle.lb_due.specs.Replies.{AnswersAt, done_unless_gone}

@@ -1,5 +1,5 @@
 -- The ids of the tasks that leave by a wake and by a stop request.
-use Rattle.std.proofs.Common.{not, ◌||◌, arith, ◌≡◌, ℕ, ◌==◌, Bool, true, false, cond, Option, Some, None, List, [], ◌∷◌, find, refl, sym, ◌∙◌, ap, map}
+use Rattle.std.proofs.Common.{◌≡◌, ℕ, ◌==◌, Bool, true, false, cond, Option, Some, None, List, [], ◌∷◌, refl, ◌∙◌, ap}
 use Rattle.std.proofs.lemmas.Bool.{eqb-true}
 use Rattle.lb_queue.specs.declared.awake.Awake.{Awake}
 use Rattle.lb_queue.specs.declared.record.TaskRecord.{TaskRecord}
@@ -11,22 +11,12 @@ use Rattle.lb_queue.specs.declared.answers.OutCause.TheVariants.{Wake as WakeOut
 use Rattle.lb_pelt.specs.declared.Run.TheVariants.{Running, Waiting}
 use Rattle.lb_trace.specs.declared.trace.Command.{Command}
 use Rattle.lb_trace.specs.declared.trace.Command.TheVariants.{Wake}
-use Rattle.lb_queue.specs.declared.answers.OutCause.{OutCause}
 use Rattle.lb_queue.specs.Requests.{next_stop}
 use Rattle.lb_trace.specs.declared.trace.Header.{Header}
 use Rattle.lb_core.specs.declared.course.Course.{Course}
 use Rattle.lb_core.specs.declared.course.Form.{Form}
 use Rattle.lb_core.specs.declared.course.Form.TheVariants.{Serving}
-use Rattle.lb_core.specs.declared.entry.Entry.{Entry}
-use Rattle.lb_core.specs.declared.entry.What.{What}
-use Rattle.lb_core.specs.declared.entry.What.TheVariants.{Out as SaysOut}
-use Rattle.lb_core.specs.declared.rule.Rule.TheVariants.{Pick}
-use Rattle.lb_core.specs.Same.{same_cause, same_numbers}
-use Rattle.lb_core.specs.Rules.{is_other_out, breaks_pick}
-use Rattle.lb_core.specs.Machine.{MachineState, course_at, owned_queue, sight}
-use Rattle.lb_core.specs.Step.{breaks}
-use Rattle.lb_due.specs.declared.leaving.Out.{Out}
-use Rattle.lb_core.specs.Leaving.{Leaving, leaving, out_by, wake_out, stop_out}
+use Rattle.lb_core.specs.Leaving.{out_by, wake_out, stop_out}
 use Rattle.lb_due.specs.Outs.{out_due}
 use Rattle.lb_queue.proofs.Counts.{found}
 
@@ -74,24 +64,3 @@ stop_is o q at s list e g l = let i = stop_ids q at s.id s.to g in rw (e, i, l) 
 pub served_stop : (f : Form) (h : Header) (c : Course) (q : QueueState) (s : Stop) → f ≡ Serving
     → Some s ≡ next_stop q true → out_by f h c q ≡ stop_out (next_stop q true) c.at q
 served_stop f h c q s i e = rw (i, ← e) refl
-
--- whether another `out` is said than the one that is due
-pub other_than : (o : Option Leaving) (due : Out) (cause : OutCause) (to : ℕ) (list : List ℕ) → Some due ≡ out_due o →
-    is_other_out o cause to list ≡ (not (same_cause cause due.cause) || not (to == due.to) || not (same_numbers list due.ids))
-other_than None due cause to list e = absurd (let y : ⊥ = cc in y)
-other_than (Some l) due cause to list e =
-    let d : due ≡ record { cause = l.cause; to = l.to; ids = ids l.hand } = cc in
-    sym (ap (λ (x : Out). not (same_cause cause x.cause) || not (to == x.to) || not (same_numbers list x.ids)) d)
-
-or_false : (b : Bool) → (b || false) ≡ b
-or_false true = refl
-or_false false = refl
-
-pub pick_breaks : (m : MachineState) (e : Entry) (due : Out) (cause : OutCause) (to : ℕ) (list : List ℕ) → e.what ≡ SaysOut cause to list →
-    Some due ≡ out_due (out_by (course_at m.courses e.lane).form m.header (course_at m.courses e.lane) (owned_queue e.owner m)) →
-    breaks m e Pick ≡ (not (same_cause cause due.cause) || not (to == due.to) || not (same_numbers list due.ids))
-unfolding sight leaving
-pick_breaks m e due cause to list i o =
-    or_false (breaks_pick (sight m e) e.what) ∙ ap (λ (w : What). breaks_pick (sight m e) w) i
-    ∙ other_than (out_by (course_at m.courses e.lane).form m.header (course_at m.courses e.lane)
-    (owned_queue e.owner m)) due cause to list o

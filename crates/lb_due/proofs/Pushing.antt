@@ -10,7 +10,7 @@ use Rattle.lb_queue.specs.declared.answers.OutCause.TheVariants.{Push as PushOut
 use Rattle.lb_queue.specs.declared.awake.Awake.{Awake}
 use Rattle.lb_queue.specs.Tasks.{ids, awake_with}
 use Rattle.lb_queue.specs.Queue.{QueueState, clock_at}
-use Rattle.lb_queue.specs.Hands.{leaves_awake, awake_named, pushed, take_push}
+use Rattle.lb_queue.specs.Hands.{leaves_awake, pushed, take_push}
 use Rattle.lb_queue.specs.Values.{view_at, views}
 use Rattle.lb_queue.proofs.Counts.{found}
 use Rattle.lb_core.specs.Leaving.{push_out}

@@ -1,7 +1,7 @@
 -- What the rules after `stage` may take for granted of an entry's owner.
-use Rattle.std.specs.Prelude.{ℕ, ◌<◌, Bool, true, false, length}
+use Rattle.std.specs.Prelude.{◌<◌, length}
 use Rattle.lb_core.specs.declared.entry.Owner.{Owner}
-use Rattle.lb_core.specs.declared.entry.Owner.TheVariants.{Publisher, Lane, Queue}
+use Rattle.lb_core.specs.declared.entry.Owner.TheVariants.{Queue}
 use Rattle.lb_core.specs.Machine.{MachineState}
 
 -- it is the queue of a CPU of the machine

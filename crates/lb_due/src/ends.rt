@@ -1,6 +1,5 @@
 //! The CPUs whose active request nobody served.
 ghost use Rattle.std.specs.Prelude.{◌≡◌};
-ghost use Rattle.lb_core.specs.declared.rule.Rule.TheVariants as rule;
 ghost use Rattle.lb_core.specs.Elsewhere.{unserved};
 ghost use Rattle.lb_ready.specs.Ready.{IsReady};
 

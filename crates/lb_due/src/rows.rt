@@ -3,7 +3,6 @@ ghost use Rattle.std.specs.Prelude.{◌≡◌, ◌≤◌, ◌+◌, false};
 ghost use Rattle.std.specs.List.{list_all};
 ghost use Rattle.lb_base.specs.declared.mask.TheConstants.{MAX_CPUS};
 ghost use Rattle.lb_base.specs.Sets.{is_below, are_disjoint, are_apart};
-ghost use Rattle.lb_core.specs.declared.rule.Rule.TheVariants as rule;
 ghost use Rattle.lb_core.specs.declared.entry.What.TheVariants as what;
 ghost use Rattle.lb_core.specs.Rules.{is_undeclared};
 ghost use Rattle.lb_core.specs.Elsewhere.{ticked_elsewhere};

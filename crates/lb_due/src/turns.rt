@@ -2,7 +2,6 @@
 ghost use Rattle.std.specs.Prelude.{◌≡◌, [], false, is_some, unwrap_or};
 ghost use Rattle.lb_imbalance.specs.Decision.{decision};
 ghost use Rattle.lb_queue.specs.Turns.{opens, counters_at, turn_kind as kind_of_open};
-ghost use Rattle.lb_core.specs.declared.rule.Rule.TheVariants as rule;
 ghost use Rattle.lb_core.specs.Course.{env_of, looks_again, outcome_of, turn_domain, turn_domains, shapes_of, turn_kind};
 ghost use Rattle.lb_core.specs.Rules.{closed_counters, figures_due, positions_due, word_of};
 ghost use Rattle.lb_core.specs.Sight.{Sight};

@@ -1,6 +1,6 @@
 use Rattle.std.proofs.Common.{sym, ◌∙◌, ap, Bool, not, ◌&&◌}
 use Rattle.lb_base.specs.Mask.{has}
-use Rattle.lb_base.proofs.Sets.{below_is, apart_is}
+use Rattle.lb_base.proofs.Sets.{below_is}
 use Rattle.lb_due.proofs.Lists.{same_unless}
 use Rattle.lb_due.proofs.rows.is_in.Goals as goal
 

@@ -1,0 +1,37 @@
+//! The rule `row`: the next number, and what is declared.
+ghost use Rattle.std.specs.Prelude.{◌≡◌, ◌==◌, ◌+◌, false};
+ghost use Rattle.lb_core.specs.declared.rule.Rule.TheVariants as rule;
+ghost use Rattle.lb_core.specs.Step.{breaks};
+ghost use Rattle.lb_ready.specs.Ready.{IsReady};
+
+use lb_core::{Entry, What};
+use lb_due::{is_undeclared, ticked_elsewhere};
+use lb_parts::Parts;
+
+/// Whether the entry breaks the rule `row`.
+#[tactic(auto, unfolding(lb_core::specs::Machine::sight))]
+pub(crate) fn breaks_row(parts: &Parts, entry: &Entry) -> bool
+    requires ready { IsReady parts.now.machine }
+    requires stage { breaks parts.now.machine entry.now rule.Stage ≡ false }
+    ensures { result ≡ breaks parts.now.machine entry.now rule.Row }
+{
+    match &entry.what {
+        What::Row {
+            number,
+            at: _,
+            command,
+        } => {
+            !is_next(*number, parts.course(entry.lane).rows)
+                || is_undeclared(parts, command)
+                || ticked_elsewhere(parts, entry.lane, command)
+        }
+        _ => false,
+    }
+}
+
+/// Whether a number is the next one after another.
+pub(crate) fn is_next(number: u64, last: u64) -> bool
+    ensures { result ≡ (number == last + 1) }
+{
+    number > 0 && number - 1 == last
+}
