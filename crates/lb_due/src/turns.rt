@@ -1,7 +1,7 @@
 //! What the turn of a course fixes: its positions, and how one of them ends.
 ghost use Rattle.std.specs.Prelude.{◌≡◌, [], false, is_some, unwrap_or};
 ghost use Rattle.lb_imbalance.specs.Decision.{decision};
-ghost use Rattle.lb_queue.specs.Turns.{opens, counters_at, turn_kind as kind_of_open};
+ghost use Rattle.lb_queue.specs.Turns.{opens, counters_at, open_kind};
 ghost use Rattle.lb_core.specs.Course.{env_of, looks_again, outcome_of, turn_domain, turn_domains, shapes_of, turn_kind};
 ghost use Rattle.lb_core.specs.Rules.{closed_counters, figures_due, positions_due, word_of};
 ghost use Rattle.lb_core.specs.Sight.{Sight};
@@ -117,7 +117,7 @@ fn counters_of(queue: &Queue, position: u32) -> Counters
 
 // The kind of the open turn; a tick's where none is open.
 fn kind_of_turn(queue: &Queue) -> Kind
-    ensures { result ≡ kind_of_open queue.now.state.open_turn }
+    ensures { result ≡ open_kind queue.now.state.open_turn }
 {
     match queue.open_turn() {
         Some(turn) => turn.kind,

@@ -1,7 +1,6 @@
 -- Whether another `out` is said than the one that is due.
 use Rattle.std.proofs.Common.{not, ◌||◌, ◌≡◌, ℕ, ◌==◌, Bool, true, false, Option, Some, None, List, refl, sym, ◌∙◌, ap}
 use Rattle.lb_queue.specs.Tasks.{ids}
-use Rattle.lb_queue.specs.Hands.{leave}
 use Rattle.lb_queue.specs.declared.answers.OutCause.{OutCause}
 use Rattle.lb_core.specs.declared.entry.Entry.{Entry}
 use Rattle.lb_core.specs.declared.entry.What.{What}

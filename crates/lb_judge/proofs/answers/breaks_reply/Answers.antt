@@ -1,4 +1,4 @@
-use Rattle.std.proofs.Common.{◌≡◌, refl, sym, ◌∙◌, ap, ◌==◌, ◌+◌, ℕ, Bool, not, true, false}
+use Rattle.std.proofs.Common.{◌≡◌, refl, sym, ◌∙◌, ap, ◌==◌, ◌+◌, ℕ, Bool, not, false}
 use denote.Enum.Bare.{sameb}
 use Rattle.lb_queue.specs.contracts.answers.Reply.{the_type}
 use Rattle.lb_queue.specs.declared.answers.Reply.{Reply}

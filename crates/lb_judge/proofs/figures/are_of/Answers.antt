@@ -1,4 +1,4 @@
-use Rattle.std.proofs.Common.{◌≡◌, Bool, true, false, not, refl, List, ℕ, [], map, sym, ◌∙◌, ap, is_some}
+use Rattle.std.proofs.Common.{◌≡◌, Bool, true, false, not, refl, List, map, sym, ◌∙◌, ap, is_some}
 use Rattle.std.proofs.lemmas.Bool.{not-true, not-false}
 use Rattle.std.proofs.lemmas.List.{drop_all}
 use Rattle.lb_base.proofs.Walks.{stands}
