@@ -2,11 +2,13 @@
 -- row it is of the lane that serves it; and from the last row on it is of lane 0. So each draw leads from
 -- where the run stands to where it stands then.
 use Rattle.std.proofs.Common.{◌≡◌, ℕ, suc, ◌+◌, ◌-◌, ◌<◌, Bool, true, false, Option, Some, None, List, [], ◌∷◌, ◌++◌, length, drop, slice_get, refl, sym, ◌∙◌, ap, subst, inl, inr, arith, add-one, drop-cons, get_or-set_other, length-set, length-append}
+use Rattle.std.specs.Prelude.{option_to_list}
 use Rattle.std.proofs.lemmas.Bool.{cases_eq}
 use Rattle.std.proofs.lemmas.Option.{get_or_from_slice_get}
 use Rattle.lb_trace.specs.declared.trace.Header.{Header}
 use Rattle.lb_trace.specs.declared.trace.Row.{Row}
 use Rattle.lb_trace.specs.declared.trace.Trace.{Trace}
+use Rattle.lb_trace.specs.Accepted.{is_row, IsTrace}
 use Rattle.lb_core.specs.declared.course.Course.{Course}
 use Rattle.lb_core.specs.declared.course.Form.{Form}
 use Rattle.lb_core.specs.declared.course.Form.TheVariants.{Rest}
@@ -19,10 +21,11 @@ use Rattle.lb_core.specs.Elsewhere.{is_rest}
 use Rattle.lb_core.specs.Machine.{MachineState, no_course, sight}
 use Rattle.lb_core.specs.Step.{after, ended_after}
 use Rattle.lb_core.specs.OfTrace.{row_of, rows_drawn}
+use Rattle.lb_core.proofs.Headers.{all_index}
 use Rattle.lb_core.proofs.Placing.{lane_there, form_lets}
 use Rattle.lb_core.proofs.AtWork.{clash, RestRows, OneAtWork, works, comes_at_rest}
 use Rattle.lb_ready.specs.Laws.{is_at_rest, OthersRest}
-use Rattle.lb_state.specs.Drawn.{IsDrawn}
+use Rattle.lb_ready.specs.Next.{Takes, IsSerialNext}
 use Rattle.lb_serial.specs.declared.run.Run.{Run}
 use Rattle.lb_serial.specs.Fronts.{with_entry, most_entries, IsAtRest, IsServing, IsClosing}
 use Rattle.lb_serial.proofs.Next.{Next, next}
@@ -57,6 +60,18 @@ stays_there m e lane lt = let k = length-set m.courses e.lane (course_after (sig
 all_rest : (m : MachineState) (lane : ℕ) → is_at_rest m lane ≡ true → OthersRest m lane → (l : ℕ) → is_at_rest m l ≡ true
 all_rest m lane r others l = elim (cases_eq l lane) [ inl e ↦ rw e r | inr n ↦ others l n ]
 
+-- ---- the row that a lane at rest takes up
+takes_it : (f : Form) (row : Option Row) (lane : ℕ) (w : What) → (is_rest f ≡ true → row_of w lane ≡ option_to_list row)
+    → Takes f row lane w
+takes_it Rest row lane w k = k refl
+takes_it f row lane w k = tt
+
+-- the rows of an accepted trace are accepted
+pub accepts : (t : Trace) (i : ℕ) (r : Row) → IsTrace t → slice_get t.rows i ≡ Some r → i < length t.rows
+    → is_row t.header r ≡ true
+accepts t i r k e lt = subst (λ (x : Row). is_row t.header x ≡ true) (get_or_from_slice_get t.rows i r r e)
+    (all_index (is_row t.header) t.rows k.rows i r lt)
+
 -- ---- what a draw does
 -- fewer entries are left than before
 abbrev pub FewerLeft : Trace → Run → Run → Type 0
@@ -69,13 +84,13 @@ fewer_left t old e lt = let n = length-append old.history.entries (e ∷ []) in 
 pub record Draw (t : Trace) (lane : ℕ) (row : Option Row) (Then : Run → Type 0) (old : Run) : Type 0 where
   pub entry : Entry
   pub there : lane < length old.state.courses
-  pub drawn : IsDrawn old.state lane row entry
+  pub drawn : IsSerialNext old.state lane row entry
   pub stands : Then (with_entry old entry)
   pub fewer : FewerLeft t old (with_entry old entry)
 
 -- so it stands with the run that a draw leaves
 pub after_draw : (t : Trace) (lane : ℕ) (row : Option Row) (Then : Run → Type 0) (old new : Run) → Draw t lane row Then old
-    → ((e : Entry) → IsDrawn old.state lane row e → new ≡ with_entry old e) → Then new × FewerLeft t old new
+    → ((e : Entry) → IsSerialNext old.state lane row e → new ≡ with_entry old e) → Then new × FewerLeft t old new
 after_draw t lane row Then old new w drawn =
     let same = drawn w.entry w.drawn in
     (subst Then (sym same) w.stands, subst (λ (r : Run). FewerLeft t old r) (sym same) w.fewer)
@@ -109,7 +124,7 @@ takes_up t r rs old k =
         own = w.0;
         may = n.may;
         serial = n.serial;
-        offered = λ _. subst (λ (l : ℕ). row_of e.what l ≡ r ∷ []) w.0 w.1;
+        takes = takes_it _ (Some r) r.lane e.what (λ _. subst (λ (l : ℕ). row_of e.what l ≡ r ∷ []) w.0 w.1);
       };
       stands = record {
         front = n.front rs w.2;
@@ -144,7 +159,7 @@ serves_on t lane rows old k busy =
     record {
       entry = e;
       there = k.there;
-      drawn = record { own = own; may = n.may; serial = n.serial; offered = λ r. clash _ r busy };
+      drawn = record { own = own; may = n.may; serial = n.serial; takes = takes_it _ None lane e.what (λ r. clash _ r busy) };
       stands = record {
         front = n.front rows (subst (λ (xs : List Row). xs ++ rows_drawn n.later ≡ rows) w.0 n.to_come);
         live = w.1 old.state.ended ∙ k.live;
@@ -175,7 +190,7 @@ closes_on t old k live =
     record {
       entry = e;
       there = subst (λ (l : ℕ). l < length old.state.courses) own (lane_there old.state e n.may);
-      drawn = record { own = own; may = n.may; serial = n.serial; offered = λ _. subst (λ (l : ℕ). row_of e.what l ≡ []) own w.0 };
+      drawn = record { own = own; may = n.may; serial = n.serial; takes = takes_it _ None 0 e.what (λ _. subst (λ (l : ℕ). row_of e.what l ≡ []) own w.0) };
       stands = record { front = n.front [] w.1; others = others_stay old.state e 0 own k.others };
       fewer = fewer_left t old e n.fewer;
     }

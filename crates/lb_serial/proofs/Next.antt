@@ -1,6 +1,7 @@
 -- The entry of the serial history that comes next after a front of it, where the history has not ended;
 -- and that a front which has ended it is all of it.
 use Rattle.std.proofs.Common.{◌≡◌, ◌<◌, true, false, List, [], ◌∷◌, ◌++◌, length, sym, ◌∙◌, ap, subst, arith, append_assoc, append-nil, length-append}
+use Rattle.lb_trace.specs.declared.trace.Header.{Header}
 use Rattle.lb_trace.specs.declared.trace.Row.{Row}
 use Rattle.lb_trace.specs.declared.trace.Trace.{Trace}
 use Rattle.lb_core.specs.declared.entry.Entry.{Entry}
@@ -17,6 +18,11 @@ use Rattle.lb_serial.specs.Fronts.{with_entry, most_entries, IsWhole, IsFront}
 serial_after : (es fs : List Entry) (m : MachineState) → AreSerial (es ++ fs) m → AreSerial fs (run es m)
 serial_after [] fs m s = s
 serial_after (e ∷ es) fs m s = serial_after es fs (after m e) s.1
+
+-- a step leaves the header
+same_header : (m : MachineState) (e : Entry) (h : Header) → m.header ≡ h → (after m e).header ≡ h
+unfolding after
+same_header m e h k = k
 
 -- the next entry: it may be added, and is serial; with it, what was drawn is a front again
 pub record Next (t : Trace) (rows : List Row) (r : Run) : Type 0 where
@@ -55,6 +61,7 @@ next t rows r f live = by_later f.later f.whole f.to_come
                 (sym (append_assoc r.history.entries (e ∷ []) es)) w;
             leaves = run-append r.history.entries (e ∷ []) (start r.history.header)
                 ∙ ap (λ (m : MachineState). after m e) f.leaves;
+            header = same_header r.state e t.header f.header;
             to_come = k;
           };
           fewer = let n = length-append r.history.entries (e ∷ es) in let k = w.few in omega arith;

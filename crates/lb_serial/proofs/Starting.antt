@@ -26,6 +26,7 @@ starts runs ends t accepted r is =
           few = ends t h accepted s.of_trace;
         };
         leaves = refl;
+        header = refl;
         to_come = s.file_order;
       };
       live = refl;

@@ -39,6 +39,7 @@ pub record IsFront (t : Trace) (rows : List Row) (r : Run) : Type 0 where
   pub later : List Entry
   pub whole : IsWhole t r.history.header (r.history.entries ++ later)
   pub leaves : run r.history.entries (start r.history.header) ≡ r.state
+  pub header : r.state.header ≡ t.header
   pub to_come : rows_drawn later ≡ rows
 
 -- no row is in service

@@ -1,9 +1,9 @@
 //! The entries that were drawn so far, and the state that they leave.
-ghost use Rattle.std.specs.Prelude.{◌≡◌, ◌<◌, ◌+◌, [], drop, length, IfOk, OnOk, option_copied};
-ghost use Rattle.lb_trace.specs.Accepted.{IsHeader};
+ghost use Rattle.std.specs.Prelude.{◌≡◌, ◌<◌, ◌+◌, [], drop, length, true, IfOk, IfSome, OnOk, option_copied};
+ghost use Rattle.lb_trace.specs.Accepted.{IsHeader, IsTrace, is_row};
 ghost use Rattle.lb_core.specs.declared.entry.Entry.{Entry};
-ghost use Rattle.lb_ready.specs.Laws.{OthersRest, is_at_rest};
-ghost use Rattle.lb_state.specs.Drawn.{IsDrawn};
+ghost use Rattle.lb_ready.specs.Laws.{is_at_rest};
+ghost use Rattle.lb_ready.specs.Next.{IsSerialNext};
 
 use lb_base::{Items, NoMemory};
 use lb_core::{Form, History};
@@ -35,12 +35,12 @@ impl Run {
         })
     }
 
-    /// The lane draws its next entry; at rest it takes up this row, if one is given. The other lanes
-    /// rest.
+    /// The lane draws its next entry; at rest it takes up this row, if one is given.
     pub fn draw(&mut self, alloc: Global, lane: u32, row: Option<&Row>) -> Result<(), NoMemory>
         requires lane { lane < length self.old.state.courses }
-        requires others { OthersRest self.old.state lane }
-        ensures { (e : Entry) → IsDrawn self.old.state lane (option_copied row.entry) e
+        requires own { IfSome row (λ r. r.now.lane ≡ lane) }
+        requires accepted { IfSome row (λ r. is_row self.old.state.header r.now ≡ true) }
+        ensures { (e : Entry) → IsSerialNext self.old.state lane (option_copied row.entry) e
             → OnOk result (self.new ≡ with_entry self.old e) }
     {
         match self.state.draw(alloc, lane, row)? {
@@ -59,6 +59,7 @@ impl Run {
 
     // Serves the row of the trace at this place, from 0: its lane takes it up, and goes on until it rests.
     fn serve(&mut self, alloc: Global, trace: &Trace, place: usize) -> Result<(), NoMemory>
+        requires trace { IsTrace trace.now }
         requires place { place < length trace.now.rows }
         requires rest { IsAtRest trace.now (drop place trace.now.rows) self.old }
         ensures { OnOk result (IsAtRest trace.now (drop (place + 1) trace.now.rows) self.new) }
@@ -74,7 +75,8 @@ impl Run {
 
     /// Serves the rows of the trace in file order, each to its end.
     pub fn serve_rows(&mut self, alloc: Global, trace: &Trace) -> Result<(), NoMemory>
-        requires { IsAtRest trace.now trace.now.rows self.old }
+        requires trace { IsTrace trace.now }
+        requires rest { IsAtRest trace.now trace.now.rows self.old }
         ensures { OnOk result (IsAtRest trace.now [] self.new) }
     {
         for place in 0..trace.rows.len() {

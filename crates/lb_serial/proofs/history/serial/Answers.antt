@@ -4,8 +4,8 @@ use Rattle.lb_serial.proofs.Draws.{after_draw, closes_on}
 use Rattle.lb_serial.proofs.Starting.{starts}
 use Rattle.lb_serial.proofs.history.serial.Goals as goal
 
-pub serve_rows-requires : goal.serve_rows-requires
-serve_rows-requires c = starts c.serial_runs.ensures.traces c.histories_end.ensures c.args.trace.now c.requires
+pub serve_rows-requires-clause-rest : goal.serve_rows-requires-clause-rest
+serve_rows-requires-clause-rest c = starts c.serial_runs.ensures.traces c.histories_end.ensures c.args.trace.now c.requires
     c.in_ok-run.run' c.in_ok-run.ensures
 
 pub draw-requires-clause-lane : goal.draw-requires-clause-lane

@@ -1,10 +1,19 @@
-use Rattle.std.proofs.Common.{sym, ◌∙◌}
-use Rattle.lb_serial.proofs.Draws.{after_draw, takes_up_at, serves_on}
+use Rattle.std.proofs.Common.{◌≡◌, true, sym, ◌∙◌, subst}
+use Rattle.lb_trace.specs.declared.trace.Header.{Header}
+use Rattle.lb_trace.specs.declared.trace.Row.{Row}
+use Rattle.lb_trace.specs.Accepted.{is_row}
+use Rattle.lb_serial.proofs.Draws.{accepts, after_draw, takes_up_at, serves_on}
 use Rattle.lb_serial.proofs.run.Run.serve.Goals as goal
 
 pub draw-requires-clause-lane : goal.draw-requires-clause-lane
 draw-requires-clause-lane c = (takes_up_at c.args.trace.now c.args.place c.get-row.result.now c.args.self.now
     c.get-row.ensures c.requires.place c.requires.rest).there
+
+pub draw-requires-clause-accepted : goal.draw-requires-clause-accepted
+draw-requires-clause-accepted c =
+    let row : Row = c.get-row.result.now in
+    subst (λ (h : Header). is_row h row ≡ true) (sym c.requires.rest.front.header)
+    (accepts c.args.trace.now c.args.place row c.requires.trace c.get-row.ensures c.requires.place)
 
 pub loop-alloc-init : goal.loop-alloc-init
 loop-alloc-init c =
