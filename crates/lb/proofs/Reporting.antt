@@ -5,7 +5,7 @@ use Rattle.lb_trace.specs.declared.trace.Code.{Code}
 use Rattle.lb_trace.specs.declared.trace.Trace.{Trace}
 use Rattle.lb.specs.declared.status.Status.{Status}
 use Rattle.lb.specs.declared.status.Status.TheVariants as status
-use Rattle.lb.specs.declared.words.Work.{Work}
+use Rattle.lb_trace.specs.Grammar.{reading_of}
 use Rattle.lb.specs.Answers.{Stream, Invocation, IsUntouched, Works, Told, Tells, Reports, Answers, Completes}
 
 told : (s : Status) (c : Invocation) (error : Stream) → Works s c → Told s error → Answers s c error
@@ -35,15 +35,16 @@ reported was now c error w r =
     ]
 
 -- a text that is refused is not accepted too
-refused_or : (left : Option (List ℕ)) (text : List ℕ) (work other : Work) (t : Trace) (x : _) → left ≡ Some text → input_of work text ≡ Ok t → Some work ≡ Some other → IfSome left (λ text. input_of other text ≡ Err x) → ⊥
-refused_or None text work other t x is read same bad = cc
-refused_or (Some bytes) text work other t x is read same bad = cc
+refused_or : (left : Option (List ℕ)) (text : List ℕ) (t : Trace) (x : _) → left ≡ Some text → reading_of text ≡ Ok t
+    → IfSome left (λ text. reading_of text ≡ Err x) → ⊥
+refused_or None text t x is read bad = cc
+refused_or (Some bytes) text t x is read bad = cc
 
 pub completes : (s : Status) (c : Invocation) (error : Stream) → Answers s c error → Completes s c error
 completes status.Done c error w work text t words left read r1 r2 r3 = inl refl
 completes status.ReadFault c error w work text t words left read r1 r2 r3 = absurd (r1 w.0.0.2)
 completes status.Usage c error w work text t words left read r1 r2 r3 = absurd (cc)
 completes (status.Refused line code) c error w work text t words left read r1 r2 r3 =
-    absurd (refused_or c.source.before text work w.0.0.0 t (line, code) left read (sym words ∙ w.0.0.1) w.0.0.2)
+    absurd (refused_or c.source.before text t (line, code) left read w.0.0.2)
 completes status.WriteFault c error w work text t words left read r1 r2 r3 = absurd (elim w [ inl p ↦ r2 p.0.0 | inr p ↦ r3 p.2.2 ])
 completes status.NoMemory c error w work text t words left read r1 r2 r3 = inr refl
