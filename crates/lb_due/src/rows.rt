@@ -38,7 +38,7 @@ fn are_in(masks: &[Mask], cpus: u32) -> bool
     masks.iter().all(|mask| is_in(*mask, cpus))
 }
 
-// Whether a mask has CPUs of a machine of so many alone.
+/// Whether a mask has CPUs of a machine of so many alone.
 pub fn is_in(mask: Mask, cpus: u32) -> bool
     requires { cpus ≤ MAX_CPUS }
     ensures { result ≡ is_below mask cpus }

@@ -68,7 +68,7 @@ pub fn turn_due(parts: &Parts, course: &Course, queue: &Queue) -> TurnReply
     )
 }
 
-// The positions of the turn that is due, where no turn is open.
+/// The positions of the turn that is due, where no turn is open.
 pub fn positions_due(parts: &Parts, course: &Course, queue: &Queue) -> Mask
     requires turn { HasTurn parts.now.machine course.now }
     requires asks { TurnAsks (bare parts.now.machine course.now queue.now.state) }

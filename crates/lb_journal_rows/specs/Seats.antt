@@ -24,7 +24,6 @@ woken_header = one_cpu 2 (task (pos 0) 0 1 ∷ [])
 abbrev pub woken_trace : Trace
 woken_trace = record {
   header = woken_header;
-  has_parts = false;
   rows = record { lane = 1; at = 5; command = Wake 0 } ∷ [];
 }
 
