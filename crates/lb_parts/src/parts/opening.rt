@@ -10,8 +10,9 @@ ghost use Rattle.lb_core.specs.Course.{opening_course};
 ghost use Rattle.lb_core.specs.Machine.{opening_queue};
 
 use super::Parts;
-use lb_base::{Buffer, Fig, Items, Mask, NoMemory};
-use lb_core::{Course, Form, Numbers, Place};
+use lb_base::{Buffer, Fig, Items, NoMemory};
+use lb_core::{Course, Place};
+use lb_course::opening_course;
 use lb_domain::Topology;
 use lb_levels::Machine;
 use lb_queue::{Hand, Queue};
@@ -92,14 +93,6 @@ fn opening_figures(alloc: Global, queues: &[Queue]) -> Result<Vec<Buffer<Fig>>, 
     Ok(figures)
 }
 
-// So many zeros.
-fn zeros(alloc: Global, count: usize) -> Result<Numbers, NoMemory>
-    ensures { IfOk result (λ list. list ≡ replicate count 0) }
-{
-    let numbers = vec![in alloc; 0; count]?;
-    Ok(Items::from_slice(alloc, &numbers)?)
-}
-
 // No lane has drawn an entry.
 fn no_tickets(alloc: Global, lanes: usize) -> Result<Vec<u64>, NoMemory>
     ensures { IfOk result (λ list. list.items ≡ replicate lanes 0) }
@@ -112,40 +105,6 @@ fn unticked(alloc: Global, cpus: usize) -> Result<Vec<Option<u32>>, NoMemory>
     ensures { IfOk result (λ list. list.items ≡ replicate cpus None) }
 {
     Ok(vec![in alloc; None; cpus]?)
-}
-
-// The course of a lane that has drawn nothing.
-fn opening_course(alloc: Global, cpus: usize) -> Result<Course, NoMemory>
-    ensures { IfOk result (λ c. c ≡ opening_course cpus) }
-{
-    let named = zeros(alloc, cpus)?;
-    Ok(Course {
-        form: Form::Rest,
-        rows: 0,
-        at: 0,
-        command: None,
-        cause: None,
-        to: 0,
-        moment: 0,
-        hand: Items::new(alloc),
-        version: 0,
-        masks: Items::new(alloc),
-        cpu: 0,
-        kind: None,
-        positions: Mask::none(),
-        position: 0,
-        counters: Items::new(alloc),
-        excluded: Mask::none(),
-        decision: None,
-        idle: false,
-        took: 0,
-        taken: None,
-        awake: 0,
-        pushed: false,
-        figures: Items::new(alloc),
-        named_version: 0,
-        named,
-    })
 }
 
 // The courses before any entry.
