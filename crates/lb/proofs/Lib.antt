@@ -1,3 +1,4 @@
 pub mod TooLong
+pub mod Ending
 pub mod Reporting
 pub mod Headlines

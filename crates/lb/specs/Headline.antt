@@ -1,7 +1,7 @@
 -- The headline: what the program wrote is the text of the one serial history of its trace, which is
 -- legal and holds each lane's rows with their replies; after each entry of it every task stands where it
--- may, and each look of it takes exactly what the rules pick.
-use Rattle.std.specs.Prelude.{ℕ, ◌≡◌, true, List, ◌∷◌, ◌++◌, take}
+-- may, and each look of it takes exactly what the rules pick; and the bytes read as this history alone.
+use Rattle.std.specs.Prelude.{ℕ, ◌≡◌, true, List, ◌∷◌, ◌++◌, take, Ok, IfSome}
 use Rattle.std.specs.Io.KnownBytes.{IsAtEnd}
 use Rattle.lb_core.specs.declared.entry.Entry.{Entry}
 use Rattle.lb_core.specs.declared.history.History.{History}
@@ -15,8 +15,12 @@ use Rattle.lb_core.specs.Replies.{ReplyAt}
 use Rattle.lb_core.specs.Passes.{PassAt}
 use Rattle.lb_core.specs.Serial.{IsSerialHistory}
 use Rattle.lb_trace.specs.declared.trace.Trace.{Trace}
-use Rattle.lb_record.specs.History.{history_text}
-use Rattle.lb.specs.Answers.{Invocation, OfTrace, Took}
+use Rattle.lb_trace.specs.Grammar.{reading_of}
+use Rattle.lb_record.specs.History.{text_of}
+use Rattle.lb_read.specs.declared.written.Read.{Read}
+use Rattle.lb_read.specs.Whole.{ReadsAs}
+use Rattle.lb_read.specs.Written.{as_read}
+use Rattle.lb.specs.Invocation.{Invocation, Took}
 
 -- the serial history of a trace
 pub record IsTheHistory (t : Trace) (h : History) : Type 0 where
@@ -36,7 +40,13 @@ pub record IsTheHistory (t : Trace) (h : History) : Type 0 where
   pub permitted : (n : ℕ) → IsPermitted (run (take n h.entries) (start h.header))
   -- each look takes exactly what the rules pick
   pub passes : (before later : List Entry) (e : Entry) → h.entries ≡ before ++ e ∷ later → PassAt h.header before e later e.what
+  -- its text reads as it, with the places of its entries as tickets
+  pub reads : ReadsAs (text_of h) (as_read h)
+  -- and as nothing else
+  pub only : (read : Read) → ReadsAs (text_of h) read → read ≡ as_read h
 
 -- the source was read to its end, and the out sink took the text of the history of its trace
 abbrev pub Headline : Invocation → Type 0
-Headline c = IsAtEnd c.source.after × OfTrace c (λ t. (h : History) × IsTheHistory t h × Took c.out (history_text h.header h.entries))
+Headline c =
+    IsAtEnd c.source.after
+    × IfSome c.source.before (λ text. (t : Trace) × (reading_of text ≡ Ok t) × ((h : History) × IsTheHistory t h × Took c.out (text_of h)))

@@ -1,3 +1,5 @@
-pub mod Words
+pub mod Invocation
+pub mod Works
 pub mod Answers
 pub mod Headline
+pub mod Stops

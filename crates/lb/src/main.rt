@@ -6,7 +6,7 @@ ghost use Rattle.std.specs.Prelude.{◌≡◌, ◌⊎◌, IfErr};
 mod once;
 mod status;
 mod top;
-mod words;
+mod works;
 
 use lb_io::{OpenGate, ReadSource, WriteSink};
 use status::{Status, report};

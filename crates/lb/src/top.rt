@@ -1,11 +1,13 @@
-ghost use Rattle.std.specs.Prelude.{◌≡◌, map, Some, string_bytes};
-ghost use Rattle.lb.specs.Words.{work_of};
-ghost use Rattle.lb.specs.Answers.{stream_of, invocation_of, Answers, Completes};
+ghost use Rattle.std.specs.Prelude.{◌≡◌, map, false, Some, string_bytes};
+ghost use Rattle.lb_words.specs.declared.work.Work.TheVariants.{Step};
+ghost use Rattle.lb_words.specs.Words.{work_of};
+ghost use Rattle.lb.specs.Invocation.{stream_of, invocation_of};
+ghost use Rattle.lb.specs.Works.{reads_source};
+ghost use Rattle.lb.specs.Answers.{Answers, Completes};
 ghost use Rattle.lb.specs.Headline.{Headline};
 
 use crate::once::once;
 use crate::status::Status;
-use crate::words::Work;
 use lb_io::{Gate, Sink, Source};
 use std::alloc::Global;
 use std::sync::Wait;
@@ -27,8 +29,9 @@ pub fn top<R: Threads + Wait + Sync, S: Source, O: Sink, E: Sink, G: Gate>(
     ensures completes { Completes result
         (invocation_of (map string_bytes words.now) (stream_of S.left S.faults src.old src.new) (stream_of O.taken O.faults out.old out.new))
         (stream_of E.taken E.faults err.old err.new) }
-    ensures headline { result ≡ Status.Done → work_of (map string_bytes words.now) ≡ Some Work.Step → Headline
+    ensures headline { result ≡ Status.Done → work_of (map string_bytes words.now) ≡ Some Step → Headline
         (invocation_of (map string_bytes words.now) (stream_of S.left S.faults src.old src.new) (stream_of O.taken O.faults out.old out.new)) }
+    ensures unread { reads_source (work_of (map string_bytes words.now)) ≡ false → src.new ≡ src.old }
 {
     once(alloc, words, src, out, err)
 }

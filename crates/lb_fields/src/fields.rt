@@ -1,7 +1,7 @@
 ghost use Rattle.std.specs.Prelude.{◌≡◌, ◌≢◌, [], ◌∷◌, ◌++◌, ℕ, List, true, OnOk};
 ghost use Rattle.csv.specs.Reading.{strip_bom};
 ghost use Rattle.csv.specs.Records.{fields_of};
-ghost use Rattle.lb_fields.specs.Parts.{parts, is_plain};
+ghost use Rattle.lb_fields.specs.Pieces.{pieces, is_plain};
 ghost use Rattle.lb_fields.specs.Standing.{Stands};
 
 use csv::{ByteRecord, Reader, ReaderBuilder, Terminator};
@@ -15,7 +15,7 @@ use std::alloc::Global;
 /// reader has the whole text before it wherever the first line is plain.
 pub fn start<'a>(alloc: Global, text: &'a [u8]) -> Reader<&'a [u8]>
     ensures unmarked { strip_bom text.now ≡ text.now → Stands result text.now }
-    ensures plain { (line : List ℕ) (lines : List (List ℕ)) → parts LINE_FEED text.now ≡ line ∷ lines
+    ensures plain { (line : List ℕ) (lines : List (List ℕ)) → pieces LINE_FEED text.now ≡ line ∷ lines
         → is_plain line ≡ true → Stands result text.now }
 {
     ReaderBuilder::new()
@@ -26,7 +26,7 @@ pub fn start<'a>(alloc: Global, text: &'a [u8]) -> Reader<&'a [u8]>
         .from_reader(alloc, text)
 }
 
-/// Reads the fields of the next line into `row`: the parts of the line between its commas, one more
+/// Reads the fields of the next line into `row`: the pieces of the line between its commas, one more
 /// than it has commas, of which some may be empty. The reader then stands at the start of the line
 /// after it.
 ///
@@ -42,7 +42,7 @@ pub fn next_fields(
     requires full { line.now ≢ [] }
     requires plain { is_plain line.now ≡ true }
     ensures { (tail : List ℕ) → Stands reader.old (line.now ++ LINE_FEED ∷ tail)
-        → OnOk result ((fields_of row.new ≡ parts COMMA line.now) × Stands reader.new tail) }
+        → OnOk result ((fields_of row.new ≡ pieces COMMA line.now) × Stands reader.new tail) }
 {
     match reader.read_byte_record(row) {
         Ok(_) => Ok(()),

@@ -6,5 +6,5 @@ mod fields;
 mod plain;
 
 pub use fields::{next_fields, start};
-pub use lb_text::Parts;
+pub use lb_text::Pieces;
 pub use plain::is_plain;

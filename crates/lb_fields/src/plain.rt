@@ -1,5 +1,5 @@
 ghost use Rattle.std.specs.Prelude.{◌≡◌};
-ghost use Rattle.lb_fields.specs.Parts.{is_plain};
+ghost use Rattle.lb_fields.specs.Pieces.{is_plain};
 
 use lb_text::{COMMA, MINUS, SEMICOLON};
 

@@ -15,7 +15,7 @@ use Rattle.std.proofs.lemmas.List.Splits.{slice_split_none, slice_split_at}
 use Rattle.std.proofs.lemmas.Fmt.{length-decimal-le}
 use Rattle.std.specs.Str.Parse.{starts_with_minus}
 use Rattle.lb_trace.specs.Accepted.{is_nice_value}
-use Rattle.lb_fields.specs.Parts.{is_plain_byte, is_plain}
+use Rattle.lb_fields.specs.Pieces.{is_plain_byte, is_plain}
 use Rattle.lb_text.proofs.Digits.{decimal_digits}
 use Rattle.lb_generator.specs.Text.{commas, line_of, lines_text}
 

@@ -1,7 +1,7 @@
 -- A line of fields that is good is read.
 use Rattle.std.proofs.Common.{◌≡◌, ℕ, true, false, eqb, List, [], ◌∷◌, ◌++◌, Some, Ok, refl, ap}
 use Rattle.std.specs.List.{list_all, slice_split}
-use Rattle.lb_fields.specs.Parts.{is_plain}
+use Rattle.lb_fields.specs.Pieces.{is_plain}
 use Rattle.lb_trace.specs.declared.kind.LineKind.{LineKind}
 use Rattle.lb_trace.specs.declared.reading.Reading.{Reading}
 use Rattle.lb_trace.specs.Kinds.{line_kind}

@@ -10,9 +10,9 @@ pub record IsWriteCount {E : Type 0} (result : Result ℕ E) (piece : List ℕ) 
   pub least : IfOk result (λ n. 0 < length piece → 0 < n)
 
 -- the sink took the first bytes, or none, and nothing else
-abbrev pub AppendsFront : Option (List ℕ) → Option (List ℕ) → List ℕ → Type 0
-AppendsFront old new bytes = (n : ℕ) × Appends old new (take n bytes)
+abbrev pub AppendsPrefix : Option (List ℕ) → Option (List ℕ) → List ℕ → Type 0
+AppendsPrefix old new bytes = (n : ℕ) × Appends old new (take n bytes)
 
 -- the source gave some of its first bytes, or none
-abbrev pub ConsumesFront : Option (List ℕ) → Option (List ℕ) → Type 0
-ConsumesFront old new = (front : List ℕ) × Consumes old new front
+abbrev pub ConsumesPrefix : Option (List ℕ) → Option (List ℕ) → Type 0
+ConsumesPrefix old new = (prefix : List ℕ) × Consumes old new prefix

@@ -33,7 +33,7 @@ pub trait Sink {
     /// The number of faults so far. A call that does not fail leaves it.
     ghost faults: { Self → ℕ };
 
-    /// Takes a front of `bytes`, and answers its length: at least 1 for a piece that is not empty.
+    /// Takes a prefix of `bytes`, and answers its length: at least 1 for a piece that is not empty.
     /// After `Failed` nothing was taken.
     fn write(&mut self, bytes: &[u8]) -> Result<usize, Failed>
         ensures bound { IsWriteCount result bytes.now }

@@ -1,7 +1,7 @@
 ghost use Rattle.std.specs.Prelude.{◌≡◌, ℕ, ◌<◌, ◌≤◌, ◌^◌, List, length, IfOk, OnErr, OnOk, IfSome, IsErrOf};
 ghost use Rattle.std.specs.Io.KnownBytes.{Appends, Consumes, IsAtEnd};
 ghost use Rattle.lb_io.specs.Faults.{CountsFaults, Rose};
-ghost use Rattle.lb_io.specs.Moved.{AppendsFront, ConsumesFront};
+ghost use Rattle.lb_io.specs.Moved.{AppendsPrefix, ConsumesPrefix};
 
 use crate::stream::{Failed, Sink, Source};
 use std::alloc::Global;
@@ -27,7 +27,7 @@ pub fn read_all<S: Source>(alloc: Global, src: &mut S, max: u64) -> Result<Vec<u
     ensures all { IfOk result (λ v. Consumes (S.left src.old) (S.left src.new) v.items) }
     ensures end { OnOk result (IsAtEnd (S.left src.new)) }
     ensures within { IfOk result (λ v. length v.items ≤ max) }
-    ensures refused { OnErr result (ConsumesFront (S.left src.old) (S.left src.new)) }
+    ensures refused { OnErr result (ConsumesPrefix (S.left src.old) (S.left src.new)) }
 
     ensures too_long { IsErrOf result ReadError.TooLong → IfSome (S.left src.old) (λ bytes. max < length bytes) }
     ensures counts { S.faults src.old ≤ S.faults src.new }
@@ -53,10 +53,10 @@ pub fn read_all<S: Source>(alloc: Global, src: &mut S, max: u64) -> Result<Vec<u
 }
 
 /// Writes all of `bytes`, in as many calls as the sink asks for. It takes no memory. After `Failed`
-/// the sink took a front of them.
+/// the sink took a prefix of them.
 pub fn write_all<O: Sink>(out: &mut O, bytes: &[u8]) -> Result<(), Failed>
     ensures all { OnOk result (Appends (O.taken out.old) (O.taken out.new) bytes.now) }
-    ensures refused { OnErr result (AppendsFront (O.taken out.old) (O.taken out.new) bytes.now) }
+    ensures refused { OnErr result (AppendsPrefix (O.taken out.old) (O.taken out.new) bytes.now) }
     ensures cause { CountsFaults (O.faults out.old) (O.faults out.new) result }
 {
     let mut done = 0;

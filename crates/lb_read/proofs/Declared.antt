@@ -10,7 +10,7 @@ use Rattle.std.proofs.Common.{length-append}
 use Rattle.csv.specs.Records.{field_at}
 use Rattle.lb_base.specs.declared.mask.Mask.{Mask}
 use Rattle.lb_base.specs.Sets.{is_empty, is_below, are_disjoint}
-use Rattle.lb_fields.specs.Parts.{is_plain}
+use Rattle.lb_fields.specs.Pieces.{is_plain}
 use Rattle.lb_levels.specs.declared.cpu_row.CpuRow.{CpuRow}
 use Rattle.lb_levels.specs.Rows.{no_row, cpu_clashes, is_bad_distance, is_nested, IsSquare}
 use Rattle.lb_levels.specs.Faults.{nodes_of, ArePartition}
@@ -147,7 +147,7 @@ stand_from clashes d done (x ∷ xs) each =
     let item = get_or (done ++ x ∷ xs) (length done) d in
     let here : clashes done x ≡ false =
     ap (clashes done) (sym (get_or-append_seam done x xs d))
-    ∙ ap (λ front. clashes front item) (sym (take_at done (x ∷ xs) (length done) refl)) ∙ at in (
+    ∙ ap (λ head. clashes head item) (sym (take_at done (x ∷ xs) (length done) refl)) ∙ at in (
       here,
       stand_from clashes d (done ++ x ∷ []) xs
           (subst (λ (ys : List _). (k : ℕ) → k < length ys → clashes (take k ys) (get_or ys k d) ≡ false)

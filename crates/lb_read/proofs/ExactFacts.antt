@@ -12,27 +12,27 @@ use Rattle.std.proofs.lemmas.Option.{same_Some}
 use Rattle.lb_read.specs.Exact.{take_field, next_to, ending, if_none_left, whole, each, split_at, named, IsExact, TakesExactly}
 
 -- ---- options
-pub map_parts : {A B : Type 0} (f : A → B) (o : Option A) (b : B) → option_map f o ≡ Some b → (a : A) × (o ≡ Some a) × (f a ≡ b)
-map_parts f None b e = absurd (cc)
-map_parts f (Some a) b e = (a, refl, same_Some (f a) b e)
+pub map_pieces : {A B : Type 0} (f : A → B) (o : Option A) (b : B) → option_map f o ≡ Some b → (a : A) × (o ≡ Some a) × (f a ≡ b)
+map_pieces f None b e = absurd (cc)
+map_pieces f (Some a) b e = (a, refl, same_Some (f a) b e)
 
-pub bind_parts : {A B : Type 0} (f : A → Option B) (o : Option A) (b : B) → option_and_then f o ≡ Some b
+pub bind_pieces : {A B : Type 0} (f : A → Option B) (o : Option A) (b : B) → option_and_then f o ≡ Some b
     → (a : A) × (o ≡ Some a) × (f a ≡ Some b)
-bind_parts f None b e = absurd (cc)
-bind_parts f (Some a) b e = (a, refl, e)
+bind_pieces f None b e = absurd (cc)
+bind_pieces f (Some a) b e = (a, refl, e)
 
 pub both_true : (a b : Bool) → (a && b) ≡ true → (a ≡ true) × (b ≡ true)
 both_true true b e = (refl, e)
 both_true false b e = absurd (cc)
 
--- ---- fronts
+-- ---- heads
 one_sound : {A : Type 0} (read : List ℕ → Option A) (write : A → List ℕ) (fits : A → Bool) → IsExact read write fits
     → (fields : List (List ℕ)) (a : A) (rest : List (List ℕ)) → take_field read fields ≡ Some (a, rest)
     → (fields ≡ (write a ∷ []) ++ rest) × (fits a ≡ true)
 unfolding take_field
 one_sound read write fits x [] a rest e = absurd (cc)
 one_sound read write fits x (field ∷ fields) a rest e =
-    let m = map_parts (λ v. (v, fields)) (read field) (a, rest) e in
+    let m = map_pieces (λ v. (v, fields)) (read field) (a, rest) e in
     let is : m.0 ≡ a = ap (λ p. p.0) m.2 in
     let left : fields ≡ rest = ap (λ p. p.1) m.2 in
     let s = x.sound field a (m.1 ∙ ap Some is) in
@@ -51,8 +51,8 @@ next_to_sound : {A B : Type 0} (s : List (List ℕ) → Option (A × List (List 
     → (fields : List (List ℕ)) (p : A × B) (rest : List (List ℕ)) → next_to s t fields ≡ Some (p, rest)
     → (fields ≡ (v p.0 ++ w p.1) ++ rest) × ((f p.0 && g p.1) ≡ true)
 next_to_sound s t v w f g x y fields p rest e =
-    let a = bind_parts (λ a. option_map (λ b. ((a.0, b.0), b.1)) (t a.1)) (s fields) (p, rest) e in
-    let b = map_parts (λ b. ((a.0.0, b.0), b.1)) (t a.0.1) (p, rest) a.2 in
+    let a = bind_pieces (λ a. option_map (λ b. ((a.0, b.0), b.1)) (t a.1)) (s fields) (p, rest) e in
+    let b = map_pieces (λ b. ((a.0.0, b.0), b.1)) (t a.0.1) (p, rest) a.2 in
     let first_is : a.0.0 ≡ p.0 = ap (λ q. q.0.0) b.2 in
     let second_is : b.0.0 ≡ p.1 = ap (λ q. q.0.1) b.2 in
     let left_is : b.0.1 ≡ rest = ap (λ q. q.1) b.2 in
@@ -78,7 +78,7 @@ next_to_exact s t v w f g x y = record { sound = next_to_sound s t v w f g x y; 
 -- ---- all fields
 whole_sound : {A : Type 0} (s : List (List ℕ) → Option (A × List (List ℕ))) (v : A → List (List ℕ)) (f : A → Bool)
     → TakesExactly s v f
-    → (fields : List (List ℕ)) (a : A) (front : A × List (List ℕ)) → s fields ≡ Some front → if_none_left front.0 front.1 ≡ Some a
+    → (fields : List (List ℕ)) (a : A) (head : A × List (List ℕ)) → s fields ≡ Some head → if_none_left head.0 head.1 ≡ Some a
     → (fields ≡ v a) × (f a ≡ true)
 whole_sound s v f x fields a (b, []) e h =
     let r = x.sound fields a [] (e ∙ ap (λ q. Some (q, [])) (same_Some b a h)) in
@@ -89,7 +89,7 @@ pub whole_exact : {A : Type 0} (s : List (List ℕ) → Option (A × List (List 
     → TakesExactly s v f
     → IsExact (whole s) v f
 whole_exact s v f x = record {
-  sound = λ fields a e. let p = bind_parts (λ q. if_none_left q.0 q.1) (s fields) a e in whole_sound s v f x fields a p.0 p.1 p.2;
+  sound = λ fields a e. let p = bind_pieces (λ q. if_none_left q.0 q.1) (s fields) a e in whole_sound s v f x fields a p.0 p.1 p.2;
   complete = λ a h. ap (whole s) (sym (append-nil (v a))) ∙ ap (option_and_then (λ q. if_none_left q.0 q.1)) (x.complete a [] h);
 }
 
@@ -97,8 +97,8 @@ ending_sound : {A B : Type 0} (s : List (List ℕ) → Option (A × List (List �
     (v : A → List (List ℕ)) (w : B → List (List ℕ)) (f : A → Bool) (g : B → Bool) → TakesExactly s v f → IsExact t w g
     → (fields : List (List ℕ)) (p : A × B) → ending s t fields ≡ Some p → (fields ≡ v p.0 ++ w p.1) × ((f p.0 && g p.1) ≡ true)
 ending_sound s t v w f g x y fields p e =
-    let a = bind_parts (λ a. option_map (λ b. (a.0, b)) (t a.1)) (s fields) p e in
-    let b = map_parts (λ b. (a.0.0, b)) (t a.0.1) p a.2 in
+    let a = bind_pieces (λ a. option_map (λ b. (a.0, b)) (t a.1)) (s fields) p e in
+    let b = map_pieces (λ b. (a.0.0, b)) (t a.0.1) p a.2 in
     let first_is : a.0.0 ≡ p.0 = ap (λ q. q.0) b.2 in
     let second_is : b.0 ≡ p.1 = ap (λ q. q.1) b.2 in
     let one = x.sound fields p.0 a.0.1 (a.1 ∙ ap (λ q. Some (q, a.0.1)) first_is) in
@@ -120,20 +120,20 @@ pub mapped_sound : {X A B : Type 0} (read : X → Option A) (write : A → X) (f
     → IsExact read write fits → ((a : A) → out (make a) ≡ write a) → ((a : A) → ok (make a) ≡ fits a)
     → (x : X) (b : B) → option_map make (read x) ≡ Some b → (x ≡ out b) × (ok b ≡ true)
 mapped_sound read write fits make out ok e same good x b h =
-    let m = map_parts make (read x) b h in
+    let m = map_pieces make (read x) b h in
     let s = e.sound x m.0 m.1 in
     (s.0 ∙ sym (same m.0) ∙ ap out m.2, sym (ap ok m.2) ∙ good m.0 ∙ s.1)
 
--- ---- each part
+-- ---- each piece
 each_sound : {A : Type 0} (read : List ℕ → Option A) (write : A → List ℕ) (fits : A → Bool) → IsExact read write fits
-    → (parts : List (List ℕ)) (vs : List A) → each read parts ≡ Some vs → (parts ≡ map write vs) × (list_all fits vs ≡ true)
+    → (pieces : List (List ℕ)) (vs : List A) → each read pieces ≡ Some vs → (pieces ≡ map write vs) × (list_all fits vs ≡ true)
 each_sound read write fits x [] vs e = (ap (map write) (same_Some [] vs e), ap (list_all fits) (sym (same_Some [] vs e)))
-each_sound read write fits x (part ∷ parts) vs e =
-    let a = bind_parts (λ a. option_map (λ more. a ∷ more) (each read parts)) (read part) vs e in
-    let m = map_parts (λ more. a.0 ∷ more) (each read parts) vs a.2 in
-    let one = x.sound part a.0 a.1 in
-    let rest = each_sound read write fits x parts m.0 m.1 in (
-      ap (λ f. f ∷ parts) one.0 ∙ ap (λ fs. write a.0 ∷ fs) rest.0 ∙ ap (map write) m.2,
+each_sound read write fits x (piece ∷ pieces) vs e =
+    let a = bind_pieces (λ a. option_map (λ more. a ∷ more) (each read pieces)) (read piece) vs e in
+    let m = map_pieces (λ more. a.0 ∷ more) (each read pieces) vs a.2 in
+    let one = x.sound piece a.0 a.1 in
+    let rest = each_sound read write fits x pieces m.0 m.1 in (
+      ap (λ f. f ∷ pieces) one.0 ∙ ap (λ fs. write a.0 ∷ fs) rest.0 ∙ ap (map write) m.2,
       sym (ap (list_all fits) m.2)
           ∙ rw (one.1, rest.1) refl,
     )
@@ -150,27 +150,27 @@ pub each_exact : {A : Type 0} (read : List ℕ → Option A) (write : A → List
 each_exact read write fits x = record { sound = each_sound read write fits x; complete = each_complete read write fits x }
 
 -- ---- between marks
--- parts that have no mark
+-- pieces that have no mark
 abbrev pub EachFree : ℕ → List (List ℕ) → Type 0
 EachFree mark [] = Unit {0}
-EachFree mark (part ∷ parts) = All (λ b. eqb b mark ≡ false) part × EachFree mark parts
+EachFree mark (piece ∷ pieces) = All (λ b. eqb b mark ≡ false) piece × EachFree mark pieces
 
-pub split_joined : (mark : ℕ) (part : List ℕ) (parts : List (List ℕ)) → EachFree mark (part ∷ parts)
-    → slice_split (λ b. eqb b mark) (join_with_byte mark (part ∷ parts)) ≡ part ∷ parts
-split_joined mark part [] e = slice_split_none (λ b. eqb b mark) part e.0
-split_joined mark part (next ∷ parts) e =
-    slice_split_at (λ b. eqb b mark) part mark (join_with_byte mark (next ∷ parts)) e.0 (eq-eqb mark mark refl)
-    ∙ ap (λ (rest : List (List ℕ)). part ∷ rest) (split_joined mark next parts e.1)
+pub split_joined : (mark : ℕ) (piece : List ℕ) (pieces : List (List ℕ)) → EachFree mark (piece ∷ pieces)
+    → slice_split (λ b. eqb b mark) (join_with_byte mark (piece ∷ pieces)) ≡ piece ∷ pieces
+split_joined mark piece [] e = slice_split_none (λ b. eqb b mark) piece e.0
+split_joined mark piece (next ∷ pieces) e =
+    slice_split_at (λ b. eqb b mark) piece mark (join_with_byte mark (next ∷ pieces)) e.0 (eq-eqb mark mark refl)
+    ∙ ap (λ (rest : List (List ℕ)). piece ∷ rest) (split_joined mark next pieces e.1)
 
--- the parts are some, and none has the mark
+-- the pieces are some, and none has the mark
 abbrev pub CanJoin : ℕ → List (List ℕ) → Type 0
 CanJoin mark [] = ⊥
-CanJoin mark (part ∷ parts) = EachFree mark (part ∷ parts)
+CanJoin mark (piece ∷ pieces) = EachFree mark (piece ∷ pieces)
 
-split_back : (mark : ℕ) (parts : List (List ℕ)) → CanJoin mark parts
-    → slice_split (λ b. eqb b mark) (join_with_byte mark parts) ≡ parts
+split_back : (mark : ℕ) (pieces : List (List ℕ)) → CanJoin mark pieces
+    → slice_split (λ b. eqb b mark) (join_with_byte mark pieces) ≡ pieces
 split_back mark [] c = absurd c
-split_back mark (part ∷ parts) c = split_joined mark part parts c
+split_back mark (piece ∷ pieces) c = split_joined mark piece pieces c
 
 pub split_exact : {A : Type 0} (mark : ℕ) (read : List (List ℕ) → Option A) (write : A → List (List ℕ)) (fits : A → Bool)
     → IsExact read write fits

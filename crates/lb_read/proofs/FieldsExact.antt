@@ -39,7 +39,7 @@ use Rattle.lb_core.specs.Ranges.{is_short, is_long, is_moment, is_figure, are_fi
 use Rattle.lb_read.specs.Fields.{short_in, long_in, moment_in, if_spelled, mask_in, ids_in, figure_from, figure_in, if_rising, figures_in, target_in}
 use Rattle.lb_read.specs.Owners.{lane_from, publisher_from, queue_from, publisher_in, owner_in}
 use Rattle.lb_read.proofs.Common.{is_none_from}
-use Rattle.lb_read.proofs.ExactFacts.{map_parts, bind_parts, both_true, one_exact, next_to_exact, whole_exact, each_exact, EachFree, CanJoin, split_joined, split_exact, mapped_sound}
+use Rattle.lb_read.proofs.ExactFacts.{map_pieces, bind_pieces, both_true, one_exact, next_to_exact, whole_exact, each_exact, EachFree, CanJoin, split_joined, split_exact, mapped_sound}
 
 -- ---- numbers
 number_exact : (most : ℕ) → most < 2 ^ 64 → IsExact (number_of most) decimal (λ n. leb n most)
@@ -94,12 +94,12 @@ nice_sound (b ∷ digits) z e = elim (cases_Bool (eqb b 45)) [
   | inl is ↦
       let five : b ≡ 45 = eqb-true b 45 is in
       let m =
-      map_parts (λ n. neg_ℤ (pos n)) (number_within 1 20 digits) z
+      map_pieces (λ n. neg_ℤ (pos n)) (number_within 1 20 digits) z
       (sym (nice_minus digits) ∙ sym (ap (λ c. nice_of (c ∷ digits)) five) ∙ e) in
       let s = minus_sound digits m.0 z m.1 m.2 in
       (ap (λ c. c ∷ digits) five ∙ s.0, s.1)
   | inr not_is ↦
-      let m = map_parts (λ n. pos n) (number_within 0 19 (b ∷ digits)) z (sym (nice_plain (b ∷ digits) not_is) ∙ e) in
+      let m = map_pieces (λ n. pos n) (number_within 0 19 (b ∷ digits)) z (sym (nice_plain (b ∷ digits) not_is) ∙ e) in
       let s = number_spelled 0 19 m.0 (b ∷ digits) (omega arith) m.1 in
       (s.0 ∙ ap signed_decimal m.2, sym (ap is_nice_value m.2) ∙ le-leb m.0 19 s.2)
 ]
@@ -178,7 +178,7 @@ no_runs = refl
 spelled_sound : (text : List ℕ) (mask : Mask) → option_and_then (if_spelled text) (list_of text) ≡ Some mask
     → (text ≡ list_text mask) × (is_mask mask ≡ true)
 spelled_sound text mask e =
-    let m = bind_parts (if_spelled text) (list_of text) mask e in
+    let m = bind_pieces (if_spelled text) (list_of text) mask e in
     let c = cond_some (bytes_eq (list_text m.0) text) m.0 mask m.2 in
     let fits : m.0.bits < 2 ^ 64 = lists_fit text m.0 m.1 in
     (sym ((bytes_eq-Decides (list_text m.0) text).0 c.0) ∙ ap list_text c.1, sym (ap is_mask c.1) ∙ lt-ltb m.0.bits (2 ^ MAX_CPUS) fits)
@@ -218,8 +218,8 @@ some_parts p text e = let len : length (slice_split p text) ≡ 0 = ap length e 
 each_some_parts : {A : Type 0} (read : List ℕ → Option A) (parts : List (List ℕ)) → each read parts ≡ Some [] → parts ≡ []
 each_some_parts read [] e = refl
 each_some_parts read (part ∷ parts) e =
-    let a = bind_parts (λ a. option_map (λ more. a ∷ more) (each read parts)) (read part) [] e in
-    let m = map_parts (λ more. a.0 ∷ more) (each read parts) [] a.2 in
+    let a = bind_pieces (λ a. option_map (λ more. a ∷ more) (each read parts)) (read part) [] e in
+    let m = map_pieces (λ more. a.0 ∷ more) (each read parts) [] a.2 in
     let not_none : a.0 ∷ m.0 ≡ [] = m.2 in
     absurd (cc)
 
@@ -262,7 +262,7 @@ dash_no_short = refl
 target_sound : (text : List ℕ) (target : Option ℕ) → option_map (λ cpu. Some cpu) (short_in text) ≡ Some target
     → (text ≡ target_text target) × (is_target target ≡ true)
 target_sound text target e =
-    let m = map_parts (λ cpu. Some cpu) (short_in text) target e in
+    let m = map_pieces (λ cpu. Some cpu) (short_in text) target e in
     let s = short_exact.sound text m.0 m.1 in
     (s.0 ∙ ap target_text m.2, sym (ap is_target m.2) ∙ s.1)
 
@@ -321,7 +321,7 @@ figures_sound : (text : List ℕ) (figures : List FigName)
     → option_and_then if_rising (split_at 44 (each figure_in) text) ≡ Some figures
     → (text ≡ figures_text figures) × (are_figures figures ≡ true)
 figures_sound text figures e =
-    let m = bind_parts if_rising (split_at 44 (each figure_in) text) figures e in
+    let m = bind_pieces if_rising (split_at 44 (each figure_in) text) figures e in
     let c = cond_some (cpus_rise m.0) m.0 figures m.2 in
     let found : each figure_in (slice_split (λ b. eqb b 44) text) ≡ Some figures = m.1 ∙ ap Some c.1 in
     let rising : cpus_rise figures ≡ true = sym (ap cpus_rise c.1) ∙ c.0 in
@@ -380,7 +380,7 @@ lane_sound : (rest : List ℕ) (p : Owner × ℕ) → option_map lane_from (shor
     → (76 ∷ rest ≡ owner_of_text p) × (owner_is_good p ≡ true)
 unfolding owner_text owner_fits
 lane_sound rest p e =
-    let m = map_parts lane_from (short_in rest) p e in
+    let m = map_pieces lane_from (short_in rest) p e in
     let s = short_exact.sound rest m.0 m.1 in
     (ap (λ t. 76 ∷ t) s.0 ∙ ap owner_of_text m.2, sym (ap owner_is_good m.2) ∙ self_short m.0 ∙ s.1)
 
@@ -389,7 +389,7 @@ queue_sound : (rest : List ℕ) (p : Owner × ℕ)
     → (81 ∷ rest ≡ owner_of_text p) × (owner_is_good p ≡ true)
 unfolding owner_text owner_fits
 queue_sound rest p e =
-    let m = map_parts queue_from (split_at 64 (whole (next_to (take_field short_in) (take_field short_in))) rest) p e in
+    let m = map_pieces queue_from (split_at 64 (whole (next_to (take_field short_in) (take_field short_in))) rest) p e in
     let s = ends_exact.sound rest m.0 m.1 in
     (ap (λ t. 81 ∷ t) s.0 ∙ ap owner_of_text m.2, sym (ap owner_is_good m.2) ∙ s.1)
 
@@ -399,7 +399,7 @@ unfolding owner_text owner_fits
 publisher_sound [] p e = absurd (none-some p e)
 publisher_sound (mark ∷ lane) p e = elim (cases_Bool (eqb mark 64)) [
   | inl is ↦
-      let m = map_parts publisher_from (short_in lane) p (rw is at e) in
+      let m = map_pieces publisher_from (short_in lane) p (rw is at e) in
       let s = short_exact.sound lane m.0 m.1 in
       (ap (λ c. 80 ∷ c ∷ lane) (eqb-true mark 64 is) ∙ ap (λ t. 80 ∷ 64 ∷ t) s.0 ∙ ap owner_of_text m.2, sym (ap owner_is_good m.2) ∙ s.1)
   | inr not_is ↦ absurd (none-some p (rw not_is at e))

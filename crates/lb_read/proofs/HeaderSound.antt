@@ -82,7 +82,7 @@ distances_push cpus table row =
     ∙ sym (append_assoc (numbered cpu_body 0 cpus) (map distances_body table) (distances_body row ∷ []))
     ∙ ap (λ ls. (numbered cpu_body 0 cpus ++ ls) ++ distances_body row ∷ []) (sym (append-nil (map distances_body table)))
 
--- behind three fronts
+-- behind three heads
 push_three : (a b c d : List (List ℕ)) (x : List ℕ) → a ++ (b ++ (c ++ (d ++ x ∷ []))) ≡ (a ++ (b ++ (c ++ d))) ++ x ∷ []
 push_three a b c d x =
     ap (λ ls. a ++ (b ++ ls)) (sym (append_assoc c d (x ∷ []))) ∙ ap (λ ls. a ++ ls) (sym (append_assoc b (c ++ d) (x ∷ [])))

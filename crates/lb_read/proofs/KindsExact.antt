@@ -53,8 +53,8 @@ use Rattle.lb_read.specs.Exact.{by_word}
 use Rattle.lb_read.specs.Commands.{subject_at, wake_from, sleep_from, exit_from, set_mask_from, nice_from, tick_from, rebuild_from, if_any, masks_in, command_in}
 use Rattle.lb_read.specs.Decisions.{pull_from, decision_in}
 use Rattle.lb_read.specs.Kinds.{row_from, adopt_from, look_from, scan_from, end_from, did_from, out_from, landed_from, turn_from, close_from, ask_from, kick_from, pub_from, what_in}
-use Rattle.lb_read.specs.Entries.{entry_from, origin_front, entry_in, line_in}
-use Rattle.lb_read.proofs.ExactFacts.{map_parts, bind_parts, one_exact, next_to_exact, whole_exact, ending_exact, each_exact, named_sound}
+use Rattle.lb_read.specs.Entries.{entry_from, origin_head, entry_in, line_in}
+use Rattle.lb_read.proofs.ExactFacts.{map_pieces, bind_pieces, one_exact, next_to_exact, whole_exact, ending_exact, each_exact, named_sound}
 use Rattle.lb_read.proofs.FieldsExact.{short_exact, long_exact, moment_exact, nice_exact, mask_exact, ids_exact, figures_exact, target_exact, owner_of_text, owner_is_good, owner_exact, joined_is}
 
 -- ---- words
@@ -186,7 +186,7 @@ kind_sound : {A B : Type 0} (word : List ℕ) (read : List (List ℕ) → Option
     → IsExact read write fits → ((a : A) → out (make a) ≡ word ∷ write a) → ((a : A) → ok (make a) ≡ fits a)
     → (fields : List (List ℕ)) (b : B) → option_map make (read fields) ≡ Some b → (word ∷ fields ≡ out b) × (ok b ≡ true)
 kind_sound word read write fits make out ok e same good fields b h =
-    let m = map_parts make (read fields) b h in
+    let m = map_pieces make (read fields) b h in
     let s = e.sound fields m.0 m.1 in
     (ap (λ f. word ∷ f) s.0 ∙ sym (same m.0) ∙ ap out m.2, sym (ap ok m.2) ∙ good m.0 ∙ s.1)
 
@@ -204,8 +204,8 @@ word_sound : {K A : Type 0} (table : List (List ℕ × K)) (rest : K → List (L
 unfolding take_field
 word_sound table rest word out ok names sound [] a e = absurd (none-some a e)
 word_sound table rest word out ok names sound (w ∷ fields) a e =
-    let k = bind_parts (λ k. rest k.0 k.1) (option_map (λ v. (v, fields)) (named table w)) a e in
-    let m = map_parts (λ v. (v, fields)) (named table w) k.0 k.1 in
+    let k = bind_pieces (λ k. rest k.0 k.1) (option_map (λ v. (v, fields)) (named table w)) a e in
+    let m = map_pieces (λ v. (v, fields)) (named table w) k.0 k.1 in
     let s = sound m.0 fields a (ap (λ p. rest p.0 p.1) m.2 ∙ k.2) in
     (ap (λ v. v ∷ fields) (names w m.0 m.1).0 ∙ s.0, s.1)
 
@@ -284,7 +284,7 @@ masks_complete (m ∷ parts) f =
 
 masks_exact : IsExact masks_in (map list_text) are_parts
 masks_exact = record {
-  sound = λ fields parts e. let m = bind_parts if_any (each mask_in fields) parts e in masks_sound fields m.0 parts m.1 m.2;
+  sound = λ fields parts e. let m = bind_pieces if_any (each mask_in fields) parts e in masks_sound fields m.0 parts m.1 m.2;
   complete = masks_complete;
 }
 
@@ -670,14 +670,14 @@ whats_exact = record {
 }
 
 -- ---- whole lines
-abbrev front_texts : (ℕ × (Owner × ℕ)) × ℕ → List (List ℕ)
-front_texts p = decimal p.0.0 ∷ owner_of_text p.0.1 ∷ decimal p.1 ∷ []
+abbrev head_texts : (ℕ × (Owner × ℕ)) × ℕ → List (List ℕ)
+head_texts p = decimal p.0.0 ∷ owner_of_text p.0.1 ∷ decimal p.1 ∷ []
 
-abbrev front_good : (ℕ × (Owner × ℕ)) × ℕ → Bool
-front_good p = (is_long p.0.0 && owner_is_good p.0.1) && is_long p.1
+abbrev head_good : (ℕ × (Owner × ℕ)) × ℕ → Bool
+head_good p = (is_long p.0.0 && owner_is_good p.0.1) && is_long p.1
 
-front_takes : TakesExactly origin_front front_texts front_good
-front_takes =
+head_takes : TakesExactly origin_head head_texts head_good
+head_takes =
     next_to_exact (next_to (take_field long_in) (take_field owner_in)) (take_field long_in)
     (λ p. decimal p.0 ∷ owner_of_text p.1 ∷ []) (λ n. decimal n ∷ []) (λ p. is_long p.0 && owner_is_good p.1) is_long
     (next_to_exact (take_field long_in) (take_field owner_in) (λ n. decimal n ∷ [])
@@ -685,10 +685,10 @@ front_takes =
     (one_exact long_in decimal is_long long_exact) (one_exact owner_in owner_of_text owner_is_good owner_exact))
     (one_exact long_in decimal is_long long_exact)
 
-parts_exact : IsExact (ending origin_front (by_word what_words what_in)) (λ p. front_texts p.0 ++ what_fields p.1)
-    (λ p. front_good p.0 && what_fits p.1)
+parts_exact : IsExact (ending origin_head (by_word what_words what_in)) (λ p. head_texts p.0 ++ what_fields p.1)
+    (λ p. head_good p.0 && what_fits p.1)
 parts_exact =
-    ending_exact origin_front (by_word what_words what_in) front_texts what_fields front_good what_fits front_takes whats_exact
+    ending_exact origin_head (by_word what_words what_in) head_texts what_fields head_good what_fits head_takes whats_exact
 
 abbrev pub fields_of : WrittenEntry → List (List ℕ)
 fields_of w = entry_fields w.ticket w.entry
@@ -697,7 +697,7 @@ entry_exact : IsExact entry_in fields_of written_fits
 unfolding entry_in entry_fits
 entry_exact = record {
   sound = λ fields w e.
-      let m = map_parts entry_from (ending origin_front (by_word what_words what_in) fields) w e in
+      let m = map_pieces entry_from (ending origin_head (by_word what_words what_in) fields) w e in
       let s = parts_exact.sound fields m.0 m.1 in
       (s.0 ∙ ap fields_of m.2, sym (ap written_fits m.2) ∙ s.1);
   complete =

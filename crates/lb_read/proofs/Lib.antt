@@ -4,7 +4,7 @@ pub mod EachFacts
 pub mod FieldsExact
 pub mod KindsExact
 pub mod TextFacts
-pub mod FrontFacts
+pub mod HeadFacts
 pub mod EntriesExact
 pub mod WholeComplete
 pub mod HeaderValues

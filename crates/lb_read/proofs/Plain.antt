@@ -7,7 +7,7 @@ use Rattle.std.proofs.lemmas.Bool.{and_from, cases_Bool, lt-ltb, le-leb}
 use Rattle.std.proofs.lemmas.List.Folds.{list_all-append}
 use Rattle.lb_base.specs.declared.mask.Mask.{Mask}
 use Rattle.lb_base.specs.Mask.{members}
-use Rattle.lb_fields.specs.Parts.{is_plain_byte, is_plain}
+use Rattle.lb_fields.specs.Pieces.{is_plain_byte, is_plain}
 use Rattle.lb_text.specs.Lists.{Run}
 use Rattle.lb_text.specs.Runs.{runs_of, run_text, runs_text}
 use Rattle.lb_record.specs.Lines.{joined, marked}

@@ -17,8 +17,8 @@ use Rattle.lb_read.specs.declared.written.Read.{Read}
 use Rattle.lb_read.specs.declared.written.RecordError.{RecordError}
 use Rattle.lb_read.specs.declared.written.RecordError.TheVariants as errors
 use Rattle.lb_read.specs.Entries.{line_in}
-use Rattle.lb_read.specs.Repeats.{is_repeated, can_repeat, is_parts, Front, none_of, in_front, has_room, front_of}
-use Rattle.lb_read.specs.Texts.{lines_of, onto_entries, entry_then, entries_in, trace_text, version_line, room, line_after, front_behind, header_from, header_in, read_from, read_after, read_behind, read_lines, read_of, Gives}
+use Rattle.lb_read.specs.Repeats.{is_repeated, can_repeat, is_parts, Head, none_of, in_head, has_room, head_of}
+use Rattle.lb_read.specs.Texts.{lines_of, onto_entries, entry_then, entries_in, trace_text, version_line, room, line_after, head_behind, header_from, header_in, read_from, read_after, read_behind, read_lines, read_of, Gives}
 use Rattle.lb_read.specs.FirstBad.{Place, version_read, after_body, entry_next, place_next, may_end, IsFirstBadLine, IsRefusal}
 use Rattle.lb_read.specs.FirstBad.Place.{AtStart, InHeader, InEntries}
 use Rattle.lb_read.specs.Whole.{ReadsAs}
@@ -26,7 +26,7 @@ use Rattle.lb_read.specs.Laws.{ReadOnce, ReadOrBad, NoneIsBad, OneIsFirst}
 use Rattle.lb_read.proofs.Common.{same_ok}
 use Rattle.lb_read.proofs.ExactFacts.{EachFree}
 use Rattle.lb_read.proofs.HeaderSteps.{some_more, version_is_read}
-use Rattle.lb_read.proofs.WholeSound.{front_sound, bodies_free, cut_free, split_free, texts_are_read}
+use Rattle.lb_read.proofs.WholeSound.{head_sound, bodies_free, cut_free, split_free, texts_are_read}
 use Rattle.lb_read.proofs.WholeComplete.{reads_texts}
 use Rattle.lb_read.proofs.TextFacts.{some_lines}
 use Rattle.lb_read.proofs.Walks.{walk_on, walk, stops_at_first, no_bad, one_first_bad}
@@ -63,10 +63,10 @@ entries_walk n line (next ∷ more) =
     (entries_walk (n + 1) next more)
 
 -- ---- the header
--- the line that reading stops at behind a front, whose trace was read so; n is the line after the front
-abbrev read_on : ℕ → Front → Result Reading (ℕ × Code) → Option ℕ
-read_on n front (Err bad) = Some bad.0
-read_on n front (Ok reading) = cond front.stopped (Some n) (bad_of (entries_in n front.rest))
+-- the line that reading stops at behind a head, whose trace was read so; n is the line after the head
+abbrev read_on : ℕ → Head → Result Reading (ℕ × Code) → Option ℕ
+read_on n head (Err bad) = Some bad.0
+read_on n head (Ok reading) = cond head.stopped (Some n) (bad_of (entries_in n head.rest))
 
 read_last : (n : ℕ) (last : List ℕ) (o : Result Reading Code)
     → read_on n (none_of false (last ∷ [])) (on_line n o) ≡ cond (is_ok o && length last == 0) None (Some n)
@@ -90,32 +90,32 @@ unfolding lines_from
 ended_read r = refl
 
 -- the lines behind a line of the header are gone over as they are read
-abbrev GoesOn : ℕ → Front → (Place → Option ℕ) → Bool → ℕ → ℕ → Type 0
-GoesOn n front rest parted left k =
-    (s : Reading) → k ≡ s.line → n ≡ s.line + length front.bodies
-    → read_on n front (lines_from s (front.bodies ++ [] ∷ [])) ≡ rest (InHeader s parted left)
+abbrev GoesOn : ℕ → Head → (Place → Option ℕ) → Bool → ℕ → ℕ → Type 0
+GoesOn n head rest parted left k =
+    (s : Reading) → k ≡ s.line → n ≡ s.line + length head.bodies
+    → read_on n head (lines_from s (head.bodies ++ [] ∷ [])) ≡ rest (InHeader s parted left)
 
-read_body : (n : ℕ) (front : Front) (r : Reading) (body : List ℕ) (parted : Bool) (left : ℕ) (rest : Place → Option ℕ)
+read_body : (n : ℕ) (head : Head) (r : Reading) (body : List ℕ) (parted : Bool) (left : ℕ) (rest : Place → Option ℕ)
     (o : Result Reading Code)
     → line_at r false body ≡ o
-    → n ≡ r.line + 1 + length front.bodies → GoesOn n front rest parted left (r.line + 1)
-    → read_on n (in_front body front) (on_line r.line o >>= λ s. lines_from s (front.bodies ++ [] ∷ [])) ≡ walk_on
+    → n ≡ r.line + 1 + length head.bodies → GoesOn n head rest parted left (r.line + 1)
+    → read_on n (in_head body head) (on_line r.line o >>= λ s. lines_from s (head.bodies ++ [] ∷ [])) ≡ walk_on
     r.line (after_body parted left o) rest
-read_body n front r body parted left rest (Err code) at number goes = refl
-read_body n front r body parted left rest (Ok s) at number goes =
+read_body n head r body parted left rest (Err code) at number goes = refl
+read_body n head r body parted left rest (Ok s) at number goes =
     let next = line_next r s body at in goes s (sym next) (omega (arith, next, number))
 
-one_line : (n : ℕ) (front : Front) (r : Reading) (parted : Bool) (left : ℕ) (line next : List ℕ) (more : List (List ℕ)) (f : Front)
+one_line : (n : ℕ) (head : Head) (r : Reading) (parted : Bool) (left : ℕ) (line next : List ℕ) (more : List (List ℕ)) (f : Head)
     → f ≡ cond (not (is_repeated line)) (none_of false (line ∷ next ∷ more))
-    (cond (can_repeat parted (drop 2 line) && has_room left (drop 2 line)) (in_front (drop 2 line) front)
+    (cond (can_repeat parted (drop 2 line) && has_room left (drop 2 line)) (in_head (drop 2 line) head)
     (none_of true (line ∷ next ∷ more)))
     → n ≡ r.line + length f.bodies
-    → GoesOn n front (λ q. walk q (r.line + 1) (next ∷ more)) (parted || is_parts (drop 2 line))
+    → GoesOn n head (λ q. walk q (r.line + 1) (next ∷ more)) (parted || is_parts (drop 2 line))
     (left - (length (drop 2 line) + 1)) (r.line + 1)
     → read_on n f (lines_from r (f.bodies ++ [] ∷ [])) ≡ walk_on r.line (place_next (InHeader r parted left) line)
     (λ q. walk q (r.line + 1) (next ∷ more))
 unfolding place_next
-one_line n front r parted left line next more f f_is number goes = elim (cases_Bool (is_repeated line)) [
+one_line n head r parted left line next more f f_is number goes = elim (cases_Bool (is_repeated line)) [
   | inr other ↦
       let none : f ≡ none_of false (line ∷ next ∷ more) = rw other at f_is in
       let same : n ≡ r.line = let len : length f.bodies ≡ 0 = ap (λ g. length g.bodies) none in omega (arith, number, len) in
@@ -132,52 +132,52 @@ one_line n front r parted left line next more f f_is number goes = elim (cases_B
         ∙ ap (λ k. read_on k (none_of true (line ∷ next ∷ more)) (on_line r.line (ended r))) same
         ∙ read_stopped r.line (line ∷ next ∷ more) (ended r))
     | inl can ↦
-        let more_is : f ≡ in_front (drop 2 line) front = rw (rep, can) at f_is in
-        let len : length f.bodies ≡ suc (length front.bodies) = ap (λ g. length g.bodies) more_is in
+        let more_is : f ≡ in_head (drop 2 line) head = rw (rep, can) at f_is in
+        let len : length f.bodies ≡ suc (length head.bodies) = ap (λ g. length g.bodies) more_is in
         rw (rep, can)
         (ap (λ g. read_on n g (lines_from r (g.bodies ++ [] ∷ []))) more_is
-        ∙ ap (read_on n (in_front (drop 2 line) front)) (some_more r (drop 2 line) front.bodies [])
-        ∙ read_body n front r (drop 2 line) (parted || is_parts (drop 2 line)) (left - (length (drop 2 line) + 1))
+        ∙ ap (read_on n (in_head (drop 2 line) head)) (some_more r (drop 2 line) head.bodies [])
+        ∙ read_body n head r (drop 2 line) (parted || is_parts (drop 2 line)) (left - (length (drop 2 line) + 1))
         (λ q. walk q (r.line + 1) (next ∷ more))
         (line_at r false (drop 2 line)) refl (omega (arith, number, len)) goes)
   ]
 ]
 
 header_walk : (n : ℕ) (r : Reading) (parted : Bool) (left : ℕ) (line : List ℕ) (lines : List (List ℕ)) (k : ℕ) → k ≡ r.line
-    → n ≡ r.line + length (front_of left parted (line ∷ lines)).bodies
-    → read_on n (front_of left parted (line ∷ lines))
-    (lines_from r ((front_of left parted (line ∷ lines)).bodies ++ [] ∷ [])) ≡ walk (InHeader r parted left) k (line ∷ lines)
-unfolding front_of walk may_end
+    → n ≡ r.line + length (head_of left parted (line ∷ lines)).bodies
+    → read_on n (head_of left parted (line ∷ lines))
+    (lines_from r ((head_of left parted (line ∷ lines)).bodies ++ [] ∷ [])) ≡ walk (InHeader r parted left) k (line ∷ lines)
+unfolding head_of walk may_end
 header_walk n r parted left last [] k at number =
     ap (read_on n (none_of false (last ∷ []))) (ended_read r)
     ∙ ap (λ m. read_on m (none_of false (last ∷ [])) (on_line r.line (ended r))) (omega (arith, number))
     ∙ read_last r.line last (ended r)
     ∙ ap (λ m. cond (is_ok (ended r) && length last == 0) None (Some m)) (sym at)
 header_walk n r parted left line (next ∷ more) k at number =
-    let front = front_of (left - (length (drop 2 line) + 1)) (parted || is_parts (drop 2 line)) (next ∷ more) in
-    one_line n front r parted left line next more _ refl number
+    let head = head_of (left - (length (drop 2 line) + 1)) (parted || is_parts (drop 2 line)) (next ∷ more) in
+    one_line n head r parted left line next more _ refl number
     (λ s up e. header_walk n s (parted || is_parts (drop 2 line)) (left - (length (drop 2 line) + 1)) next more (r.line + 1) up e)
     ∙ ap (λ m. walk_on m (place_next (InHeader r parted left) line) (λ q. walk q (m + 1) (next ∷ more))) (sym at)
 
 -- ---- the trace of the header
-front_fits : (n : ℕ) (parted : Bool) (lines : List (List ℕ)) → length (lines_text (front_of n parted lines).bodies) ≤ n
-unfolding front_of
-front_fits n parted [] = omega arith
-front_fits n parted (last ∷ []) = omega arith
-front_fits n parted (line ∷ next ∷ more) = elim (cases_Bool (is_repeated line)) [
+head_fits : (n : ℕ) (parted : Bool) (lines : List (List ℕ)) → length (lines_text (head_of n parted lines).bodies) ≤ n
+unfolding head_of
+head_fits n parted [] = omega arith
+head_fits n parted (last ∷ []) = omega arith
+head_fits n parted (line ∷ next ∷ more) = elim (cases_Bool (is_repeated line)) [
   | inr other ↦ rw other (omega arith)
   | inl rep ↦ elim (cases_Bool (can_repeat parted (drop 2 line) && has_room n (drop 2 line))) [
     | inr cannot ↦ rw (rep, cannot) (omega arith)
     | inl can ↦
         let body = drop 2 line in
-        let front = front_of (n - (length body + 1)) (parted || is_parts body) (next ∷ more) in
+        let head = head_of (n - (length body + 1)) (parted || is_parts body) (next ∷ more) in
         let fits : length body + 1 ≤ n =
         leb-true (length body + 1) n (and_parts (can_repeat parted body) (has_room n body) can).1 in
-        let rest : length (lines_text front.bodies) ≤ n - (length body + 1) =
-        front_fits (n - (length body + 1)) (parted || is_parts body) (next ∷ more) in
-        let len : length (lines_text (body ∷ front.bodies)) ≡ length body + 1 + length (lines_text front.bodies) =
-        length-append (body ++ 10 ∷ []) (lines_text front.bodies)
-        ∙ ap (λ k. k + length (lines_text front.bodies)) (length-append body (10 ∷ [])) in
+        let rest : length (lines_text head.bodies) ≤ n - (length body + 1) =
+        head_fits (n - (length body + 1)) (parted || is_parts body) (next ∷ more) in
+        let len : length (lines_text (body ∷ head.bodies)) ≡ length body + 1 + length (lines_text head.bodies) =
+        length-append (body ++ 10 ∷ []) (lines_text head.bodies)
+        ∙ ap (λ k. k + length (lines_text head.bodies)) (length-append body (10 ∷ [])) in
         rw (rep, can) (omega (arith, fits, rest, len))
   ]
 ]
@@ -204,24 +204,24 @@ from_walk : (header : Header) (o : Result (List WrittenEntry) ℕ) → bad_of (r
 from_walk header (Ok ws) = refl
 from_walk header (Err n) = refl
 
-after_walk : (front : Front) (o : Result Reading (ℕ × Code))
-    → bad_of (read_after front (header_from front (o >>= λ r. Ok (trace_of r)))) ≡ read_on (line_after front.bodies) front o
-after_walk front (Err bad) = refl
-after_walk front (Ok reading) = elim (cases_Bool front.stopped) [
+after_walk : (head : Head) (o : Result Reading (ℕ × Code))
+    → bad_of (read_after head (header_from head (o >>= λ r. Ok (trace_of r)))) ≡ read_on (line_after head.bodies) head o
+after_walk head (Err bad) = refl
+after_walk head (Ok reading) = elim (cases_Bool head.stopped) [
   | inl stopped ↦ rw stopped refl
-  | inr going ↦ rw going (from_walk (trace_of reading).header (entries_in (line_after front.bodies) front.rest))
+  | inr going ↦ rw going (from_walk (trace_of reading).header (entries_in (line_after head.bodies) head.rest))
 ]
 
 behind_walk : (line : List ℕ) (lines : List (List ℕ)) → EachFree 10 (line ∷ lines)
     → bad_of (read_behind (line ∷ lines)) ≡ walk (InHeader version_read false room) 2 (line ∷ lines)
 unfolding read_behind header_in
 behind_walk line lines free =
-    let front = front_behind (line ∷ lines) in
-    let f = front_sound room false (line ∷ lines) (omega arith) in
-    ap (λ o. bad_of (read_after front (header_from front o)))
-    (trace_read front.bodies (bodies_free front.bodies front.rest (subst (EachFree 10) f.0 free)) (front_fits room false (line ∷ lines)))
-    ∙ after_walk front (lines_from version_read (front.bodies ++ [] ∷ []))
-    ∙ header_walk (line_after front.bodies) version_read false room line lines 2 refl (omega arith)
+    let head = head_behind (line ∷ lines) in
+    let f = head_sound room false (line ∷ lines) (omega arith) in
+    ap (λ o. bad_of (read_after head (header_from head o)))
+    (trace_read head.bodies (bodies_free head.bodies head.rest (subst (EachFree 10) f.0 free)) (head_fits room false (line ∷ lines)))
+    ∙ after_walk head (lines_from version_read (head.bodies ++ [] ∷ []))
+    ∙ header_walk (line_after head.bodies) version_read false room line lines 2 refl (omega arith)
 
 -- ---- the whole text
 lines_walk : (lines : List (List ℕ)) → (lines ≡ [] → ⊥) → EachFree 10 lines → bad_of (read_lines lines) ≡ walk AtStart 1 lines

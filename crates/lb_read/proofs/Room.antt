@@ -17,7 +17,7 @@ use Rattle.lb_trace.specs.declared.trace.TaskRow.{TaskRow}
 use Rattle.lb_trace.specs.declared.kind.LineKind.{LineKind}
 use Rattle.lb_trace.specs.declared.kind.LineKind.TheVariants as kinds
 use Rattle.lb_trace.specs.declared.kind.RowKind.TheVariants as rows
-use Rattle.lb_fields.specs.Parts.{is_plain}
+use Rattle.lb_fields.specs.Pieces.{is_plain}
 use Rattle.lb_trace.specs.declared.reading.Reading.{Reading}
 use Rattle.lb_trace.specs.Kinds.{kind_beside, line_kind}
 use Rattle.lb_trace.specs.Values.{number, list, number_at, nice_at, list_at, id_in, cpu_of, distances_in, task_of}

@@ -14,7 +14,7 @@ use Rattle.lb_text.specs.Numbers.{number_of, number_within}
 use Rattle.lb_text.specs.Lists.{Run, run_has, run_from, run_of_ends, item_of, items_of, mask_of_runs, list_of}
 use Rattle.lb_text.specs.Runs.{runs_of, run_text, runs_text, AreMaximal}
 use Rattle.lb_text.proofs.Digits.{number_spelled}
-use Rattle.lb_text.proofs.Items.{one_part}
+use Rattle.lb_text.proofs.Items.{one_piece}
 use Rattle.lb_text.proofs.RoundTrip.{writes_runs, lists_fit}
 use Rattle.lb_read.proofs.FieldsExact.{no_runs}
 use Rattle.lb_trace.proofs.SoundLists.{all_also}
@@ -87,7 +87,7 @@ two_items text first last a (Some b) run whole is e f =
 ends_item : (text : List ℕ) (parts : List (List ℕ)) (run : Run) → slice_split (λ b. eqb b 45) text ≡ parts
     → run_of_ends parts ≡ Some run → IsItem text run
 ends_item text [] run cut e = absurd (let z : ⊥ = cc in z)
-ends_item text (cpu ∷ []) run cut e = one_item text cpu (number_of 63 cpu) run (one_part 45 text cpu cut) refl e
+ends_item text (cpu ∷ []) run cut e = one_item text cpu (number_of 63 cpu) run (one_piece 45 text cpu cut) refl e
 ends_item text (first ∷ last ∷ []) run cut e = by_first (number_of 63 first) refl e
   where
     by_first : (o : Option ℕ) → number_of 63 first ≡ o → option_and_then (run_from last) o ≡ Some run → IsItem text run

@@ -6,7 +6,7 @@ use Rattle.lb_read.specs.declared.written.WrittenEntry.{WrittenEntry}
 use Rattle.lb_read.specs.Entries.{line_in}
 use Rattle.std.specs.Str.{bytes_eq}
 use Rattle.lb_trace.specs.declared.trace.Header.{Header}
-use Rattle.lb_read.specs.Texts.{lines_of, onto_entries, entry_then, entries_in, version_line, line_after, front_behind, header_in, read_from, read_after, read_behind, read_lines, read_of}
+use Rattle.lb_read.specs.Texts.{lines_of, onto_entries, entry_then, entries_in, version_line, line_after, head_behind, header_in, read_from, read_after, read_behind, read_lines, read_of}
 
 -- the entries so far, and those of the lines that are left
 abbrev pub found_onto : List WrittenEntry → Result (List WrittenEntry) ℕ → Result (List WrittenEntry) ℕ
@@ -95,18 +95,18 @@ version_first text line rest cut same =
     ∙ ap (λ b. cond b (read_behind (lines_of rest)) (Err 1)) same
 
 pub read_bad_header : (text line rest : List ℕ) (n : ℕ) → lines_of text ≡ line ∷ lines_of rest → bytes_eq line version_line ≡ true
-    → header_in (front_behind (lines_of rest)) ≡ Err n → read_of text ≡ Err n
+    → header_in (head_behind (lines_of rest)) ≡ Err n → read_of text ≡ Err n
 unfolding read_behind
 read_bad_header text line rest n cut same bad =
-    version_first text line rest cut same ∙ ap (read_after (front_behind (lines_of rest))) bad
+    version_first text line rest cut same ∙ ap (read_after (head_behind (lines_of rest))) bad
 
 pub behind_header : (text line rest left : List ℕ) (header : Header) (first : ℕ) → lines_of text ≡ line ∷ lines_of rest
     → bytes_eq line version_line ≡ true
-    → header_in (front_behind (lines_of rest)) ≡ Ok header → first ≡ line_after (front_behind (lines_of rest)).bodies
-    → lines_of left ≡ (front_behind (lines_of rest)).rest
+    → header_in (head_behind (lines_of rest)) ≡ Ok header → first ≡ line_after (head_behind (lines_of rest)).bodies
+    → lines_of left ≡ (head_behind (lines_of rest)).rest
     → read_of text ≡ read_from header (entries_in first (lines_of left))
 unfolding read_behind
 behind_header text line rest left header first cut same good first_is left_is =
-    version_first text line rest cut same ∙ ap (read_after (front_behind (lines_of rest))) good
-    ∙ ap (λ n. read_from header (entries_in n (front_behind (lines_of rest)).rest)) (sym first_is)
+    version_first text line rest cut same ∙ ap (read_after (head_behind (lines_of rest))) good
+    ∙ ap (λ n. read_from header (entries_in n (head_behind (lines_of rest)).rest)) (sym first_is)
     ∙ ap (λ ls. read_from header (entries_in first ls)) (sym left_is)

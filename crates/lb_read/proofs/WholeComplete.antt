@@ -34,18 +34,18 @@ use Rattle.lb_read.specs.declared.written.WrittenEntry.{WrittenEntry}
 use Rattle.lb_read.specs.declared.written.Read.{Read}
 use Rattle.lb_core.specs.Ranges.{is_long, entry_fits}
 use Rattle.lb_read.specs.Written.{written_line, written_fits}
-use Rattle.lb_read.specs.Repeats.{is_repeated, spells, is_spelled, declares, fields_declare, can_repeat, fields_part, is_parts, none_of, in_front, has_room, front_of}
-use Rattle.lb_read.specs.Texts.{lines_of, entries_in, trace_text, version_line, room, line_after, front_behind, header_from, header_in, read_from, read_after, read_behind, read_lines, read_of}
+use Rattle.lb_read.specs.Repeats.{is_repeated, spells, is_spelled, declares, fields_declare, can_repeat, fields_part, is_parts, none_of, in_head, has_room, head_of}
+use Rattle.lb_read.specs.Texts.{lines_of, entries_in, trace_text, version_line, room, line_after, head_behind, header_from, header_in, read_from, read_after, read_behind, read_lines, read_of}
 use Rattle.lb_read.specs.Whole.{trace_lines, IsTraceOf, ReadsAs}
 use Rattle.lb_read.proofs.Common.{or_false, or_true}
 use Rattle.lb_read.proofs.ExactFacts.{both_true}
 use Rattle.lb_read.proofs.FieldsExact.{decimal_free, empty_runs}
-use Rattle.lb_read.proofs.FrontFacts.{cut_front}
+use Rattle.lb_read.proofs.HeadFacts.{cut_head}
 use Rattle.lb_read.proofs.TextFacts.{lines_behind}
 use Rattle.lb_read.proofs.EntriesExact.{entries_complete}
 
 -- ---- lines that can be repeated
--- each line in front, after a line `parts` or before
+-- each line at the head, after a line `parts` or before
 abbrev Repeats : Bool → List (List ℕ) → Type 0
 Repeats parted [] = Unit {0}
 Repeats parted (line ∷ lines) =
@@ -60,30 +60,30 @@ abbrev GoesOn : List (List ℕ) → Type 0
 GoesOn [] = ⊥
 GoesOn (line ∷ lines) = is_repeated line ≡ false
 
-front_ends : (n : ℕ) (parted : Bool) (rest : List (List ℕ)) → GoesOn rest → front_of n parted rest ≡ none_of false rest
-unfolding front_of
-front_ends n parted [] g = absurd g
-front_ends n parted (last ∷ []) g = refl
-front_ends n parted (line ∷ next ∷ more) g = rw g refl
+head_ends : (n : ℕ) (parted : Bool) (rest : List (List ℕ)) → GoesOn rest → head_of n parted rest ≡ none_of false rest
+unfolding head_of
+head_ends n parted [] g = absurd g
+head_ends n parted (last ∷ []) g = refl
+head_ends n parted (line ∷ next ∷ more) g = rw g refl
 
 some_rest : (lines rest : List (List ℕ)) → GoesOn rest → (lines ++ rest) ≡ [] → ⊥
 some_rest [] [] g e = g
 some_rest [] (line ∷ rest) g e = absurd (cc)
 some_rest (line ∷ lines) rest g e = absurd (cc)
 
-front_lines : (n : ℕ) (parted : Bool) (lines rest : List (List ℕ)) → Repeats parted lines → GoesOn rest
+head_lines : (n : ℕ) (parted : Bool) (lines rest : List (List ℕ)) → Repeats parted lines → GoesOn rest
     → length (lines_text (bodies_of lines)) ≤ n
-    → front_of n parted (lines ++ rest) ≡ record { bodies = bodies_of lines; stopped = false; rest = rest }
-front_lines n parted [] rest r g fits = front_ends n parted rest g
-front_lines n parted (line ∷ lines) rest r g fits =
+    → head_of n parted (lines ++ rest) ≡ record { bodies = bodies_of lines; stopped = false; rest = rest }
+head_lines n parted [] rest r g fits = head_ends n parted rest g
+head_lines n parted (line ∷ lines) rest r g fits =
     let body = drop 2 line in
     let len : length (lines_text (bodies_of (line ∷ lines))) ≡ length body + 1 + length (lines_text (bodies_of lines)) =
     length-append (body ++ 10 ∷ []) (lines_text (bodies_of lines))
     ∙ ap (λ k. k + length (lines_text (bodies_of lines))) (length-append body (10 ∷ [])) in
     let can : (can_repeat parted body && has_room n body) ≡ true =
     rw (r.1, le-leb (length body + 1) n (omega (arith, len, fits))) refl in
-    let more = front_lines (n - (length body + 1)) (parted || is_parts body) lines rest r.2 g (omega (arith, len, fits)) in
-    cut_front n parted line (lines ++ rest) (some_rest lines rest g) ∙ rw (r.0, can) (ap (in_front body) more)
+    let more = head_lines (n - (length body + 1)) (parted || is_parts body) lines rest r.2 g (omega (arith, len, fits)) in
+    cut_head n parted line (lines ++ rest) (some_rest lines rest g) ∙ rw (r.0, can) (ap (in_head body) more)
 
 -- lines that can be repeated anywhere, and none of them is the partition
 abbrev EachPlain : List (List ℕ) → Type 0
@@ -267,8 +267,8 @@ reads_texts text read r =
     within_limit (trace_text (bodies_of tail)) _ (ap (λ ls. reading_of (trace_text ls)) (sym same_lines) ∙ d.1) in
     let len : length (trace_text (bodies_of tail)) ≡ 10 + length (lines_text (bodies_of tail)) =
     length-append (codes "lbtrace,1" ++ 10 ∷ []) (lines_text (bodies_of tail)) in
-    let front : front_behind (tail ++ rest) ≡ record { bodies = bodies_of tail; stopped = false; rest = rest } =
-    front_lines room false tail rest (header_repeats h trace.masks trace.tasks) (entries_go_on ws r.entries)
+    let head : head_behind (tail ++ rest) ≡ record { bodies = bodies_of tail; stopped = false; rest = rest } =
+    head_lines room false tail rest (header_repeats h trace.masks trace.tasks) (entries_go_on ws r.entries)
     (omega (arith, len, fits)) in
     let cut : lines_of text ≡ version_line ∷ (tail ++ rest) =
     ap lines_of r.text_is ∙ lines_back h ws ∙ ap (λ ls. (ls ++ map written_line ws) ++ [] ∷ []) (lines_are h)
@@ -276,7 +276,7 @@ reads_texts text read r =
     let header : reading_of (trace_text (bodies_of tail)) ≡ Ok d.0 =
     ap (λ ls. reading_of (trace_text ls)) (sym same_lines) ∙ d.1 in
     ap read_lines cut ∙ lines_behind version_line (tail ++ rest) (some_rest tail rest (entries_go_on ws r.entries))
-    ∙ ap (λ f. read_after f (header_in f)) front
+    ∙ ap (λ f. read_after f (header_in f)) head
     ∙ ap
     (λ o. read_after (record { bodies = bodies_of tail; stopped = false; rest = rest })
     (header_from (record { bodies = bodies_of tail; stopped = false; rest = rest }) o)) header

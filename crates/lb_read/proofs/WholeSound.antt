@@ -23,8 +23,8 @@ use Rattle.lb_record.specs.Header.{cpu_line, distances_line, parts_line, lanes_l
 use Rattle.lb_read.specs.declared.written.WrittenEntry.{WrittenEntry}
 use Rattle.lb_read.specs.declared.written.Read.{Read}
 use Rattle.lb_read.specs.Written.{written_line, written_fits}
-use Rattle.lb_read.specs.Repeats.{is_repeated, can_repeat, is_parts, Front, none_of, in_front, has_room, front_of}
-use Rattle.lb_read.specs.Texts.{lines_of, entries_in, trace_text, version_line, room, line_after, front_behind, header_from, header_in, read_from, read_after, read_behind, read_lines, read_of}
+use Rattle.lb_read.specs.Repeats.{is_repeated, can_repeat, is_parts, Head, none_of, in_head, has_room, head_of}
+use Rattle.lb_read.specs.Texts.{lines_of, entries_in, trace_text, version_line, room, line_after, head_behind, header_from, header_in, read_from, read_after, read_behind, read_lines, read_of}
 use Rattle.lb_read.specs.Whole.{trace_lines, IsTraceOf, IsDeclared, ReadsAs}
 use Rattle.lb_read.proofs.ExactFacts.{EachFree}
 use Rattle.lb_read.proofs.Common.{some_from, same_ok, ok_err}
@@ -36,19 +36,19 @@ use Rattle.lb_read.proofs.HeaderSteps.{CanAll, IsReadAll, read_trace}
 abbrev pub as_line : List ℕ → List ℕ
 as_line body = codes "= " ++ body
 
--- ---- the lines in front
+-- ---- the lines at the head
 repeated_is : (line : List ℕ) → is_repeated line ≡ true → line ≡ as_line (drop 2 line)
 repeated_is line e =
     sym (take-append-drop 2 line) ∙ ap (λ t. t ++ drop 2 line) ((bytes_eq-Decides (take 2 line) (codes "= ")).0 e)
 
-abbrev FrontOf : Bool → List (List ℕ) → Front → Type 0
-FrontOf parted lines f = (lines ≡ map as_line f.bodies ++ f.rest) × CanAll parted f.bodies
+abbrev HeadOf : Bool → List (List ℕ) → Head → Type 0
+HeadOf parted lines f = (lines ≡ map as_line f.bodies ++ f.rest) × CanAll parted f.bodies
 
-front_one : (n : ℕ) (parted : Bool) (line : List ℕ) (lines : List (List ℕ)) (f : Front) → n ≤ MAX_BYTES
-    → FrontOf (parted || is_parts (drop 2 line)) lines f
-    → FrontOf parted (line ∷ lines) (cond (not (is_repeated line)) (none_of false (line ∷ lines))
-    (cond (can_repeat parted (drop 2 line) && has_room n (drop 2 line)) (in_front (drop 2 line) f) (none_of true (line ∷ lines))))
-front_one n parted line lines f few more = elim (cases_Bool (is_repeated line)) [
+head_one : (n : ℕ) (parted : Bool) (line : List ℕ) (lines : List (List ℕ)) (f : Head) → n ≤ MAX_BYTES
+    → HeadOf (parted || is_parts (drop 2 line)) lines f
+    → HeadOf parted (line ∷ lines) (cond (not (is_repeated line)) (none_of false (line ∷ lines))
+    (cond (can_repeat parted (drop 2 line) && has_room n (drop 2 line)) (in_head (drop 2 line) f) (none_of true (line ∷ lines))))
+head_one n parted line lines f few more = elim (cases_Bool (is_repeated line)) [
   | inr no_it ↦ rw no_it (refl, tt)
   | inl rep ↦ elim (cases_Bool (can_repeat parted (drop 2 line) && has_room n (drop 2 line))) [
     | inr cannot ↦ rw (rep, cannot) (refl, tt)
@@ -63,14 +63,14 @@ front_one n parted line lines f few more = elim (cases_Bool (is_repeated line)) 
   ]
 ]
 
-pub front_sound : (n : ℕ) (parted : Bool) (lines : List (List ℕ)) → n ≤ MAX_BYTES → FrontOf parted lines (front_of n parted lines)
-unfolding front_of
-front_sound n parted [] few = (refl, tt)
-front_sound n parted (last ∷ []) few = (refl, tt)
-front_sound n parted (line ∷ next ∷ more) few =
-    front_one n parted line (next ∷ more)
-    (front_of (n - (length (drop 2 line) + 1)) (parted || is_parts (drop 2 line)) (next ∷ more)) few
-    (front_sound (n - (length (drop 2 line) + 1)) (parted || is_parts (drop 2 line)) (next ∷ more) (omega (arith, few)))
+pub head_sound : (n : ℕ) (parted : Bool) (lines : List (List ℕ)) → n ≤ MAX_BYTES → HeadOf parted lines (head_of n parted lines)
+unfolding head_of
+head_sound n parted [] few = (refl, tt)
+head_sound n parted (last ∷ []) few = (refl, tt)
+head_sound n parted (line ∷ next ∷ more) few =
+    head_one n parted line (next ∷ more)
+    (head_of (n - (length (drop 2 line) + 1)) (parted || is_parts (drop 2 line)) (next ∷ more)) few
+    (head_sound (n - (length (drop 2 line) + 1)) (parted || is_parts (drop 2 line)) (next ∷ more) (omega (arith, few)))
 
 -- ---- lines and texts
 join_lines : (lines : List (List ℕ)) → join_with_byte 10 (lines ++ [] ∷ []) ≡ lines_text lines
@@ -196,16 +196,16 @@ pub drop_as : (bodies : List (List ℕ)) → map (λ line. drop 2 line) (map as_
 drop_as [] = refl
 drop_as (body ∷ bodies) = ap (λ bs. body ∷ bs) (drop_as bodies)
 
--- the header in front of lines
+-- the header at the head of lines
 record IsHeaderOf (lines : List (List ℕ)) (header : Header) : Type 0 where
   declared : IsDeclared header
-  lines_are : version_line ∷ lines ≡ header_lines header ++ (front_behind lines).rest
+  lines_are : version_line ∷ lines ≡ header_lines header ++ (head_behind lines).rest
 
 pub declares : (header : Header) (t : Trace) (o : Result Trace (ℕ × Code)) → o ≡ Ok t → t.header ≡ header → t.rows ≡ []
     → IsTraceOf header o
 declares header t o e same none = subst (IsTraceOf header) (sym e) (same, none)
 
-header_trace : (f : Front) (o : Result Trace (ℕ × Code)) (header : Header) → header_from f o ≡ Ok header
+header_trace : (f : Head) (o : Result Trace (ℕ × Code)) (header : Header) → header_from f o ≡ Ok header
     → (t : Trace) × (o ≡ Ok t) × (t.header ≡ header)
 header_trace f (Err bad) header e = absurd (ok_err header bad.0 e)
 header_trace f (Ok t) header e = elim (cases_Bool f.stopped) [
@@ -213,32 +213,32 @@ header_trace f (Ok t) header e = elim (cases_Bool f.stopped) [
   | inr going ↦ (t, refl, same_ok t.header header (rw going at e))
 ]
 
-header_sound : (lines : List (List ℕ)) (header : Header) → EachFree 10 lines → header_in (front_behind lines) ≡ Ok header
+header_sound : (lines : List (List ℕ)) (header : Header) → EachFree 10 lines → header_in (head_behind lines) ≡ Ok header
     → IsHeaderOf lines header
 unfolding header_in
 header_sound lines header free e =
-    let front = front_behind lines in
-    let f = front_sound room false lines (omega arith) in
-    let t = header_trace front (reading_of (trace_text front.bodies)) header e in
-    let bodies_are_free = bodies_free front.bodies front.rest (subst (EachFree 10) f.0 free) in
-    let r = reading_part (trace_text front.bodies) t.0 t.1 in
+    let head = head_behind lines in
+    let f = head_sound room false lines (omega arith) in
+    let t = header_trace head (reading_of (trace_text head.bodies)) header e in
+    let bodies_are_free = bodies_free head.bodies head.rest (subst (EachFree 10) f.0 free) in
+    let r = reading_part (trace_text head.bodies) t.0 t.1 in
     let version_free : All (λ b. eqb b 10 ≡ false) (codes "lbtrace,1") = (split_free 10 (codes "lbtrace,1")).0 in
-    let cut : slice_split (λ b. eqb b 10) (trace_text front.bodies) ≡ codes "lbtrace,1" ∷ (front.bodies ++ [] ∷ []) =
-    cut_free (codes "lbtrace,1" ∷ front.bodies) (version_free, bodies_are_free) in
-    let a = read_trace r.0 front.bodies f.1 (ap (lines_from nothing_read) (sym cut) ∙ r.1) in
-    let p : IsPrinted r.0 front.bodies t.0 = subst (IsPrinted r.0 front.bodies) r.2 (printed r.0 front.bodies a) in
-    let lines_are : header_lines header ≡ version_line ∷ map as_line front.bodies = ap header_lines (sym t.2) ∙ p.lines_are in
-    let same : trace_lines header ≡ front.bodies =
-    ap (λ ls. map (λ line. drop 2 line) (drop 1 ls)) lines_are ∙ drop_as front.bodies in
+    let cut : slice_split (λ b. eqb b 10) (trace_text head.bodies) ≡ codes "lbtrace,1" ∷ (head.bodies ++ [] ∷ []) =
+    cut_free (codes "lbtrace,1" ∷ head.bodies) (version_free, bodies_are_free) in
+    let a = read_trace r.0 head.bodies f.1 (ap (lines_from nothing_read) (sym cut) ∙ r.1) in
+    let p : IsPrinted r.0 head.bodies t.0 = subst (IsPrinted r.0 head.bodies) r.2 (printed r.0 head.bodies a) in
+    let lines_are : header_lines header ≡ version_line ∷ map as_line head.bodies = ap header_lines (sym t.2) ∙ p.lines_are in
+    let same : trace_lines header ≡ head.bodies =
+    ap (λ ls. map (λ line. drop 2 line) (drop 1 ls)) lines_are ∙ drop_as head.bodies in
     record {
       declared =
           declares header t.0 (reading_of (trace_text (trace_lines header)))
           (ap (λ ls. reading_of (trace_text ls)) same ∙ t.1) t.2 p.no_rows;
-      lines_are = ap (λ ls. version_line ∷ ls) f.0 ∙ ap (λ ls. ls ++ front.rest) (sym lines_are);
+      lines_are = ap (λ ls. version_line ∷ ls) f.0 ∙ ap (λ ls. ls ++ head.rest) (sym lines_are);
     }
 
 -- ---- the whole
-after_part : (f : Front) (o : Result Header ℕ) (read : Read) → read_after f o ≡ Ok read
+after_part : (f : Head) (o : Result Header ℕ) (read : Read) → read_after f o ≡ Ok read
     → (o ≡ Ok read.header) × (entries_in (line_after f.bodies) f.rest ≡ Ok read.entries)
 after_part f (Err n) read e = absurd (ok_err read n e)
 after_part f (Ok header) read e = from_part header (entries_in (line_after f.bodies) f.rest) read e
@@ -254,9 +254,9 @@ behind_sound : (lines : List (List ℕ)) (read : Read) → EachFree 10 lines →
     × (version_line ∷ lines ≡ (header_lines read.header ++ map written_line read.entries) ++ [] ∷ [])
 unfolding read_behind
 behind_sound lines read free e =
-    let a = after_part (front_behind lines) (header_in (front_behind lines)) read e in
+    let a = after_part (head_behind lines) (header_in (head_behind lines)) read e in
     let h = header_sound lines read.header free a.0 in
-    let w = entries_sound (line_after (front_behind lines).bodies) (front_behind lines).rest read.entries a.1 in (
+    let w = entries_sound (line_after (head_behind lines).bodies) (head_behind lines).rest read.entries a.1 in (
       h.declared,
       w.1,
       h.lines_are ∙ ap (λ ls. header_lines read.header ++ ls) w.0

@@ -17,12 +17,12 @@ entry_from p =
     record { ticket = p.0.0.0; entry = record { owner = p.0.0.1.0; lane = p.0.0.1.1; prev = p.0.1; what = p.1 } }
 
 -- the ticket, the owner with the lane, and the ticket of the lane's entry before it
-abbrev pub origin_front : List (List ℕ) → Option (((ℕ × (Owner × ℕ)) × ℕ) × List (List ℕ))
-origin_front fields = next_to (next_to (take_field long_in) (take_field owner_in)) (take_field long_in) fields
+abbrev pub origin_head : List (List ℕ) → Option (((ℕ × (Owner × ℕ)) × ℕ) × List (List ℕ))
+origin_head fields = next_to (next_to (take_field long_in) (take_field owner_in)) (take_field long_in) fields
 
 unfoldable pub entry_in : List (List ℕ) → Option WrittenEntry
 entry_in fields =
-    option_map entry_from (ending origin_front (by_word what_words what_in) fields)
+    option_map entry_from (ending origin_head (by_word what_words what_in) fields)
 
 -- the entry of a line, with the ticket that is written there
 unfoldable pub line_in : List ℕ → Option WrittenEntry

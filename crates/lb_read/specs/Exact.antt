@@ -10,12 +10,12 @@ unfoldable pub take_field : {A : Type 0} → (List ℕ → Option A) → List (L
 take_field read [] = None
 take_field read (field ∷ fields) = option_map (λ a. (a, fields)) (read field)
 
--- one front after the other
+-- one head after the other
 abbrev pub next_to : {A B : Type 0} → (List (List ℕ) → Option (A × List (List ℕ))) → (List (List ℕ) → Option (B × List (List ℕ)))
     → List (List ℕ) → Option ((A × B) × List (List ℕ))
 next_to first second fields = option_and_then (λ a. option_map (λ b. ((a.0, b.0), b.1)) (second a.1)) (first fields)
 
--- a front, and then all the rest
+-- a head, and then all the rest
 abbrev pub ending : {A B : Type 0} → (List (List ℕ) → Option (A × List (List ℕ))) → (List (List ℕ) → Option B)
     → List (List ℕ) → Option (A × B)
 ending first rest fields = option_and_then (λ a. option_map (λ b. (a.0, b)) (rest a.1)) (first fields)
@@ -25,7 +25,7 @@ abbrev pub if_none_left : {A : Type 0} → A → List (List ℕ) → Option A
 if_none_left a [] = Some a
 if_none_left a (field ∷ fields) = None
 
--- a front that is all there is
+-- a head that is all there is
 abbrev pub whole : {A : Type 0} → (List (List ℕ) → Option (A × List (List ℕ))) → List (List ℕ) → Option A
 whole first fields = option_and_then (λ a. if_none_left a.0 a.1) (first fields)
 
@@ -53,7 +53,7 @@ pub record IsExact {X A : Type 0} (read : X → Option A) (write : A → X) (fit
   pub sound : (x : X) (a : A) → read x ≡ Some a → (x ≡ write a) × (fits a ≡ true)
   pub complete : (a : A) → fits a ≡ true → read (write a) ≡ Some a
 
--- the same, of a reader of the front
+-- the same, of a reader of the head
 pub record TakesExactly {A : Type 0} (take : List (List ℕ) → Option (A × List (List ℕ))) (write : A → List (List ℕ))
     (fits : A → Bool) : Type 0 where
   pub sound : (fields : List (List ℕ)) (a : A) (rest : List (List ℕ)) → take fields ≡ Some (a, rest)

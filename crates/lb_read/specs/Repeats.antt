@@ -46,18 +46,18 @@ fields_part (word ∷ fields) = bytes_eq word (codes "parts")
 unfoldable pub is_parts : List ℕ → Bool
 is_parts body = fields_part (slice_split (λ b. b == COMMA) body)
 
--- ---- the lines in front that can be repeated
+-- ---- the lines at the head that can be repeated
 -- the lines of the trace, whether a line behind `= ` ends them, and the lines that are left
-pub record Front : Type 0 where
+pub record Head : Type 0 where
   pub bodies : List (List ℕ)
   pub stopped : Bool
   pub rest : List (List ℕ)
 
-abbrev pub none_of : Bool → List (List ℕ) → Front
+abbrev pub none_of : Bool → List (List ℕ) → Head
 none_of stopped lines = record { bodies = []; stopped = stopped; rest = lines }
 
-abbrev pub in_front : List ℕ → Front → Front
-in_front body front = record front { bodies = body ∷ front.bodies }
+abbrev pub in_head : List ℕ → Head → Head
+in_head body head = record head { bodies = body ∷ head.bodies }
 
 -- the trace of the lines is no longer than a trace may be
 abbrev pub has_room : ℕ → List ℕ → Bool
@@ -65,12 +65,12 @@ has_room room body = nat_le (length body + 1) room
 
 -- a line that begins `= ` stops them where it cannot be repeated; the text's last line, without a line
 -- feed, is never one of them
-unfoldable pub front_of : ℕ → Bool → List (List ℕ) → Front
-front_of room parted [] = none_of false []
-front_of room parted (last ∷ []) = none_of false (last ∷ [])
-front_of room parted (line ∷ next ∷ more) =
+unfoldable pub head_of : ℕ → Bool → List (List ℕ) → Head
+head_of room parted [] = none_of false []
+head_of room parted (last ∷ []) = none_of false (last ∷ [])
+head_of room parted (line ∷ next ∷ more) =
     if not (is_repeated line)
     then none_of false (line ∷ next ∷ more)
     else (if can_repeat parted (drop 2 line) && has_room room (drop 2 line)
-    then in_front (drop 2 line) (front_of (room - (length (drop 2 line) + 1)) (parted || is_parts (drop 2 line)) (next ∷ more))
+    then in_head (drop 2 line) (head_of (room - (length (drop 2 line) + 1)) (parted || is_parts (drop 2 line)) (next ∷ more))
     else none_of true (line ∷ next ∷ more))

@@ -14,7 +14,7 @@ use Rattle.lb_read.specs.declared.written.WrittenEntry.{WrittenEntry}
 use Rattle.lb_read.specs.declared.written.Read.{Read}
 use Rattle.lb_read.specs.declared.written.RecordError.{RecordError}
 use Rattle.lb_read.specs.declared.written.RecordError.TheVariants as errors
-use Rattle.lb_read.specs.Repeats.{Front, front_of}
+use Rattle.lb_read.specs.Repeats.{Head, head_of}
 use Rattle.lb_read.specs.Entries.{line_in}
 
 -- what stands between line feeds, and after the last
@@ -55,29 +55,29 @@ room = MAX_BYTES - 10
 abbrev pub line_after : List (List ℕ) → ℕ
 line_after bodies = length bodies + 2
 
--- the header's lines in front of these lines
-abbrev pub front_behind : List (List ℕ) → Front
-front_behind lines = front_of room false lines
+-- the header's lines at the head of these lines
+abbrev pub head_behind : List (List ℕ) → Head
+head_behind lines = head_of room false lines
 
-abbrev pub header_from : Front → Result Trace (ℕ × Code) → Result Header ℕ
-header_from front (Err bad) = Err bad.0
-header_from front (Ok trace) = if front.stopped then Err (line_after front.bodies) else Ok trace.header
+abbrev pub header_from : Head → Result Trace (ℕ × Code) → Result Header ℕ
+header_from head (Err bad) = Err bad.0
+header_from head (Ok trace) = if head.stopped then Err (line_after head.bodies) else Ok trace.header
 
-unfoldable pub header_in : Front → Result Header ℕ
-header_in front = header_from front (reading_of (trace_text front.bodies))
+unfoldable pub header_in : Head → Result Header ℕ
+header_in head = header_from head (reading_of (trace_text head.bodies))
 
 -- ---- the whole text
 abbrev pub read_from : Header → Result (List WrittenEntry) ℕ → Result Read ℕ
 read_from header (Ok entries) = Ok (record { header = header; entries = entries })
 read_from header (Err n) = Err n
 
-abbrev pub read_after : Front → Result Header ℕ → Result Read ℕ
-read_after front (Err n) = Err n
-read_after front (Ok header) = read_from header (entries_in (line_after front.bodies) front.rest)
+abbrev pub read_after : Head → Result Header ℕ → Result Read ℕ
+read_after head (Err n) = Err n
+read_after head (Ok header) = read_from header (entries_in (line_after head.bodies) head.rest)
 
 -- behind the first line
 unfoldable pub read_behind : List (List ℕ) → Result Read ℕ
-read_behind lines = read_after (front_behind lines) (header_in (front_behind lines))
+read_behind lines = read_after (head_behind lines) (header_in (head_behind lines))
 
 unfoldable pub read_lines : List (List ℕ) → Result Read ℕ
 read_lines [] = Err 1

@@ -8,29 +8,29 @@ ghost use Rattle.lb_read.specs.declared.kinds.CommandKind.TheVariants as command
 use crate::fields::{last_mask, mask_in, next_moment, nice_in, number_in, short_in};
 use crate::kinds::CommandKind;
 use lb_base::{Items, NoMemory};
-use lb_text::Parts;
+use lb_text::Pieces;
 use lb_trace::{Command, MAX_MOMENT, Masks};
 use std::alloc::Global;
 
 // A task or a CPU, and a moment.
 #[tactic(auto, unfolding(crate::specs::Exact::take_field))]
-fn subject_at(fields: &mut Parts) -> Option<(u32, u64)>
+fn subject_at(fields: &mut Pieces) -> Option<(u32, u64)>
     ensures { MatchOption result
         (subject_at fields.old ≡ None)
         (λ found. subject_at fields.old ≡ Some (found, fields.new)) }
 {
-    let subject = short_in(fields.next_part()?)?;
-    let at = number_in(fields.next_part()?, MAX_MOMENT)?;
+    let subject = short_in(fields.next_piece()?)?;
+    let at = number_in(fields.next_piece()?, MAX_MOMENT)?;
     Some((subject, at))
 }
 
 // The same, after which nothing is left.
 #[tactic(auto, unfolding(crate::specs::Exact::take_field))]
-fn last_subject_at(fields: &mut Parts) -> Option<(u32, u64)>
+fn last_subject_at(fields: &mut Pieces) -> Option<(u32, u64)>
     ensures { result ≡ whole subject_at fields.old }
 {
     let found = subject_at(fields)?;
-    match fields.next_part() {
+    match fields.next_piece() {
         Some(_) => None,
         None => Some(found),
     }
@@ -38,7 +38,7 @@ fn last_subject_at(fields: &mut Parts) -> Option<(u32, u64)>
 
 // The command `wake`.
 #[tactic(auto, unfolding(crate::specs::Commands::command_in))]
-fn wake_in(fields: &mut Parts) -> Option<(Command, u64)>
+fn wake_in(fields: &mut Pieces) -> Option<(Command, u64)>
     ensures { result ≡ command_in command_kinds.Wake fields.old }
 {
     let (task, at) = last_subject_at(fields)?;
@@ -47,7 +47,7 @@ fn wake_in(fields: &mut Parts) -> Option<(Command, u64)>
 
 // The command `sleep`.
 #[tactic(auto, unfolding(crate::specs::Commands::command_in))]
-fn sleep_in(fields: &mut Parts) -> Option<(Command, u64)>
+fn sleep_in(fields: &mut Pieces) -> Option<(Command, u64)>
     ensures { result ≡ command_in command_kinds.Sleep fields.old }
 {
     let (task, at) = last_subject_at(fields)?;
@@ -56,7 +56,7 @@ fn sleep_in(fields: &mut Parts) -> Option<(Command, u64)>
 
 // The command `exit`.
 #[tactic(auto, unfolding(crate::specs::Commands::command_in))]
-fn exit_in(fields: &mut Parts) -> Option<(Command, u64)>
+fn exit_in(fields: &mut Pieces) -> Option<(Command, u64)>
     ensures { result ≡ command_in command_kinds.Exit fields.old }
 {
     let (task, at) = last_subject_at(fields)?;
@@ -65,7 +65,7 @@ fn exit_in(fields: &mut Parts) -> Option<(Command, u64)>
 
 // A new mask.
 #[tactic(auto, unfolding(crate::specs::Commands::command_in))]
-fn set_mask_in(alloc: Global, fields: &mut Parts) -> Result<Option<(Command, u64)>, NoMemory>
+fn set_mask_in(alloc: Global, fields: &mut Pieces) -> Result<Option<(Command, u64)>, NoMemory>
     ensures { IfOk result (λ command. command ≡ command_in command_kinds.SetMask fields.old) }
 {
     let Some((task, at)) = subject_at(fields) else {
@@ -79,12 +79,12 @@ fn set_mask_in(alloc: Global, fields: &mut Parts) -> Result<Option<(Command, u64
 
 // A new nice value.
 #[tactic(auto, unfolding(crate::specs::Commands::command_in, crate::specs::Exact::take_field))]
-fn set_nice_in(fields: &mut Parts) -> Option<(Command, u64)>
+fn set_nice_in(fields: &mut Pieces) -> Option<(Command, u64)>
     ensures { result ≡ command_in command_kinds.Nice fields.old }
 {
     let (task, at) = subject_at(fields)?;
-    let nice = nice_in(fields.next_part()?)?;
-    match fields.next_part() {
+    let nice = nice_in(fields.next_piece()?)?;
+    match fields.next_piece() {
         Some(_) => None,
         None => Some((Command::Nice { task, nice }, at)),
     }
@@ -92,7 +92,7 @@ fn set_nice_in(fields: &mut Parts) -> Option<(Command, u64)>
 
 // The command `tick`.
 #[tactic(auto, unfolding(crate::specs::Commands::command_in))]
-fn tick_in(fields: &mut Parts) -> Option<(Command, u64)>
+fn tick_in(fields: &mut Pieces) -> Option<(Command, u64)>
     ensures { result ≡ command_in command_kinds.Tick fields.old }
 {
     let (cpu, at) = last_subject_at(fields)?;
@@ -101,11 +101,11 @@ fn tick_in(fields: &mut Parts) -> Option<(Command, u64)>
 
 // All masks that are left.
 #[tactic(auto, using(crate::proofs::EachFacts::each_some, crate::proofs::EachFacts::each_none, crate::proofs::EachFacts::each_all, crate::proofs::EachFacts::each_start))]
-fn all_masks(alloc: Global, fields: &mut Parts) -> Result<Option<Masks>, NoMemory>
+fn all_masks(alloc: Global, fields: &mut Pieces) -> Result<Option<Masks>, NoMemory>
     ensures { IfOk result (λ masks. masks ≡ each mask_in fields.old) }
 {
     let mut masks = Items::new(alloc);
-    while let Some(field) = fields.next_part() {
+    while let Some(field) = fields.next_piece() {
         let Some(mask) = mask_in(alloc, field)? else {
             return Ok(None);
         };
@@ -115,7 +115,7 @@ fn all_masks(alloc: Global, fields: &mut Parts) -> Result<Option<Masks>, NoMemor
 }
 
 // The masks of a partition, at least one.
-fn masks_in(alloc: Global, fields: &mut Parts) -> Result<Option<Masks>, NoMemory>
+fn masks_in(alloc: Global, fields: &mut Pieces) -> Result<Option<Masks>, NoMemory>
     ensures { IfOk result (λ masks. masks ≡ masks_in fields.old) }
 {
     match all_masks(alloc, fields)? {
@@ -132,7 +132,7 @@ fn masks_in(alloc: Global, fields: &mut Parts) -> Result<Option<Masks>, NoMemory
 
 // A new partition.
 #[tactic(auto, unfolding(crate::specs::Commands::command_in, crate::specs::Exact::take_field))]
-fn rebuild_in(alloc: Global, fields: &mut Parts) -> Result<Option<(Command, u64)>, NoMemory>
+fn rebuild_in(alloc: Global, fields: &mut Pieces) -> Result<Option<(Command, u64)>, NoMemory>
     ensures { IfOk result (λ command. command ≡ command_in command_kinds.Rebuild fields.old) }
 {
     let Some(at) = next_moment(fields) else {
@@ -148,7 +148,7 @@ fn rebuild_in(alloc: Global, fields: &mut Parts) -> Result<Option<(Command, u64)
 pub(crate) fn command_in(
     alloc: Global,
     kind: CommandKind,
-    fields: &mut Parts,
+    fields: &mut Pieces,
 ) -> Result<Option<(Command, u64)>, NoMemory>
     ensures { IfOk result (λ command. command ≡ command_in kind fields.old) }
 {

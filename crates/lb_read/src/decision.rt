@@ -10,13 +10,13 @@ use crate::fields::{long_in, short_in};
 use crate::kinds::{DecisionKind, decision_named};
 use crate::words::move_named;
 use lb_imbalance::Decision;
-use lb_text::Parts;
+use lb_text::Pieces;
 
 // A decision without fields.
-fn lone_decision(decision: Decision, fields: &mut Parts) -> Option<Decision>
+fn lone_decision(decision: Decision, fields: &mut Pieces) -> Option<Decision>
     ensures { result ≡ if_none_left decision fields.old }
 {
-    match fields.next_part() {
+    match fields.next_piece() {
         Some(_) => None,
         None => Some(decision),
     }
@@ -24,13 +24,13 @@ fn lone_decision(decision: Decision, fields: &mut Parts) -> Option<Decision>
 
 // A pull: from which CPU, what it is to even out, and how much.
 #[tactic(auto, unfolding(crate::specs::Decisions::decision_in, crate::specs::Exact::take_field))]
-fn pull_in(fields: &mut Parts) -> Option<Decision>
+fn pull_in(fields: &mut Pieces) -> Option<Decision>
     ensures { result ≡ decision_in decision_kinds.Pull fields.old }
 {
-    let source = short_in(fields.next_part()?)?;
-    let kind = move_named(fields.next_part()?)?;
-    let imbalance = long_in(fields.next_part()?)?;
-    match fields.next_part() {
+    let source = short_in(fields.next_piece()?)?;
+    let kind = move_named(fields.next_piece()?)?;
+    let imbalance = long_in(fields.next_piece()?)?;
+    match fields.next_piece() {
         Some(_) => None,
         None => Some(Decision::Pull {
             source,
@@ -42,10 +42,10 @@ fn pull_in(fields: &mut Parts) -> Option<Decision>
 
 /// What a look decides, after which nothing is left.
 #[tactic(auto, unfolding(crate::specs::Decisions::decision_in, crate::specs::Exact::take_field))]
-pub(crate) fn decision_in(fields: &mut Parts) -> Option<Decision>
+pub(crate) fn decision_in(fields: &mut Pieces) -> Option<Decision>
     ensures { result ≡ by_word decision_words decision_in fields.old }
 {
-    match decision_named(fields.next_part()?)? {
+    match decision_named(fields.next_piece()?)? {
         DecisionKind::NotMine => lone_decision(Decision::NotMine, fields),
         DecisionKind::Balanced => lone_decision(Decision::Balanced, fields),
         DecisionKind::Pull => pull_in(fields),

@@ -1,6 +1,6 @@
 //! The entry of a line.
 ghost use Rattle.std.specs.Prelude.{◌≡◌, IfOk, MatchOption, Some, None};
-ghost use Rattle.lb_read.specs.Entries.{origin_front, line_in};
+ghost use Rattle.lb_read.specs.Entries.{origin_head, line_in};
 
 use crate::fields::long_in;
 use crate::kinds::next_what;
@@ -9,7 +9,7 @@ use crate::what::what_in;
 use crate::written::WrittenEntry;
 use lb_base::NoMemory;
 use lb_core::{Entry, Owner};
-use lb_text::{Parts, SPACE};
+use lb_text::{Pieces, SPACE};
 use std::alloc::Global;
 
 // Where an entry comes from.
@@ -23,14 +23,14 @@ struct Origin {
 
 // The ticket of an entry, its owner with the lane, and the ticket of the lane's entry before it.
 #[tactic(auto, unfolding(crate::specs::Exact::take_field))]
-fn origin_in(fields: &mut Parts) -> Option<Origin>
+fn origin_in(fields: &mut Pieces) -> Option<Origin>
     ensures { MatchOption result
-        (origin_front fields.old ≡ None)
-        (λ o. origin_front fields.old ≡ Some (((o.ticket, (o.owner, o.lane)), o.prev), fields.new)) }
+        (origin_head fields.old ≡ None)
+        (λ o. origin_head fields.old ≡ Some (((o.ticket, (o.owner, o.lane)), o.prev), fields.new)) }
 {
-    let ticket = long_in(fields.next_part()?)?;
-    let (owner, lane) = owner_in(fields.next_part()?)?;
-    let prev = long_in(fields.next_part()?)?;
+    let ticket = long_in(fields.next_piece()?)?;
+    let (owner, lane) = owner_in(fields.next_piece()?)?;
+    let prev = long_in(fields.next_piece()?)?;
     Some(Origin {
         ticket,
         owner,
@@ -44,7 +44,7 @@ fn origin_in(fields: &mut Parts) -> Option<Origin>
 pub(crate) fn entry_of(alloc: Global, line: &[u8]) -> Result<Option<WrittenEntry>, NoMemory>
     ensures { IfOk result (λ entry. entry ≡ line_in line.now) }
 {
-    let mut fields = Parts::new(line, SPACE);
+    let mut fields = Pieces::new(line, SPACE);
     let Some(origin) = origin_in(&mut fields) else {
         return Ok(None);
     };

@@ -9,7 +9,7 @@ ghost use Rattle.lb_read.specs.Fields.{short_in, long_in, moment_in, mask_in, id
 
 use lb_base::{Items, Mask, NoMemory};
 use lb_core::{FigName, FigNames, Ids};
-use lb_text::{COLON, COMMA, Parts, SEMICOLON};
+use lb_text::{COLON, COMMA, Pieces, SEMICOLON};
 use lb_trace::MAX_MOMENT;
 use std::alloc::Global;
 
@@ -91,8 +91,8 @@ pub(crate) fn ids_in(alloc: Global, text: &[u8]) -> Result<Option<Ids>, NoMemory
     if text == b"-".as_slice() {
         return Ok(Some(ids));
     }
-    let mut parts = Parts::new(text, SEMICOLON);
-    while let Some(part) = parts.next_part() {
+    let mut parts = Pieces::new(text, SEMICOLON);
+    while let Some(part) = parts.next_piece() {
         let Some(id) = short_in(part) else {
             return Ok(None);
         };
@@ -108,10 +108,10 @@ pub(crate) fn ids_in(alloc: Global, text: &[u8]) -> Result<Option<Ids>, NoMemory
 fn figure_in(text: &[u8]) -> Option<FigName>
     ensures { result ≡ figure_in text.now }
 {
-    let mut parts = Parts::new(text, COLON);
-    let cpu = short_in(parts.next_part()?)?;
-    let n = long_in(parts.next_part()?)?;
-    match parts.next_part() {
+    let mut parts = Pieces::new(text, COLON);
+    let cpu = short_in(parts.next_piece()?)?;
+    let n = long_in(parts.next_piece()?)?;
+    match parts.next_piece() {
         Some(_) => None,
         None => Some(FigName { cpu, n }),
     }
@@ -147,8 +147,8 @@ pub(crate) fn figures_in(alloc: Global, text: &[u8]) -> Result<Option<FigNames>,
     ensures { IfOk result (λ found. found ≡ figures_in text.now) }
 {
     let mut figures = Items::new(alloc);
-    let mut parts = Parts::new(text, COMMA);
-    while let Some(part) = parts.next_part() {
+    let mut parts = Pieces::new(text, COMMA);
+    while let Some(part) = parts.next_piece() {
         let Some(figure) = figure_in(part) else {
             return Ok(None);
         };
@@ -177,42 +177,42 @@ pub(crate) fn target_in(text: &[u8]) -> Option<Option<u32>>
 
 /// The next number of 64 bits.
 #[tactic(auto, unfolding(crate::specs::Exact::take_field))]
-pub(crate) fn next_long(fields: &mut Parts) -> Option<u64>
+pub(crate) fn next_long(fields: &mut Pieces) -> Option<u64>
     ensures { MatchOption result
         (take_field long_in fields.old ≡ None)
         (λ n. take_field long_in fields.old ≡ Some (n, fields.new)) }
 {
-    long_in(fields.next_part()?)
+    long_in(fields.next_piece()?)
 }
 
 /// The next number of 32 bits.
 #[tactic(auto, unfolding(crate::specs::Exact::take_field))]
-pub(crate) fn next_short(fields: &mut Parts) -> Option<u32>
+pub(crate) fn next_short(fields: &mut Pieces) -> Option<u32>
     ensures { MatchOption result
         (take_field short_in fields.old ≡ None)
         (λ n. take_field short_in fields.old ≡ Some (n, fields.new)) }
 {
-    short_in(fields.next_part()?)
+    short_in(fields.next_piece()?)
 }
 
 /// The next moment, in nanoseconds.
 #[tactic(auto, unfolding(crate::specs::Exact::take_field))]
-pub(crate) fn next_moment(fields: &mut Parts) -> Option<u64>
+pub(crate) fn next_moment(fields: &mut Pieces) -> Option<u64>
     ensures { MatchOption result
         (take_field moment_in fields.old ≡ None)
         (λ at. take_field moment_in fields.old ≡ Some (at, fields.new)) }
 {
-    number_in(fields.next_part()?, MAX_MOMENT)
+    number_in(fields.next_piece()?, MAX_MOMENT)
 }
 
 /// The next list of CPUs.
 #[tactic(auto, unfolding(crate::specs::Exact::take_field))]
-pub(crate) fn next_mask(alloc: Global, fields: &mut Parts) -> Result<Option<Mask>, NoMemory>
+pub(crate) fn next_mask(alloc: Global, fields: &mut Pieces) -> Result<Option<Mask>, NoMemory>
     ensures { IfOk result (λ found. MatchOption found
         (take_field mask_in fields.old ≡ None)
         (λ mask. take_field mask_in fields.old ≡ Some (mask, fields.new))) }
 {
-    match fields.next_part() {
+    match fields.next_piece() {
         None => Ok(None),
         Some(field) => mask_in(alloc, field),
     }
@@ -220,12 +220,12 @@ pub(crate) fn next_mask(alloc: Global, fields: &mut Parts) -> Result<Option<Mask
 
 /// The next figures.
 #[tactic(auto, unfolding(crate::specs::Exact::take_field))]
-pub(crate) fn next_figures(alloc: Global, fields: &mut Parts) -> Result<Option<FigNames>, NoMemory>
+pub(crate) fn next_figures(alloc: Global, fields: &mut Pieces) -> Result<Option<FigNames>, NoMemory>
     ensures { IfOk result (λ found. MatchOption found
         (take_field figures_in fields.old ≡ None)
         (λ figures. take_field figures_in fields.old ≡ Some (figures, fields.new))) }
 {
-    match fields.next_part() {
+    match fields.next_piece() {
         None => Ok(None),
         Some(field) => figures_in(alloc, field),
     }
@@ -235,13 +235,13 @@ pub(crate) fn next_figures(alloc: Global, fields: &mut Parts) -> Result<Option<F
 
 /// A list of CPUs, after which nothing is left.
 #[tactic(auto, unfolding(crate::specs::Exact::take_field))]
-pub(crate) fn last_mask(alloc: Global, fields: &mut Parts) -> Result<Option<Mask>, NoMemory>
+pub(crate) fn last_mask(alloc: Global, fields: &mut Pieces) -> Result<Option<Mask>, NoMemory>
     ensures { IfOk result (λ mask. mask ≡ whole (take_field mask_in) fields.old) }
 {
     let Some(mask) = next_mask(alloc, fields)? else {
         return Ok(None);
     };
-    match fields.next_part() {
+    match fields.next_piece() {
         Some(_) => Ok(None),
         None => Ok(Some(mask)),
     }
@@ -249,16 +249,16 @@ pub(crate) fn last_mask(alloc: Global, fields: &mut Parts) -> Result<Option<Mask
 
 /// Numbers of tasks, after which nothing is left.
 #[tactic(auto, unfolding(crate::specs::Exact::take_field))]
-pub(crate) fn last_ids(alloc: Global, fields: &mut Parts) -> Result<Option<Ids>, NoMemory>
+pub(crate) fn last_ids(alloc: Global, fields: &mut Pieces) -> Result<Option<Ids>, NoMemory>
     ensures { IfOk result (λ ids. ids ≡ whole (take_field ids_in) fields.old) }
 {
-    let Some(field) = fields.next_part() else {
+    let Some(field) = fields.next_piece() else {
         return Ok(None);
     };
     let Some(ids) = ids_in(alloc, field)? else {
         return Ok(None);
     };
-    match fields.next_part() {
+    match fields.next_piece() {
         Some(_) => Ok(None),
         None => Ok(Some(ids)),
     }

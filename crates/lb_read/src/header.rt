@@ -1,7 +1,7 @@
 //! Reading the header of a history: its lines without `= ` are read as a trace.
 ghost use Rattle.std.specs.Prelude.{◌≡◌, [], ◌∷◌, ◌++◌, ◌≤◌, ◌+◌, length, IfOk, IfErr, OnOk, Ok};
 ghost use Rattle.lb_text.specs.declared.marks.TheConstants.{LINE_FEED};
-ghost use Rattle.lb_read.specs.Texts.{lines_of, trace_text, front_behind, line_after, header_in, Refuses};
+ghost use Rattle.lb_read.specs.Texts.{lines_of, trace_text, head_behind, line_after, header_in, Refuses};
 
 use crate::lines::{cut_line, repeated};
 use crate::repeats::{can_follow, parted_by};
@@ -29,24 +29,24 @@ fn add_line(trace: &mut Vec<u8>, body: &[u8]) -> Result<(), NoMemory>
     Ok(())
 }
 
-// The lines in front that can be repeated: the trace that they are, how many there are, whether a
+// The lines at the head that can be repeated: the trace that they are, how many there are, whether a
 // line behind `= ` ends them, and the text that is left.
 #[derive(Drop)]
-struct Front<'a> {
+struct Head<'a> {
     trace: Vec<u8>,
     lines: u64,
     stopped: bool,
     rest: &'a [u8],
 }
 
-// Reads the lines in front that can be repeated.
-fn front_of<'a>(alloc: Global, text: &'a [u8]) -> Result<Front<'a>, NoMemory>
-    ensures trace { IfOk result (λ front. front.trace.items ≡ trace_text (front_behind (lines_of text.now)).bodies) }
-    ensures lines { IfOk result (λ front. front.lines ≡ length (front_behind (lines_of text.now)).bodies) }
-    ensures few { IfOk result (λ front. front.lines ≤ MAX_BYTES) }
-    ensures stopped { IfOk result (λ front. front.stopped ≡ (front_behind (lines_of text.now)).stopped) }
-    ensures rest { IfOk result (λ front. lines_of front.rest.now ≡ (front_behind (lines_of text.now)).rest) }
-    ensures within { IfOk result (λ front. length front.rest.now ≤ length text.now) }
+// Reads the lines at the head that can be repeated.
+fn head_of<'a>(alloc: Global, text: &'a [u8]) -> Result<Head<'a>, NoMemory>
+    ensures trace { IfOk result (λ head. head.trace.items ≡ trace_text (head_behind (lines_of text.now)).bodies) }
+    ensures lines { IfOk result (λ head. head.lines ≡ length (head_behind (lines_of text.now)).bodies) }
+    ensures few { IfOk result (λ head. head.lines ≤ MAX_BYTES) }
+    ensures stopped { IfOk result (λ head. head.stopped ≡ (head_behind (lines_of text.now)).stopped) }
+    ensures rest { IfOk result (λ head. lines_of head.rest.now ≡ (head_behind (lines_of text.now)).rest) }
+    ensures within { IfOk result (λ head. length head.rest.now ≤ length text.now) }
 {
     let mut trace = first_line(alloc)?;
     let mut parted = false;
@@ -54,7 +54,7 @@ fn front_of<'a>(alloc: Global, text: &'a [u8]) -> Result<Front<'a>, NoMemory>
     let mut rest = text;
     while let Some((line, after)) = cut_line(rest) {
         let Some(body) = repeated(line) else {
-            return Ok(Front {
+            return Ok(Head {
                 trace,
                 lines,
                 stopped: false,
@@ -62,7 +62,7 @@ fn front_of<'a>(alloc: Global, text: &'a [u8]) -> Result<Front<'a>, NoMemory>
             });
         };
         if !can_follow(alloc, parted, body, trace.len())? {
-            return Ok(Front {
+            return Ok(Head {
                 trace,
                 lines,
                 stopped: true,
@@ -74,7 +74,7 @@ fn front_of<'a>(alloc: Global, text: &'a [u8]) -> Result<Front<'a>, NoMemory>
         lines += 1;
         rest = after;
     }
-    Ok(Front {
+    Ok(Head {
         trace,
         lines,
         stopped: false,
@@ -82,26 +82,26 @@ fn front_of<'a>(alloc: Global, text: &'a [u8]) -> Result<Front<'a>, NoMemory>
     })
 }
 
-/// The header in front of a text, the number of the line after it, and the text that is left. Line 1
+/// The header at the head of a text, the number of the line after it, and the text that is left. Line 1
 /// stands before the text.
 #[tactic(auto, unfolding(crate::specs::Texts::header_in))]
 pub(crate) fn header_in<'a>(
     alloc: Global,
     text: &'a [u8],
 ) -> Result<(Header, u64, &'a [u8]), RecordError>
-    ensures header { IfOk result (λ found. header_in (front_behind (lines_of text.now)) ≡ Ok found.0) }
-    ensures first { IfOk result (λ found. found.1 ≡ line_after (front_behind (lines_of text.now)).bodies) }
+    ensures header { IfOk result (λ found. header_in (head_behind (lines_of text.now)) ≡ Ok found.0) }
+    ensures first { IfOk result (λ found. found.1 ≡ line_after (head_behind (lines_of text.now)).bodies) }
     ensures few { IfOk result (λ found. found.1 ≤ MAX_BYTES + 2) }
-    ensures rest { IfOk result (λ found. lines_of found.2.now ≡ (front_behind (lines_of text.now)).rest) }
+    ensures rest { IfOk result (λ found. lines_of found.2.now ≡ (head_behind (lines_of text.now)).rest) }
     ensures within { IfOk result (λ found. length found.2.now ≤ length text.now) }
-    ensures bad { IfErr result (λ refused. Refuses refused (header_in (front_behind (lines_of text.now)))) }
+    ensures bad { IfErr result (λ refused. Refuses refused (header_in (head_behind (lines_of text.now)))) }
 {
-    let Front {
+    let Head {
         trace,
         lines,
         stopped,
         rest,
-    } = front_of(alloc, text)?;
+    } = head_of(alloc, text)?;
     match Trace::read(alloc, trace.as_slice()) {
         Err(TraceError::NoMemory) => Err(RecordError::NoMemory),
         // line 1 of a history stands for line 1 of the trace

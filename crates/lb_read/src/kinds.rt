@@ -3,7 +3,7 @@ ghost use Rattle.std.specs.Prelude.{◌≡◌, MatchOption, Some, None};
 ghost use Rattle.lb_read.specs.Exact.{named, take_field};
 ghost use Rattle.lb_read.specs.KindWords.{decision_words, command_words, what_words};
 
-use lb_text::Parts;
+use lb_text::Pieces;
 
 /// The kinds of entry.
 #[derive(Clone, Copy)]
@@ -124,20 +124,20 @@ fn what_named(word: &[u8]) -> Option<WhatKind>
 
 /// The next kind of command.
 #[tactic(auto, unfolding(crate::specs::Exact::take_field))]
-pub(crate) fn next_command(fields: &mut Parts) -> Option<CommandKind>
+pub(crate) fn next_command(fields: &mut Pieces) -> Option<CommandKind>
     ensures { MatchOption result
         (take_field (named command_words) fields.old ≡ None)
         (λ kind. take_field (named command_words) fields.old ≡ Some (kind, fields.new)) }
 {
-    command_named(fields.next_part()?)
+    command_named(fields.next_piece()?)
 }
 
 /// The next kind of entry.
 #[tactic(auto, unfolding(crate::specs::Exact::take_field))]
-pub(crate) fn next_what(fields: &mut Parts) -> Option<WhatKind>
+pub(crate) fn next_what(fields: &mut Pieces) -> Option<WhatKind>
     ensures { MatchOption result
         (take_field (named what_words) fields.old ≡ None)
         (λ kind. take_field (named what_words) fields.old ≡ Some (kind, fields.new)) }
 {
-    what_named(fields.next_part()?)
+    what_named(fields.next_piece()?)
 }

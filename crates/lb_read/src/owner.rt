@@ -4,7 +4,7 @@ ghost use Rattle.lb_read.specs.Owners.{queue_in, publisher_in, owner_in};
 
 use crate::fields::short_in;
 use lb_core::Owner;
-use lb_text::Parts;
+use lb_text::Pieces;
 
 // The first byte, and what stands behind it.
 fn first_of(text: &[u8]) -> Option<(u8, &[u8])>
@@ -33,10 +33,10 @@ fn publisher_in(rest: &[u8]) -> Option<(Owner, u32)>
 fn queue_in(rest: &[u8]) -> Option<(Owner, u32)>
     ensures { result ≡ queue_in rest.now }
 {
-    let mut parts = Parts::new(rest, b'@');
-    let cpu = short_in(parts.next_part()?)?;
-    let lane = short_in(parts.next_part()?)?;
-    match parts.next_part() {
+    let mut parts = Pieces::new(rest, b'@');
+    let cpu = short_in(parts.next_piece()?)?;
+    let lane = short_in(parts.next_piece()?)?;
+    match parts.next_piece() {
         Some(_) => None,
         None => Some((Owner::Queue(cpu), lane)),
     }

@@ -5,7 +5,7 @@ ghost use Rattle.lb_read.specs.Repeats.{is_spelled, can_repeat, is_parts, has_ro
 
 use crate::fields::is_spelling;
 use lb_base::NoMemory;
-use lb_text::{COMMA, Parts, list_of};
+use lb_text::{COMMA, Pieces, list_of};
 use lb_trace::MAX_BYTES;
 use std::alloc::Global;
 
@@ -24,10 +24,10 @@ fn is_spelled(alloc: Global, text: &[u8]) -> Result<bool, NoMemory>
 }
 
 // Whether all fields that are left are such texts.
-fn are_spelled(alloc: Global, fields: &mut Parts) -> Result<bool, NoMemory>
+fn are_spelled(alloc: Global, fields: &mut Pieces) -> Result<bool, NoMemory>
     ensures { IfOk result (λ are. are ≡ list_all is_spelled fields.old) }
 {
-    while let Some(field) = fields.next_part() {
+    while let Some(field) = fields.next_piece() {
         if !is_spelled(alloc, field)? {
             return Ok(false);
         }
@@ -36,10 +36,10 @@ fn are_spelled(alloc: Global, fields: &mut Parts) -> Result<bool, NoMemory>
 }
 
 // Passes over a field.
-fn pass(fields: &mut Parts)
+fn pass(fields: &mut Pieces)
     ensures { fields.new ≡ drop 1 fields.old }
 {
-    let _ = fields.next_part();
+    let _ = fields.next_piece();
 }
 
 // Whether the line of a trace can be repeated, after a line `parts` or before.
@@ -47,8 +47,8 @@ fn pass(fields: &mut Parts)
 fn can_repeat(alloc: Global, parted: bool, body: &[u8]) -> Result<bool, NoMemory>
     ensures { IfOk result (λ can. can ≡ can_repeat parted body.now) }
 {
-    let mut fields = Parts::new(body, COMMA);
-    let Some(word) = fields.next_part() else {
+    let mut fields = Pieces::new(body, COMMA);
+    let Some(word) = fields.next_piece() else {
         return Ok(false);
     };
     if word == b"parts".as_slice() {
@@ -89,8 +89,8 @@ pub(crate) fn can_follow(
 fn is_parts(body: &[u8]) -> bool
     ensures { result ≡ is_parts body.now }
 {
-    let mut fields = Parts::new(body, COMMA);
-    match fields.next_part() {
+    let mut fields = Pieces::new(body, COMMA);
+    match fields.next_piece() {
         None => false,
         Some(word) => word == b"parts".as_slice(),
     }

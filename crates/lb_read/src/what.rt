@@ -18,12 +18,12 @@ use crate::words::{cause_named, outcome_named, reply_named, request_named, turn_
 use lb_base::NoMemory;
 use lb_core::{FigNames, What};
 use lb_queue::{AskReply, OutCause};
-use lb_text::Parts;
+use lb_text::Pieces;
 use std::alloc::Global;
 
 // The kind `row`.
 #[tactic(auto, unfolding(crate::specs::Kinds::what_in))]
-fn row_in(alloc: Global, fields: &mut Parts) -> Result<Option<What>, NoMemory>
+fn row_in(alloc: Global, fields: &mut Pieces) -> Result<Option<What>, NoMemory>
     ensures { IfOk result (λ what. what ≡ what_in kinds.Row fields.old) }
 {
     let Some(number) = next_long(fields) else {
@@ -44,13 +44,13 @@ fn row_in(alloc: Global, fields: &mut Parts) -> Result<Option<What>, NoMemory>
 
 // The kind `use`.
 #[tactic(auto, unfolding(crate::specs::Kinds::what_in, crate::specs::Exact::take_field))]
-fn adopt_in(fields: &mut Parts) -> Option<What>
+fn adopt_in(fields: &mut Pieces) -> Option<What>
     ensures { result ≡ what_in kinds.Adopt fields.old }
 {
-    let version = long_in(fields.next_part()?)?;
-    let kind = turn_named(fields.next_part()?)?;
-    let cpu = short_in(fields.next_part()?)?;
-    match fields.next_part() {
+    let version = long_in(fields.next_piece()?)?;
+    let kind = turn_named(fields.next_piece()?)?;
+    let cpu = short_in(fields.next_piece()?)?;
+    match fields.next_piece() {
         Some(_) => None,
         None => Some(What::Adopt { version, kind, cpu }),
     }
@@ -58,7 +58,7 @@ fn adopt_in(fields: &mut Parts) -> Option<What>
 
 // The kind `look`.
 #[tactic(auto, unfolding(crate::specs::Kinds::what_in, crate::specs::Exact::take_field))]
-fn look_in(alloc: Global, fields: &mut Parts) -> Result<Option<What>, NoMemory>
+fn look_in(alloc: Global, fields: &mut Pieces) -> Result<Option<What>, NoMemory>
     ensures { IfOk result (λ what. what ≡ what_in kinds.Look fields.old) }
 {
     let Some(position) = next_short(fields) else {
@@ -83,11 +83,11 @@ fn look_in(alloc: Global, fields: &mut Parts) -> Result<Option<What>, NoMemory>
 
 // A scan with these figures: its target.
 #[tactic(auto, unfolding(crate::specs::Exact::take_field))]
-fn scanned(figures: FigNames, fields: &mut Parts) -> Option<What>
+fn scanned(figures: FigNames, fields: &mut Pieces) -> Option<What>
     ensures { result ≡ option_map (λ target. scan_from (figures, target)) (whole (take_field target_in) fields.old) }
 {
-    let target = target_in(fields.next_part()?)?;
-    match fields.next_part() {
+    let target = target_in(fields.next_piece()?)?;
+    match fields.next_piece() {
         Some(_) => None,
         None => Some(What::Scan { figures, target }),
     }
@@ -95,7 +95,7 @@ fn scanned(figures: FigNames, fields: &mut Parts) -> Option<What>
 
 // The kind `scan`.
 #[tactic(auto, unfolding(crate::specs::Kinds::what_in, crate::specs::Exact::take_field))]
-fn scan_in(alloc: Global, fields: &mut Parts) -> Result<Option<What>, NoMemory>
+fn scan_in(alloc: Global, fields: &mut Pieces) -> Result<Option<What>, NoMemory>
     ensures { IfOk result (λ what. what ≡ what_in kinds.Scan fields.old) }
 {
     let Some(figures) = next_figures(alloc, fields)? else {
@@ -106,7 +106,7 @@ fn scan_in(alloc: Global, fields: &mut Parts) -> Result<Option<What>, NoMemory>
 
 // The kind `end`.
 #[tactic(auto, unfolding(crate::specs::Kinds::what_in))]
-fn end_in(alloc: Global, fields: &mut Parts) -> Result<Option<What>, NoMemory>
+fn end_in(alloc: Global, fields: &mut Pieces) -> Result<Option<What>, NoMemory>
     ensures { IfOk result (λ what. what ≡ what_in kinds.End fields.old) }
 {
     match last_mask(alloc, fields)? {
@@ -117,11 +117,11 @@ fn end_in(alloc: Global, fields: &mut Parts) -> Result<Option<What>, NoMemory>
 
 // The kind `did`.
 #[tactic(auto, unfolding(crate::specs::Kinds::what_in, crate::specs::Exact::take_field))]
-fn did_in(fields: &mut Parts) -> Option<What>
+fn did_in(fields: &mut Pieces) -> Option<What>
     ensures { result ≡ what_in kinds.Did fields.old }
 {
-    let reply = reply_named(fields.next_part()?)?;
-    match fields.next_part() {
+    let reply = reply_named(fields.next_piece()?)?;
+    match fields.next_piece() {
         Some(_) => None,
         None => Some(What::Did { reply }),
     }
@@ -129,19 +129,19 @@ fn did_in(fields: &mut Parts) -> Option<What>
 
 // Why tasks leave, and where to.
 #[tactic(auto, unfolding(crate::specs::Exact::take_field))]
-fn leaving_in(fields: &mut Parts) -> Option<(OutCause, u32)>
+fn leaving_in(fields: &mut Pieces) -> Option<(OutCause, u32)>
     ensures { MatchOption result
         (next_to (take_field (named cause_words)) (take_field short_in) fields.old ≡ None)
         (λ found. next_to (take_field (named cause_words)) (take_field short_in) fields.old ≡ Some (found, fields.new)) }
 {
-    let cause = cause_named(fields.next_part()?)?;
-    let to = short_in(fields.next_part()?)?;
+    let cause = cause_named(fields.next_piece()?)?;
+    let to = short_in(fields.next_piece()?)?;
     Some((cause, to))
 }
 
 // The kind `out`.
 #[tactic(auto, unfolding(crate::specs::Kinds::what_in, crate::specs::Exact::take_field))]
-fn out_in(alloc: Global, fields: &mut Parts) -> Result<Option<What>, NoMemory>
+fn out_in(alloc: Global, fields: &mut Pieces) -> Result<Option<What>, NoMemory>
     ensures { IfOk result (λ what. what ≡ what_in kinds.Out fields.old) }
 {
     let Some((cause, to)) = leaving_in(fields) else {
@@ -155,7 +155,7 @@ fn out_in(alloc: Global, fields: &mut Parts) -> Result<Option<What>, NoMemory>
 
 // The kind `in`.
 #[tactic(auto, unfolding(crate::specs::Kinds::what_in))]
-fn landed_in(alloc: Global, fields: &mut Parts) -> Result<Option<What>, NoMemory>
+fn landed_in(alloc: Global, fields: &mut Pieces) -> Result<Option<What>, NoMemory>
     ensures { IfOk result (λ what. what ≡ what_in kinds.Landed fields.old) }
 {
     match last_ids(alloc, fields)? {
@@ -166,7 +166,7 @@ fn landed_in(alloc: Global, fields: &mut Parts) -> Result<Option<What>, NoMemory
 
 // The kind `turn`.
 #[tactic(auto, unfolding(crate::specs::Kinds::what_in))]
-fn turn_in(alloc: Global, fields: &mut Parts) -> Result<Option<What>, NoMemory>
+fn turn_in(alloc: Global, fields: &mut Pieces) -> Result<Option<What>, NoMemory>
     ensures { IfOk result (λ what. what ≡ what_in kinds.Turn fields.old) }
 {
     match last_mask(alloc, fields)? {
@@ -177,14 +177,14 @@ fn turn_in(alloc: Global, fields: &mut Parts) -> Result<Option<What>, NoMemory>
 
 // The kind `close`.
 #[tactic(auto, unfolding(crate::specs::Kinds::what_in, crate::specs::Exact::take_field))]
-fn close_in(fields: &mut Parts) -> Option<What>
+fn close_in(fields: &mut Pieces) -> Option<What>
     ensures { result ≡ what_in kinds.Close fields.old }
 {
-    let position = short_in(fields.next_part()?)?;
-    let outcome = outcome_named(fields.next_part()?)?;
-    let interval = long_in(fields.next_part()?)?;
-    let failures = short_in(fields.next_part()?)?;
-    match fields.next_part() {
+    let position = short_in(fields.next_piece()?)?;
+    let outcome = outcome_named(fields.next_piece()?)?;
+    let interval = long_in(fields.next_piece()?)?;
+    let failures = short_in(fields.next_piece()?)?;
+    match fields.next_piece() {
         Some(_) => None,
         None => Some(What::Close {
             position,
@@ -197,11 +197,11 @@ fn close_in(fields: &mut Parts) -> Option<What>
 
 // The answer to a request, after which nothing is left.
 #[tactic(auto, unfolding(crate::specs::Exact::take_field))]
-fn last_request(fields: &mut Parts) -> Option<AskReply>
+fn last_request(fields: &mut Pieces) -> Option<AskReply>
     ensures { result ≡ whole (take_field (named request_words)) fields.old }
 {
-    let reply = request_named(fields.next_part()?)?;
-    match fields.next_part() {
+    let reply = request_named(fields.next_piece()?)?;
+    match fields.next_piece() {
         Some(_) => None,
         None => Some(reply),
     }
@@ -209,7 +209,7 @@ fn last_request(fields: &mut Parts) -> Option<AskReply>
 
 // The kind `ask`.
 #[tactic(auto, unfolding(crate::specs::Kinds::what_in))]
-fn ask_in(fields: &mut Parts) -> Option<What>
+fn ask_in(fields: &mut Pieces) -> Option<What>
     ensures { result ≡ what_in kinds.Ask fields.old }
 {
     let reply = last_request(fields)?;
@@ -218,7 +218,7 @@ fn ask_in(fields: &mut Parts) -> Option<What>
 
 // The kind `kick`.
 #[tactic(auto, unfolding(crate::specs::Kinds::what_in))]
-fn kick_in(fields: &mut Parts) -> Option<What>
+fn kick_in(fields: &mut Pieces) -> Option<What>
     ensures { result ≡ what_in kinds.Kick fields.old }
 {
     let reply = last_request(fields)?;
@@ -227,21 +227,21 @@ fn kick_in(fields: &mut Parts) -> Option<What>
 
 // The kind `pub`.
 #[tactic(auto, unfolding(crate::specs::Kinds::what_in, crate::specs::Exact::take_field))]
-fn pub_in(fields: &mut Parts) -> Option<What>
+fn pub_in(fields: &mut Pieces) -> Option<What>
     ensures { result ≡ what_in kinds.Pub fields.old }
 {
-    let version = long_in(fields.next_part()?)?;
-    match fields.next_part() {
+    let version = long_in(fields.next_piece()?)?;
+    match fields.next_piece() {
         Some(_) => None,
         None => Some(What::Pub { version }),
     }
 }
 
 // A kind without fields.
-fn lone_kind(what: What, fields: &mut Parts) -> Option<What>
+fn lone_kind(what: What, fields: &mut Pieces) -> Option<What>
     ensures { result ≡ if_none_left what fields.old }
 {
-    match fields.next_part() {
+    match fields.next_piece() {
         Some(_) => None,
         None => Some(what),
     }
@@ -252,7 +252,7 @@ fn lone_kind(what: What, fields: &mut Parts) -> Option<What>
 pub(crate) fn what_in(
     alloc: Global,
     kind: WhatKind,
-    fields: &mut Parts,
+    fields: &mut Pieces,
 ) -> Result<Option<What>, NoMemory>
     ensures { IfOk result (λ what. what ≡ what_in kind fields.old) }
 {

@@ -4,10 +4,10 @@ use Rattle.std.specs.List.{slice_split, onto_first}
 use Rattle.std.proofs.lemmas.List.{append-nil, drop_more, take_more, drop_all, take_all}
 use Rattle.std.proofs.lemmas.Bool.{ne_eqb, eq-eqb}
 
--- parts behind what was passed of the first of them
+-- pieces behind what was passed of the first of them
 abbrev pub onto_front : List ℕ → List (List ℕ) → List (List ℕ)
 onto_front front [] = front ∷ []
-onto_front front (part ∷ others) = (front ++ part) ∷ others
+onto_front front (piece ∷ others) = (front ++ piece) ∷ others
 
 onto_front-first : (front : List ℕ) (b : ℕ) (ps : List (List ℕ)) → onto_front front (onto_first b ps) ≡ onto_front (front ++ b ∷ []) ps
 onto_front-first front b [] = refl

@@ -17,14 +17,14 @@ use Rattle.lb_text.proofs.Digits.{number_spelled, number_decimal, decimal_digits
 use Rattle.lb_text.proofs.Leading.{some_there}
 use Rattle.lb_text.proofs.Places.{IsPlaced, first_bad_placed}
 
--- the text that the first part begins with
+-- the text that the first piece begins with
 pub split_front : (p : ℕ → Bool) (front rest : List ℕ) → All (λ x. p x ≡ false) front
     → (more : List ℕ) × (others : List (List ℕ)) × (slice_split p (front ++ rest) ≡ (front ++ more) ∷ others)
 split_front p [] rest free = split_some p rest
   where
-    first_some : (x : ℕ) (parts : List (List ℕ)) → (more : List ℕ) × (others : List (List ℕ)) × (onto_first x parts ≡ more ∷ others)
+    first_some : (x : ℕ) (pieces : List (List ℕ)) → (more : List ℕ) × (others : List (List ℕ)) × (onto_first x pieces ≡ more ∷ others)
     first_some x [] = (x ∷ [], [], refl)
-    first_some x (part ∷ parts) = (x ∷ part, parts, refl)
+    first_some x (piece ∷ pieces) = (x ∷ piece, pieces, refl)
 
     split_some : (p : ℕ → Bool) (text : List ℕ) → (more : List ℕ) × (others : List (List ℕ)) × (slice_split p text ≡ more ∷ others)
     split_some p [] = ([], [], refl)
@@ -36,9 +36,9 @@ split_front p (x ∷ front) rest free =
     let f = split_front p front rest (All-tail (λ x. p x ≡ false) x front free) in
     (f.0, f.1, slice_split-cons_no p x (front ++ rest) (All-head (λ x. p x ≡ false) x front free) ∙ ap (onto_first x) f.2)
 
--- a text of one part is that part
-pub one_part : (c : ℕ) (text part : List ℕ) → slice_split (λ b. eqb b c) text ≡ part ∷ [] → text ≡ part
-one_part c text part e = sym (join_with_byte-slice_split c text) ∙ ap (join_with_byte c) e
+-- a text of one piece is that piece
+pub one_piece : (c : ℕ) (text piece : List ℕ) → slice_split (λ b. eqb b c) text ≡ piece ∷ [] → text ≡ piece
+one_piece c text piece e = sym (join_with_byte-slice_split c text) ∙ ap (join_with_byte c) e
 
 digits_free : (c : ℕ) (text : List ℕ) → is_ascii_digit c ≡ false → all_ascii_digits text ≡ true → All (λ b. eqb b c ≡ false) text
 digits_free c [] other e = All-nil (λ b. eqb b c ≡ false)
@@ -51,7 +51,7 @@ digits_free c (b ∷ text) other e =
 abbrev most_cpu : ℕ
 most_cpu = MAX_CPUS - 1
 
--- a part without `-`
+-- a piece without `-`
 abbrev NoDash : List ℕ → Type 0
 NoDash text = All (λ b. eqb b 45 ≡ false) text
 
@@ -73,7 +73,7 @@ some_then : (f : ℕ → Option Run) (o : Option ℕ) → is_some (option_and_th
 some_then f None e = cc e
 some_then f (Some n) e = refl
 
--- the first part of an item is a number
+-- the first piece of an item is a number
 first_number : (first : List ℕ) (others : List (List ℕ)) → is_some (run_of_ends (first ∷ others)) ≡ true → is_number 0 most_cpu first ≡ true
 first_number first [] e = sym (some_map (λ (n : ℕ). (n, n)) (number_within 0 most_cpu first)) ∙ e
 first_number first (last ∷ []) e = some_then (run_from last) (number_within 0 most_cpu first) e
@@ -97,13 +97,13 @@ dash_first text more free e =
     first_number text (slice_split (λ b. eqb b 45) more)
     (ap (λ ps. is_some (run_of_ends ps)) (sym (slice_split_at (λ b. eqb b 45) text 45 more free refl)) ∙ e)
 
--- the part after the first `-`
-last_number : (first : List ℕ) (a : ℕ) (text : List ℕ) (parts : List (List ℕ))
-    → number_within 0 most_cpu first ≡ Some a → slice_split (λ b. eqb b 45) text ≡ parts
-    → is_some (run_of_ends (first ∷ parts)) ≡ true → is_number a most_cpu text ≡ true
+-- the piece after the first `-`
+last_number : (first : List ℕ) (a : ℕ) (text : List ℕ) (pieces : List (List ℕ))
+    → number_within 0 most_cpu first ≡ Some a → slice_split (λ b. eqb b 45) text ≡ pieces
+    → is_some (run_of_ends (first ∷ pieces)) ≡ true → is_number a most_cpu text ≡ true
 last_number first a text [] is e h = let some = split_front (λ b. eqb b 45) [] text (All-nil (λ b. eqb b 45 ≡ false)) in cc (sym e ∙ some.2)
 last_number first a text (last ∷ []) is e h =
-    ap (is_number a most_cpu) (one_part 45 text last e) ∙ sym (some_map (λ (n : ℕ). (a, n)) (number_within a most_cpu last)) ∙ (rw is at h)
+    ap (is_number a most_cpu) (one_piece 45 text last e) ∙ sym (some_map (λ (n : ℕ). (a, n)) (number_within a most_cpu last)) ∙ (rw is at h)
 last_number first a text (last ∷ more ∷ others) is e h = cc h
 
 pub dash_last : (first : List ℕ) (a : ℕ) (text : List ℕ) → NoDash first → number_within 0 most_cpu first ≡ Some a
@@ -118,11 +118,11 @@ pub dash_item : (first : List ℕ) (a b : ℕ) (text : List ℕ) → NoDash firs
     → number_within a most_cpu text ≡ Some b → item_of (first ++ 45 ∷ text) ≡ Some (a, b)
 unfolding item_of
 dash_item first a b text free is e =
-    let parts : slice_split (λ c. eqb c 45) (first ++ 45 ∷ text) ≡ first ∷ text ∷ [] =
+    let pieces : slice_split (λ c. eqb c 45) (first ++ 45 ∷ text) ≡ first ∷ text ∷ [] =
     slice_split_at (λ c. eqb c 45) first 45 text free refl
     ∙ ap (λ ps. first ∷ ps) (slice_split_none (λ c. eqb c 45) text
     (number_free 45 a most_cpu text refl (omega arith) (ap is_some e))) in
-    ap run_of_ends parts ∙ ap (option_and_then (run_from text)) is ∙ ap (option_map (λ (n : ℕ). (a, n))) e
+    ap run_of_ends pieces ∙ ap (option_and_then (run_from text)) is ∙ ap (option_map (λ (n : ℕ). (a, n))) e
 
 -- a number alone
 pub lone_item : (text : List ℕ) (a : ℕ) → number_within 0 most_cpu text ≡ Some a → item_of text ≡ Some (a, a)
@@ -134,23 +134,23 @@ lone_item text a e =
 go_number : (least : ℕ) → least ≤ most_cpu → CanGoOn (is_number least most_cpu) []
 go_number least le = (decimal most_cpu, ap is_some (number_decimal least most_cpu most_cpu (omega arith) le (omega arith)))
 
--- the part before `-`, or the whole item where it has none
-pub first_placed : (part tail : List ℕ) → NoDash part → ((c : ℕ) (more : List ℕ) → tail ≡ c ∷ more → c ≡ 45)
-    → IsPlaced (is_number 0 most_cpu) is_item [] part tail
-first_placed part tail free dash = record {
+-- the piece before `-`, or the whole item where it has none
+pub first_placed : (piece tail : List ℕ) → NoDash piece → ((c : ℕ) (more : List ℕ) → tail ≡ c ∷ more → c ≡ 45)
+    → IsPlaced (is_number 0 most_cpu) is_item [] piece tail
+first_placed piece tail free dash = record {
   begins = (let go = go_number 0 (omega arith) in (go.0, number_item go.0 go.1));
-  inward = λ k go. item_first (take k part) go.0 (All-take (λ b. eqb b 45 ≡ false) k part free) go.1;
-  outward = λ k go. (go.0, number_item (take k part ++ go.0) go.1);
-  ends = λ c more e go. dash_first part go.0 free (ap is_item (sym (append_assoc part (45 ∷ []) go.0)) ∙ rw (dash c more e) at go.1);
+  inward = λ k go. item_first (take k piece) go.0 (All-take (λ b. eqb b 45 ≡ false) k piece free) go.1;
+  outward = λ k go. (go.0, number_item (take k piece ++ go.0) go.1);
+  ends = λ c more e go. dash_first piece go.0 free (ap is_item (sym (append_assoc piece (45 ∷ []) go.0)) ∙ rw (dash c more e) at go.1);
 }
 
 after_dash : (first text more : List ℕ) → ((first ++ 45 ∷ []) ++ text) ++ more ≡ first ++ 45 ∷ (text ++ more)
 after_dash first text more = append_assoc (first ++ 45 ∷ []) text more ∙ append_assoc first (45 ∷ []) (text ++ more)
 
--- the part after `-`
-pub last_placed : (first : List ℕ) (a : ℕ) (part : List ℕ) → NoDash first → number_within 0 most_cpu first ≡ Some a
-    → a ≤ most_cpu → IsPlaced (is_number a most_cpu) is_item (first ++ 45 ∷ []) part []
-last_placed first a part free is le =
+-- the piece after `-`
+pub last_placed : (first : List ℕ) (a : ℕ) (piece : List ℕ) → NoDash first → number_within 0 most_cpu first ≡ Some a
+    → a ≤ most_cpu → IsPlaced (is_number a most_cpu) is_item (first ++ 45 ∷ []) piece []
+last_placed first a piece free is le =
     let out : (text : List ℕ) → CanGoOn (is_number a most_cpu) text → CanGoOn is_item ((first ++ 45 ∷ []) ++ text) =
     λ text go. let some = some_there (number_within a most_cpu (text ++ go.0)) go.1 in
     (go.0, ap is_item (after_dash first text go.0) ∙ ap is_some (dash_item first a some.0 (text ++ go.0) free is some.1)) in
@@ -158,17 +158,17 @@ last_placed first a part free is le =
       begins = subst (λ (t : List ℕ). CanGoOn is_item t) (append-nil (first ++ 45 ∷ [])) (out [] (go_number a le));
       inward = λ k go. (
         go.0,
-        dash_last first a (take k part ++ go.0) free is
-            (ap is_item (sym (after_dash first (take k part) go.0)) ∙ go.1),
+        dash_last first a (take k piece ++ go.0) free is
+            (ap is_item (sym (after_dash first (take k piece) go.0)) ∙ go.1),
       );
-      outward = λ k go. out (take k part) go;
+      outward = λ k go. out (take k piece) go;
       ends = λ c more e go. cc e;
     }
 
 pub go_item : CanGoOn is_item []
 go_item = let go = go_number 0 (omega arith) in (go.0, number_item go.0 go.1)
 
-ends_free : (parts : List (List ℕ)) → is_some (run_of_ends parts) ≡ true → All (λ b. eqb b 59 ≡ false) (join_with_byte 45 parts)
+ends_free : (pieces : List (List ℕ)) → is_some (run_of_ends pieces) ≡ true → All (λ b. eqb b 59 ≡ false) (join_with_byte 45 pieces)
 ends_free [] e = cc e
 ends_free (cpu ∷ []) e = number_free 59 0 most_cpu cpu refl (omega arith) (first_number cpu [] e)
 ends_free (first ∷ last ∷ []) e =

@@ -173,9 +173,9 @@ digit_after least most v b small fits go =
       ))
       | inr ge ↦ ge
     ] in
-    let parts = same_from_push (decimal v) (decimal (m / 10)) b (48 + m % 10) (m_is ∙ decimal_step m ten m_small) in
-    let same : v ≡ m / 10 = decimal_injective v (m / 10) fits (omega (arith, m_small)) parts.0 in
-    let last : b ≡ 48 + m % 10 = parts.1 in
+    let pieces = same_from_push (decimal v) (decimal (m / 10)) b (48 + m % 10) (m_is ∙ decimal_step m ten m_small) in
+    let same : v ≡ m / 10 = decimal_injective v (m / 10) fits (omega (arith, m_small)) pieces.0 in
+    let last : b ≡ 48 + m % 10 = pieces.1 in
     (omega (arith, same, ten), omega (arith, last), omega (arith, last), omega (arith, same, last, m_most))
 
 -- and its first digit

@@ -19,7 +19,7 @@ use Rattle.lb_base.specs.Sets.{mask_where}
 use Rattle.std.proofs.lemmas.List.Sums.{sum_by_push}
 use Rattle.std.proofs.Math.Nat.{pow-suc}
 use Rattle.std.specs.Prelude.{sum_by}
-use Rattle.lb_text.proofs.Taken.{IsPart, list_from_items, in_range, item_some}
+use Rattle.lb_text.proofs.Taken.{IsPiece, list_from_items, in_range, item_some}
 use Rattle.lb_text.specs.Numbers.{number_within}
 use Rattle.lb_text.specs.Runs.{onto_run, runs_of, run_text, runs_text, AreMaximal}
 use Rattle.lb_text.specs.Laws.{SpellsDecimal, ReadsBack, WritesRuns, ListsFit}
@@ -148,13 +148,13 @@ writes_runs m fits =
     let r = runs_among m 0 MAX_CPUS in
     rw (members_among m) (r.maximal, λ k. r.covers k ∙ members_any m k fits)
 
--- the parts of a text that was joined of them
-split_joined : (part : List ℕ) (parts : List (List ℕ)) → All IsPart (part ∷ parts)
-    → slice_split (λ b. eqb b 59) (join_with_byte 59 (part ∷ parts)) ≡ part ∷ parts
-split_joined part [] free = slice_split_none (λ b. eqb b 59) part (All-head IsPart part [] free)
-split_joined part (next ∷ parts) free =
-    slice_split_at (λ b. eqb b 59) part 59 (join_with_byte 59 (next ∷ parts)) (All-head IsPart part (next ∷ parts) free) refl
-    ∙ ap (λ ps. part ∷ ps) (split_joined next parts (All-tail IsPart part (next ∷ parts) free))
+-- the pieces of a text that was joined of them
+split_joined : (piece : List ℕ) (pieces : List (List ℕ)) → All IsPiece (piece ∷ pieces)
+    → slice_split (λ b. eqb b 59) (join_with_byte 59 (piece ∷ pieces)) ≡ piece ∷ pieces
+split_joined piece [] free = slice_split_none (λ b. eqb b 59) piece (All-head IsPiece piece [] free)
+split_joined piece (next ∷ pieces) free =
+    slice_split_at (λ b. eqb b 59) piece 59 (join_with_byte 59 (next ∷ pieces)) (All-head IsPiece piece (next ∷ pieces) free) refl
+    ∙ ap (λ ps. piece ∷ ps) (split_joined next pieces (All-tail IsPiece piece (next ∷ pieces) free))
 
 run_item : (run : Run) → run.0 ≤ run.1 → run.1 < MAX_CPUS → item_of (run_text run) ≡ Some run
 run_item run le lt =
@@ -169,12 +169,12 @@ run_item run le lt =
           )
     ]
 
-runs_items : (runs : List Run) → EndBelow MAX_CPUS runs → (items_of (map run_text runs) ≡ Some runs) × All IsPart (map run_text runs)
-runs_items [] h = (refl, All-nil IsPart)
+runs_items : (runs : List Run) → EndBelow MAX_CPUS runs → (items_of (map run_text runs) ≡ Some runs) × All IsPiece (map run_text runs)
+runs_items [] h = (refl, All-nil IsPiece)
 runs_items (run ∷ runs) h =
     let more = runs_items runs h.2 in
     let item = run_item run h.0 h.1 in
-    (rw (item, more.0) refl, All-cons IsPart (run_text run) (map run_text runs) (item_free (run_text run) (ap is_some item)) more.1)
+    (rw (item, more.0) refl, All-cons IsPiece (run_text run) (map run_text runs) (item_free (run_text run) (ap is_some item)) more.1)
 
 text_some : (run : Run) (runs : List Run) → EndBelow MAX_CPUS (run ∷ runs) → 0 < length (join_with_byte 59 (map run_text (run ∷ runs)))
 text_some run [] h = item_some (run_text run) (ap is_some (run_item run h.0 h.1))

@@ -1,4 +1,4 @@
--- A list's items: the parts of its text between the marks, and the text that they make.
+-- A list's items: the pieces of its text between the marks, and the text that they make.
 use Rattle.std.proofs.Common.{◌≡◌, ℕ, ◌+◌, ◌<◌, ◌≤◌, Bool, true, false, ◌&&◌, ◌||◌, eqb, ltb, List, [], ◌∷◌, ◌++◌, length, take, Option, Some, None, refl, sym, ap, subst, ◌∙◌, inl, inr, arith, length-append}
 use Rattle.std.specs.Prelude.{is_some, option_and_then, ◌^◌}
 use Rattle.std.specs.Option.{option_map}
@@ -17,57 +17,57 @@ use Rattle.lb_text.specs.Numbers.{number_within}
 use Rattle.lb_text.proofs.Items.{split_front, go_item, item_free, none_from, IsBadItem}
 use Rattle.lb_text.proofs.Places.{IsPlaced, first_bad_placed}
 
--- a part without `;`
-abbrev pub IsPart : List ℕ → Type 0
-IsPart text = All (λ b. eqb b 59 ≡ false) text
+-- a piece without `;`
+abbrev pub IsPiece : List ℕ → Type 0
+IsPiece text = All (λ b. eqb b 59 ≡ false) text
 
--- the text of parts that were passed, with the mark after each
+-- the text of pieces that were passed, with the mark after each
 abbrev pub passed : List (List ℕ) → List ℕ
 passed [] = []
-passed (part ∷ parts) = part ++ 59 ∷ passed parts
+passed (piece ∷ pieces) = piece ++ 59 ∷ passed pieces
 
--- the text of parts that follow another
+-- the text of pieces that follow another
 abbrev pub rest_text : List (List ℕ) → List ℕ
 rest_text [] = []
-rest_text (part ∷ parts) = 59 ∷ join_with_byte 59 (part ∷ parts)
+rest_text (piece ∷ pieces) = 59 ∷ join_with_byte 59 (piece ∷ pieces)
 
-joined_first : (part : List ℕ) (parts : List (List ℕ)) → join_with_byte 59 (part ∷ parts) ≡ part ++ rest_text parts
-joined_first part [] = sym (append-nil part)
-joined_first part (next ∷ parts) = refl
+joined_first : (piece : List ℕ) (pieces : List (List ℕ)) → join_with_byte 59 (piece ∷ pieces) ≡ piece ++ rest_text pieces
+joined_first piece [] = sym (append-nil piece)
+joined_first piece (next ∷ pieces) = refl
 
--- a text around one of its parts
-joined_at : (taken : List (List ℕ)) (part : List ℕ) (left : List (List ℕ))
-    → join_with_byte 59 (taken ++ part ∷ left) ≡ passed taken ++ (part ++ rest_text left)
-joined_at [] part left = joined_first part left
-joined_at (first ∷ []) part left = ap (λ t. first ++ 59 ∷ t) (joined_first part left)
-    ∙ sym (append_assoc first (59 ∷ []) (part ++ rest_text left))
-joined_at (first ∷ next ∷ taken) part left =
-    ap (λ t. first ++ 59 ∷ t) (joined_at (next ∷ taken) part left)
-    ∙ sym (append_assoc first (59 ∷ passed (next ∷ taken)) (part ++ rest_text left))
+-- a text around one of its pieces
+joined_at : (taken : List (List ℕ)) (piece : List ℕ) (left : List (List ℕ))
+    → join_with_byte 59 (taken ++ piece ∷ left) ≡ passed taken ++ (piece ++ rest_text left)
+joined_at [] piece left = joined_first piece left
+joined_at (first ∷ []) piece left = ap (λ t. first ++ 59 ∷ t) (joined_first piece left)
+    ∙ sym (append_assoc first (59 ∷ []) (piece ++ rest_text left))
+joined_at (first ∷ next ∷ taken) piece left =
+    ap (λ t. first ++ 59 ∷ t) (joined_at (next ∷ taken) piece left)
+    ∙ sym (append_assoc first (59 ∷ passed (next ∷ taken)) (piece ++ rest_text left))
 
-pub split_passed : (parts : List (List ℕ)) (text : List ℕ) → All IsPart parts
-    → slice_split (λ b. eqb b 59) (passed parts ++ text) ≡ parts ++ slice_split (λ b. eqb b 59) text
+pub split_passed : (pieces : List (List ℕ)) (text : List ℕ) → All IsPiece pieces
+    → slice_split (λ b. eqb b 59) (passed pieces ++ text) ≡ pieces ++ slice_split (λ b. eqb b 59) text
 split_passed [] text free = refl
-split_passed (part ∷ parts) text free =
-    ap (slice_split (λ b. eqb b 59)) (append_assoc part (59 ∷ passed parts) text)
-    ∙ slice_split_at (λ b. eqb b 59) part 59 (passed parts ++ text) (All-head IsPart part parts free) refl
-    ∙ ap (λ ps. part ∷ ps) (split_passed parts text (All-tail IsPart part parts free))
+split_passed (piece ∷ pieces) text free =
+    ap (slice_split (λ b. eqb b 59)) (append_assoc piece (59 ∷ passed pieces) text)
+    ∙ slice_split_at (λ b. eqb b 59) piece 59 (passed pieces ++ text) (All-head IsPiece piece pieces free) refl
+    ∙ ap (λ ps. piece ∷ ps) (split_passed pieces text (All-tail IsPiece piece pieces free))
 
-onto_parts : (b : ℕ) (parts : List (List ℕ)) → eqb b 59 ≡ false → All IsPart parts → All IsPart (onto_first b parts)
-onto_parts b [] other free = All-cons IsPart (b ∷ []) []
-    (All-cons (λ c. eqb c 59 ≡ false) b [] other (All-nil (λ c. eqb c 59 ≡ false))) (All-nil IsPart)
-onto_parts b (part ∷ parts) other free =
-    All-cons IsPart (b ∷ part) parts (All-cons (λ c. eqb c 59 ≡ false) b part other (All-head IsPart part parts free))
-    (All-tail IsPart part parts free)
+onto_pieces : (b : ℕ) (pieces : List (List ℕ)) → eqb b 59 ≡ false → All IsPiece pieces → All IsPiece (onto_first b pieces)
+onto_pieces b [] other free = All-cons IsPiece (b ∷ []) []
+    (All-cons (λ c. eqb c 59 ≡ false) b [] other (All-nil (λ c. eqb c 59 ≡ false))) (All-nil IsPiece)
+onto_pieces b (piece ∷ pieces) other free =
+    All-cons IsPiece (b ∷ piece) pieces (All-cons (λ c. eqb c 59 ≡ false) b piece other (All-head IsPiece piece pieces free))
+    (All-tail IsPiece piece pieces free)
 
--- no part has the mark
-pub parts_free : (text : List ℕ) → All IsPart (slice_split (λ b. eqb b 59) text)
-parts_free [] = All-cons IsPart [] [] (All-nil (λ c. eqb c 59 ≡ false)) (All-nil IsPart)
-parts_free (b ∷ text) = elim (cases_Bool (eqb b 59)) [
-  | inl e ↦ subst (λ (ps : List (List ℕ)). All IsPart ps) (sym (slice_split-cons_yes (λ c. eqb c 59) b text e))
-      (All-cons IsPart [] (slice_split (λ c. eqb c 59) text) (All-nil (λ c. eqb c 59 ≡ false)) (parts_free text))
-  | inr e ↦ subst (λ (ps : List (List ℕ)). All IsPart ps) (sym (slice_split-cons_no (λ c. eqb c 59) b text e))
-      (onto_parts b (slice_split (λ c. eqb c 59) text) e (parts_free text))
+-- no piece has the mark
+pub pieces_free : (text : List ℕ) → All IsPiece (slice_split (λ b. eqb b 59) text)
+pieces_free [] = All-cons IsPiece [] [] (All-nil (λ c. eqb c 59 ≡ false)) (All-nil IsPiece)
+pieces_free (b ∷ text) = elim (cases_Bool (eqb b 59)) [
+  | inl e ↦ subst (λ (ps : List (List ℕ)). All IsPiece ps) (sym (slice_split-cons_yes (λ c. eqb c 59) b text e))
+      (All-cons IsPiece [] (slice_split (λ c. eqb c 59) text) (All-nil (λ c. eqb c 59 ≡ false)) (pieces_free text))
+  | inr e ↦ subst (λ (ps : List (List ℕ)). All IsPiece ps) (sym (slice_split-cons_no (λ c. eqb c 59) b text e))
+      (onto_pieces b (slice_split (λ c. eqb c 59) text) e (pieces_free text))
 ]
 
 some_map : {A B : Type 0} (f : A → B) (o : Option A) → is_some (option_map f o) ≡ is_some o
@@ -136,69 +136,69 @@ pub item_some : (text : List ℕ) → is_item text ≡ true → 0 < length text
 item_some [] e = absurd (no_empty_item e)
 item_some (b ∷ text) e = omega arith
 
--- the items of a text behind parts that were passed
-items_behind : (parts : List (List ℕ)) (text : List ℕ) → All IsPart parts → 0 < length (passed parts ++ text)
-    → is_list (passed parts ++ text) ≡ is_some (items_of (parts ++ slice_split (λ b. eqb b 59) text))
-items_behind parts text free some = is_list_from (passed parts ++ text) some
-    ∙ ap (λ ps. is_some (items_of ps)) (split_passed parts text free)
+-- the items of a text behind pieces that were passed
+items_behind : (pieces : List (List ℕ)) (text : List ℕ) → All IsPiece pieces → 0 < length (passed pieces ++ text)
+    → is_list (passed pieces ++ text) ≡ is_some (items_of (pieces ++ slice_split (λ b. eqb b 59) text))
+items_behind pieces text free some = is_list_from (passed pieces ++ text) some
+    ∙ ap (λ ps. is_some (items_of ps)) (split_passed pieces text free)
 
--- a text whose last part goes on to an item goes on to a list
-part_outward : (parts : List (List ℕ)) (text : List ℕ) → All IsPart parts → is_some (items_of parts) ≡ true
-    → CanGoOn is_item text → CanGoOn is_list (passed parts ++ text)
-part_outward parts text free some go =
+-- a text whose last piece goes on to an item goes on to a list
+piece_outward : (pieces : List (List ℕ)) (text : List ℕ) → All IsPiece pieces → is_some (items_of pieces) ≡ true
+    → CanGoOn is_item text → CanGoOn is_list (passed pieces ++ text)
+piece_outward pieces text free some go =
     let item = text ++ go.0 in
-    let runs = some_of (items_of parts) some in
+    let runs = some_of (items_of pieces) some in
     let run = some_of (item_of item) go.1 in
-    let long : 0 < length (passed parts ++ item) = omega (arith, length-append (passed parts) item, item_some item go.1) in (
+    let long : 0 < length (passed pieces ++ item) = omega (arith, length-append (passed pieces) item, item_some item go.1) in (
       go.0,
-      ap is_list (append_assoc (passed parts) text go.0) ∙ items_behind parts item free long
-          ∙ ap (λ ps. is_some (items_of (parts ++ ps))) (slice_split_none (λ b. eqb b 59) item (item_free item go.1))
-          ∙ ap is_some (items_more parts item runs.0 run.0 runs.1 run.1),
+      ap is_list (append_assoc (passed pieces) text go.0) ∙ items_behind pieces item free long
+          ∙ ap (λ ps. is_some (items_of (pieces ++ ps))) (slice_split_none (λ b. eqb b 59) item (item_free item go.1))
+          ∙ ap is_some (items_more pieces item runs.0 run.0 runs.1 run.1),
     )
 
 -- and the other way round
-part_inward : (parts : List (List ℕ)) (text : List ℕ) → All IsPart parts → IsPart text
-    → CanGoOn is_list (passed parts ++ text) → CanGoOn is_item text
-part_inward parts text free part go =
+piece_inward : (pieces : List (List ℕ)) (text : List ℕ) → All IsPiece pieces → IsPiece text
+    → CanGoOn is_list (passed pieces ++ text) → CanGoOn is_item text
+piece_inward pieces text free piece go =
     let whole = text ++ go.0 in
-    let is : is_list (passed parts ++ whole) ≡ true = ap is_list (sym (append_assoc (passed parts) text go.0)) ∙ go.1 in
-    elim (cases_lt 0 (length (passed parts ++ whole))) [
+    let is : is_list (passed pieces ++ whole) ≡ true = ap is_list (sym (append_assoc (passed pieces) text go.0)) ∙ go.1 in
+    elim (cases_lt 0 (length (passed pieces ++ whole))) [
       | inl some ↦
-          let last = items_last parts (slice_split (λ b. eqb b 59) whole) (sym (items_behind parts whole free some) ∙ is) in
-          let s = split_front (λ b. eqb b 59) text go.0 part in
+          let last = items_last pieces (slice_split (λ b. eqb b 59) whole) (sym (items_behind pieces whole free some) ∙ is) in
+          let s = split_front (λ b. eqb b 59) text go.0 piece in
           (s.0, items_head (text ++ s.0) s.1 (ap (λ ps. is_some (items_of ps)) (sym s.2) ∙ last))
       | inr none ↦
-          let nil : text ≡ [] = nil_from_length text (omega (arith, none, length-append (passed parts) whole, length-append text go.0)) in
+          let nil : text ≡ [] = nil_from_length text (omega (arith, none, length-append (passed pieces) whole, length-append text go.0)) in
           subst (λ (t : List ℕ). CanGoOn is_item t) (sym nil) go_item
     ]
 
-part_ends : (parts : List (List ℕ)) (part : List ℕ) → All IsPart parts → IsPart part
-    → CanGoOn is_list (passed parts ++ (part ++ 59 ∷ [])) → is_item part ≡ true
-part_ends parts part free clean go =
-    let whole = part ++ 59 ∷ go.0 in
-    let same : (passed parts ++ (part ++ 59 ∷ [])) ++ go.0 ≡ passed parts ++ whole =
-    append_assoc (passed parts) (part ++ 59 ∷ []) go.0 ∙ ap (λ t. passed parts ++ t) (append_assoc part (59 ∷ []) go.0) in
-    let long : 0 < length (passed parts ++ whole) = omega (arith, length-append (passed parts) whole, length-append part (59 ∷ go.0)) in
-    let last = items_last parts (slice_split (λ b. eqb b 59) whole)
-    (sym (items_behind parts whole free long) ∙ ap is_list (sym same) ∙ go.1) in
-    items_head part (slice_split (λ b. eqb b 59) go.0)
-    (ap (λ ps. is_some (items_of ps)) (sym (slice_split_at (λ b. eqb b 59) part 59 go.0 clean refl)) ∙ last)
+piece_ends : (pieces : List (List ℕ)) (piece : List ℕ) → All IsPiece pieces → IsPiece piece
+    → CanGoOn is_list (passed pieces ++ (piece ++ 59 ∷ [])) → is_item piece ≡ true
+piece_ends pieces piece free clean go =
+    let whole = piece ++ 59 ∷ go.0 in
+    let same : (passed pieces ++ (piece ++ 59 ∷ [])) ++ go.0 ≡ passed pieces ++ whole =
+    append_assoc (passed pieces) (piece ++ 59 ∷ []) go.0 ∙ ap (λ t. passed pieces ++ t) (append_assoc piece (59 ∷ []) go.0) in
+    let long : 0 < length (passed pieces ++ whole) = omega (arith, length-append (passed pieces) whole, length-append piece (59 ∷ go.0)) in
+    let last = items_last pieces (slice_split (λ b. eqb b 59) whole)
+    (sym (items_behind pieces whole free long) ∙ ap is_list (sym same) ∙ go.1) in
+    items_head piece (slice_split (λ b. eqb b 59) go.0)
+    (ap (λ ps. is_some (items_of ps)) (sym (slice_split_at (λ b. eqb b 59) piece 59 go.0 clean refl)) ∙ last)
 
-pub part_placed : (parts : List (List ℕ)) (part : List ℕ) (others : List (List ℕ)) → All IsPart parts → IsPart part
-    → is_some (items_of parts) ≡ true → IsPlaced is_item is_list (passed parts) part (rest_text others)
-part_placed parts part others free clean some = record {
-  begins = subst (λ (t : List ℕ). CanGoOn is_list t) (append-nil (passed parts)) (part_outward parts [] free some go_item);
-  inward = λ k go. part_inward parts (take k part) free (All-take (λ b. eqb b 59 ≡ false) k part clean) go;
-  outward = λ k go. part_outward parts (take k part) free some go;
-  ends = λ c more e go. part_ends parts part free clean (rw (mark_of others c more e) at go);
+pub piece_placed : (pieces : List (List ℕ)) (piece : List ℕ) (others : List (List ℕ)) → All IsPiece pieces → IsPiece piece
+    → is_some (items_of pieces) ≡ true → IsPlaced is_item is_list (passed pieces) piece (rest_text others)
+piece_placed pieces piece others free clean some = record {
+  begins = subst (λ (t : List ℕ). CanGoOn is_list t) (append-nil (passed pieces)) (piece_outward pieces [] free some go_item);
+  inward = λ k go. piece_inward pieces (take k piece) free (All-take (λ b. eqb b 59 ≡ false) k piece clean) go;
+  outward = λ k go. piece_outward pieces (take k piece) free some go;
+  ends = λ c more e go. piece_ends pieces piece free clean (rw (mark_of others c more e) at go);
 }
   where
     mark_of : (others : List (List ℕ)) (c : ℕ) (more : List ℕ) → rest_text others ≡ c ∷ more → c ≡ 59
     mark_of [] c more e = cc e
     mark_of (x ∷ xs) c more e = cc
 
-abbrev pub parts_of : List ℕ → List (List ℕ)
-parts_of text = slice_split (λ b. eqb b 59) text
+abbrev pub pieces_of : List ℕ → List (List ℕ)
+pieces_of text = slice_split (λ b. eqb b 59) text
 
 passed_push : (xs : List (List ℕ)) (x : List ℕ) → passed (xs ++ x ∷ []) ≡ passed xs ++ (x ++ 59 ∷ [])
 passed_push [] x = refl
@@ -212,11 +212,11 @@ any_push p [] x = or_false (p x)
     or_false false = refl
 any_push p (y ∷ xs) x = elim (cases_Bool (p y)) [ inl e ↦ rw e refl | inr e ↦ rw e (any_push p xs x) ]
 
--- the parts that were read of a list, and those that are left
+-- the pieces that were read of a list, and those that are left
 pub record IsReading (text : List ℕ) (left : List (List ℕ)) (start : ℕ) (mask : Mask) : Type 0 where
   pub some : 0 < length text
   pub taken : List (List ℕ)
-  pub parts : parts_of text ≡ taken ++ left
+  pub pieces : pieces_of text ≡ taken ++ left
   pub at : start ≡ length (passed taken)
   pub runs : List Run
   pub items : items_of taken ≡ Some runs
@@ -224,11 +224,11 @@ pub record IsReading (text : List ℕ) (left : List (List ℕ)) (start : ℕ) (m
   pub cpus : (k : ℕ) → has mask k ≡ list_any (run_has k) runs
 
 pub reading_none : (text : List ℕ) (mask : Mask) → 0 < length text → mask.bits < 2 ^ 64
-    → ((k : ℕ) → has mask k ≡ false) → IsReading text (parts_of text) 0 mask
+    → ((k : ℕ) → has mask k ≡ false) → IsReading text (pieces_of text) 0 mask
 reading_none text mask some fits none = record {
   some = some;
   taken = [];
-  parts = refl;
+  pieces = refl;
   at = refl;
   runs = [];
   items = refl;
@@ -236,33 +236,33 @@ reading_none text mask some fits none = record {
   cpus = none;
 }
 
--- the text around the next part
-around : (text item : List ℕ) (taken left : List (List ℕ)) → parts_of text ≡ taken ++ item ∷ left
+-- the text around the next piece
+around : (text item : List ℕ) (taken left : List (List ℕ)) → pieces_of text ≡ taken ++ item ∷ left
     → text ≡ passed taken ++ (item ++ rest_text left)
 around text item taken left e = sym (join_with_byte-slice_split 59 text) ∙ ap (join_with_byte 59) e ∙ joined_at taken item left
 
-first_parts : {A : Type 0} (P : A → Type 0) (xs ys : List A) → All P (xs ++ ys) → All P xs
-first_parts P [] ys h = All-nil P
-first_parts P (x ∷ xs) ys h = All-cons P x xs (All-head P x (xs ++ ys) h) (first_parts P xs ys (All-tail P x (xs ++ ys) h))
+first_pieces : {A : Type 0} (P : A → Type 0) (xs ys : List A) → All P (xs ++ ys) → All P xs
+first_pieces P [] ys h = All-nil P
+first_pieces P (x ∷ xs) ys h = All-cons P x xs (All-head P x (xs ++ ys) h) (first_pieces P xs ys (All-tail P x (xs ++ ys) h))
 
-next_part : {A : Type 0} (P : A → Type 0) (xs : List A) (x : A) (ys : List A) → All P (xs ++ x ∷ ys) → P x
-next_part P [] x ys h = All-head P x ys h
-next_part P (y ∷ xs) x ys h = next_part P xs x ys (All-tail P y (xs ++ x ∷ ys) h)
+next_piece : {A : Type 0} (P : A → Type 0) (xs : List A) (x : A) (ys : List A) → All P (xs ++ x ∷ ys) → P x
+next_piece P [] x ys h = All-head P x ys h
+next_piece P (y ∷ xs) x ys h = next_piece P xs x ys (All-tail P y (xs ++ x ∷ ys) h)
 
 -- a bad item makes the list bad
 pub bad_list : (text : List ℕ) (left : List (List ℕ)) (start : ℕ) (mask : Mask) (item : List ℕ) (at : ℕ)
     → IsReading text (item ∷ left) start mask → IsBadItem item at
     → (list_of text ≡ None) × IsFirstBad is_list text (start + at)
 bad_list text left start mask item at r bad =
-    let free : All IsPart (r.taken ++ item ∷ left) = subst (λ (ps : List (List ℕ)). All IsPart ps) r.parts (parts_free text) in
-    let placed = part_placed r.taken item left (first_parts IsPart r.taken (item ∷ left) free)
-    (next_part IsPart r.taken item left free) (ap is_some r.items) in
+    let free : All IsPiece (r.taken ++ item ∷ left) = subst (λ (ps : List (List ℕ)). All IsPiece ps) r.pieces (pieces_free text) in
+    let placed = piece_placed r.taken item left (first_pieces IsPiece r.taken (item ∷ left) free)
+    (next_piece IsPiece r.taken item left free) (ap is_some r.items) in
     let b = first_bad_placed is_item is_list (passed r.taken) item (rest_text left) at placed (ap is_some bad.0) bad.1 in (
       none_from (list_of text) (λ good.
           let items : is_some (items_of (r.taken ++ item ∷ left)) ≡ true =
-          ap (λ ps. is_some (items_of ps)) (sym r.parts) ∙ sym (is_list_from text r.some) ∙ good in
+          ap (λ ps. is_some (items_of ps)) (sym r.pieces) ∙ sym (is_list_from text r.some) ∙ good in
           both_ways (is_item item) (ap is_some bad.0) (items_head item left (items_last r.taken (item ∷ left) items))),
-      subst (λ (t : List ℕ). IsFirstBad is_list t (start + at)) (sym (around text item r.taken left r.parts))
+      subst (λ (t : List ℕ). IsFirstBad is_list t (start + at)) (sym (around text item r.taken left r.pieces))
           (subst (λ (k : ℕ). IsFirstBad is_list (passed r.taken ++ (item ++ rest_text left)) (k + at)) (sym r.at) b),
     )
 
@@ -272,7 +272,7 @@ list_fits text left start mask item r =
     omega (
       arith,
       r.at,
-      ap length (around text item r.taken left r.parts),
+      ap length (around text item r.taken left r.pieces),
       length-append (passed r.taken)
           (item ++ rest_text left),
       length-append item (rest_text left),
@@ -285,7 +285,7 @@ pub reading_more : (text : List ℕ) (left : List (List ℕ)) (start a b : ℕ) 
 reading_more text left start a b mask run after item r is run_is fits after_is = record {
   some = r.some;
   taken = r.taken ++ item ∷ [];
-  parts = r.parts ∙ sym (append_assoc r.taken (item ∷ []) left);
+  pieces = r.pieces ∙ sym (append_assoc r.taken (item ∷ []) left);
   at = (let e = ap length (passed_push r.taken item) in
       omega (arith, e, r.at, length-append (passed r.taken) (item ++ 59 ∷ []), length-append item (59 ∷ [])));
   runs = r.runs ++ (a, b) ∷ [];
@@ -304,7 +304,7 @@ in_range mask runs k fits cpus = elim (cases_lt k 64) [
 
 pub reading_ends : (text : List ℕ) (start : ℕ) (mask : Mask) → IsReading text [] start mask → list_of text ≡ Some mask
 reading_ends text start mask r =
-    let items : items_of (parts_of text) ≡ Some r.runs = ap items_of (r.parts ∙ append-nil r.taken) ∙ r.items in
+    let items : items_of (pieces_of text) ≡ Some r.runs = ap items_of (r.pieces ∙ append-nil r.taken) ∙ r.items in
     list_from_items text r.runs r.some items
     ∙ ap Some (same_mask (mask_of_runs r.runs) mask
     (λ k. mask_where_has (λ cpu. list_any (run_has cpu) r.runs) k ∙ in_range mask r.runs k r.fits r.cpus))

@@ -2,6 +2,6 @@ pub mod Prefixes
 pub mod Numbers
 pub mod Scan
 pub mod Lists
-pub mod Parts
+pub mod Pieces
 pub mod Runs
 pub mod Laws

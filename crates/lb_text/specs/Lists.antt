@@ -22,7 +22,7 @@ run_has cpu run = nat_le run.0 cpu && nat_le cpu run.1
 abbrev pub run_from : List ℕ → ℕ → Option Run
 run_from last first = option_map (λ cpu. (first, cpu)) (number_within first MAX_CPU last)
 
--- the run that the parts of an item on both sides of `-` name
+-- the run that the pieces of an item on both sides of `-` name
 abbrev pub run_of_ends : List (List ℕ) → Option Run
 run_of_ends [] = None
 run_of_ends (cpu ∷ []) = option_map (λ n. (n, n)) (number_of MAX_CPU cpu)

@@ -7,12 +7,12 @@ pub mod laws;
 mod list;
 mod marks;
 mod number;
-mod parts;
+mod pieces;
 mod put;
 
 pub use bad_text::BadText;
 pub use list::list_of;
 pub use marks::{COLON, COMMA, LINE_FEED, MINUS, SEMICOLON, SPACE, ZERO};
 pub use number::{nice_of, number_of, number_within};
-pub use parts::Parts;
+pub use pieces::Pieces;
 pub use put::{put_list, put_number};

@@ -6,7 +6,7 @@ ghost use Rattle.lb_text.specs.Prefixes.{IsFirstBad};
 use crate::bad_text::BadText;
 use crate::marks::{MINUS, SEMICOLON};
 use crate::number::{number_of, number_within};
-use crate::parts::Parts;
+use crate::pieces::Pieces;
 use lb_base::{MAX_CPUS, Mask};
 
 // The greatest number of a CPU.
@@ -65,8 +65,8 @@ pub fn list_of(text: &[u8]) -> Result<Mask, BadText>
         return Ok(mask);
     }
     let mut start = 0;
-    let mut items = Parts::new(text, SEMICOLON);
-    while let Some(item) = items.next_part() {
+    let mut items = Pieces::new(text, SEMICOLON);
+    while let Some(item) = items.next_piece() {
         let (first, last) = match item_of(item) {
             Ok(run) => run,
             Err(bad) => {

@@ -11,7 +11,7 @@ use Rattle.lb_base.specs.declared.mask.TheConstants.{MAX_CPUS}
 use Rattle.lb_base.specs.Mask.{has, first_cpus}
 use Rattle.lb_base.specs.Sets.{is_below}
 use Rattle.lb_base.proofs.Bits.{bit_set_ones}
-use Rattle.lb_fields.specs.Parts.{is_plain}
+use Rattle.lb_fields.specs.Pieces.{is_plain}
 use Rattle.lb_levels.specs.Faults.{nodes_of}
 use Rattle.lb_levels.proofs.NoFault.{no_fault_from_machine, no_fault_from_partition}
 use Rattle.lb_base.proofs.Sets.{all_members}

@@ -1,7 +1,7 @@
 -- Reading line after line stops at the first bad one.
 use Rattle.std.proofs.Common.{◌≡◌, ℕ, zero, suc, ◌+◌, ◌<◌, Bool, true, false, List, [], ◌∷◌, ◌++◌, ◌==◌, cond, length, take, drop, Option, Some, None, Ok, Err, refl, sym, ap, subst, ◌∙◌, arith}
 use Rattle.std.specs.Prelude.{Result, fold}
-use Rattle.lb_fields.specs.Parts.{parts}
+use Rattle.lb_fields.specs.Pieces.{pieces}
 use Rattle.lb_trace.specs.declared.trace.Code.{Code}
 use Rattle.lb_trace.specs.declared.kind.LineKind.{LineKind}
 use Rattle.lb_trace.specs.declared.reading.Reading.{Reading}
@@ -46,7 +46,7 @@ line_good r s cut line e = (passes (line_tests r cut line) _ s e).good
 pub line_next : (r s : Reading) (line : List ℕ) → line_at r false line ≡ Ok s → s.line ≡ r.line + 1
 unfolding line_at line_tests
 line_next r s line e =
-    let fields = parts 44 line in
+    let fields = pieces 44 line in
     let h = passes (line_tests r false line) (after_line r (line_kind fields) fields) s e in
     ap (λ (t : Reading). t.line) h.same ∙ next_line r (byte_tests r false line) (line_kind fields) fields h.good
 

@@ -1,7 +1,7 @@
 -- What was read is sound, from nothing on and with each good line.
 use Rattle.std.proofs.Common.{◌≡◌, ℕ, ◌≤◌, false, List, [], length, Option, Some, None, Ok, refl, sym, subst, arith}
 use Rattle.lb_text.specs.declared.marks.TheConstants.{COMMA}
-use Rattle.lb_fields.specs.Parts.{parts}
+use Rattle.lb_fields.specs.Pieces.{pieces}
 use Rattle.lb_levels.specs.Rows.{distances_of, first_not_nested}
 use Rattle.lb_trace.specs.declared.trace.TheConstants.{MAX_BYTES}
 use Rattle.lb_trace.specs.declared.kind.LineKind.{LineKind}
@@ -62,7 +62,7 @@ sound_kind r (Some kind) fields few h good = sound_after r kind fields few h (go
 pub sound_line : (r s : Reading) (line : List ℕ) → length line ≤ MAX_BYTES → IsSound r → line_at r false line ≡ Ok s → IsSound s
 unfolding line_at line_tests
 sound_line r s line short h e =
-    let fields = parts COMMA line in
+    let fields = pieces COMMA line in
     let few = few_fields COMMA line in
     let passed = passes (line_tests r false line) (after_line r (line_kind fields) fields) s e in
     let good = (both_good (byte_tests r false line) _ passed.good).1 in

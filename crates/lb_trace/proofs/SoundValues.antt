@@ -10,7 +10,7 @@ use Rattle.std.proofs.lemmas.List.Splits.{length-slice_split}
 use Rattle.std.proofs.lemmas.List.Sums.{count_by-le-length}
 use Rattle.csv.specs.Records.{field_at}
 use Rattle.lb_base.specs.declared.mask.Mask.{Mask}
-use Rattle.lb_fields.specs.Parts.{parts}
+use Rattle.lb_fields.specs.Pieces.{pieces}
 use Rattle.lb_text.specs.Numbers.{is_numeral, number_within, nice_of}
 use Rattle.lb_text.specs.Lists.{list_of}
 use Rattle.lb_text.proofs.RoundTrip.{lists_fit}
@@ -112,5 +112,5 @@ pub length-distances_in : (fields : List (List ℕ)) → length (distances_in fi
 length-distances_in fields = length-map (drop 1 fields) (λ field. number (number_within 1 MAX_DISTANCE field)) ∙ length-drop 1 fields
 
 -- ---- how many
-pub few_fields : (mark : ℕ) (line : List ℕ) → length (parts mark line) ≤ length line + 1
+pub few_fields : (mark : ℕ) (line : List ℕ) → length (pieces mark line) ≤ length line + 1
 few_fields mark line = omega (arith, length-slice_split (λ byte. byte == mark) line, count_by-le-length (λ byte. byte == mark) line)

@@ -4,7 +4,7 @@ use Rattle.std.specs.Prelude.{Result}
 use Rattle.std.specs.List.{list_all, onto_first}
 use Rattle.std.proofs.lemmas.Bool.{cases_Bool, and_parts, and_from, le-leb, lt-leb, leb-true, cond-true, cond-false}
 use Rattle.std.proofs.lemmas.List.Splits.{length-slice_split}
-use Rattle.lb_fields.specs.Parts.{parts}
+use Rattle.lb_fields.specs.Pieces.{pieces}
 use Rattle.lb_trace.specs.declared.trace.TheConstants.{MAX_BYTES}
 use Rattle.lb_trace.specs.declared.trace.Code.{Code}
 use Rattle.lb_trace.specs.declared.trace.Code.TheVariants as bad
@@ -25,7 +25,7 @@ pub read_past : (text : List ℕ) → MAX_BYTES < length text → reading_of tex
 unfolding reading_of
 read_past text lt = cond-false _ _ _ (lt-leb _ _ lt)
 
-pub some_line : (mark : ℕ) (text : List ℕ) → 0 < length (parts mark text)
+pub some_line : (mark : ℕ) (text : List ℕ) → 0 < length (pieces mark text)
 some_line mark text = omega (arith, length-slice_split (λ byte. byte == mark) text)
 
 onto_short : (byte most : ℕ) (ps : List (List ℕ)) → 0 < most
@@ -38,17 +38,17 @@ onto_short byte most (p ∷ ps) some short =
     (all_also (λ part. nat_le (length part + 1) most) (λ part. nat_le (length part) most) ps
     (λ part le. let room = leb-true (length part + 1) most le in le-leb (length part) most (omega (arith, room))) each.1)
 
-pub short_lines : (mark : ℕ) (text : List ℕ) → list_all (λ part. nat_le (length part) (length text)) (parts mark text) ≡ true
+pub short_lines : (mark : ℕ) (text : List ℕ) → list_all (λ part. nat_le (length part) (length text)) (pieces mark text) ≡ true
 short_lines mark [] = refl
 short_lines mark (byte ∷ text) =
-    let rest : list_all (λ part. nat_le (length part + 1) (length (byte ∷ text))) (parts mark text) ≡ true =
-    all_also (λ part. nat_le (length part) (length text)) _ (parts mark text)
+    let rest : list_all (λ part. nat_le (length part + 1) (length (byte ∷ text))) (pieces mark text) ≡ true =
+    all_also (λ part. nat_le (length part) (length text)) _ (pieces mark text)
     (λ part le. let room = leb-true (length part) (length text) le in
     le-leb (length part + 1) (length (byte ∷ text)) (omega (arith, room))) (short_lines mark text) in
     elim (cases_Bool (byte == mark)) [
       | inl same ↦ rw same (and_from _ _ (le-leb 0 (length (byte ∷ text)) (omega arith))
-          (all_also _ (λ part. nat_le (length part) (length (byte ∷ text))) (parts mark text)
+          (all_also _ (λ part. nat_le (length part) (length (byte ∷ text))) (pieces mark text)
           (λ part le. let room = leb-true (length part + 1) (length (byte ∷ text)) le in
           le-leb (length part) (length (byte ∷ text)) (omega (arith, room))) rest))
-      | inr other ↦ rw other (onto_short byte (length (byte ∷ text)) (parts mark text) (omega arith) rest)
+      | inr other ↦ rw other (onto_short byte (length (byte ∷ text)) (pieces mark text) (omega arith) rest)
     ]

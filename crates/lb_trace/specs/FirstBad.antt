@@ -3,7 +3,7 @@
 use Rattle.std.specs.Prelude.{◌≡◌, ℕ, ◌+◌, ◌<◌, ◌≤◌, ◌==◌, ◌⊎◌, ◌↔◌, Bool, true, false, List, [], ◌∷◌, ◌++◌, length, take, drop, fold, if◌then◌else◌, Result, Ok, Err, is_ok}
 use Rattle.std.specs.List.{list_any}
 use Rattle.lb_text.specs.declared.marks.TheConstants.{LINE_FEED}
-use Rattle.lb_fields.specs.Parts.{parts}
+use Rattle.lb_fields.specs.Pieces.{pieces}
 use Rattle.lb_trace.specs.declared.trace.TheConstants.{MAX_BYTES}
 use Rattle.lb_trace.specs.declared.trace.Code.{Code}
 use Rattle.lb_trace.specs.declared.trace.Code.TheVariants as bad
@@ -13,7 +13,7 @@ use Rattle.lb_trace.specs.Grammar.{line_at, nothing_read, reading_of}
 
 -- what stands between line feeds, and after the last
 abbrev pub lines_of : List ℕ → List (List ℕ)
-lines_of text = parts LINE_FEED text
+lines_of text = pieces LINE_FEED text
 
 -- what was read with a line more, where it is good
 abbrev pub or_as_before : Reading → Result Reading Code → Reading

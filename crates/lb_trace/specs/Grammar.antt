@@ -3,7 +3,7 @@
 use Rattle.std.specs.Prelude.{◌≡◌, ℕ, ◌+◌, ◌==◌, nat_le, Bool, true, false, List, [], ◌∷◌, ◌++◌, length, if◌then◌else◌, Option, Some, None, unwrap_or, Result, Ok, Err}
 use Rattle.lb_base.specs.Mask.{first_cpus}
 use Rattle.lb_text.specs.declared.marks.TheConstants.{COMMA, LINE_FEED}
-use Rattle.lb_fields.specs.Parts.{parts}
+use Rattle.lb_fields.specs.Pieces.{pieces}
 use Rattle.lb_trace.specs.declared.trace.TheConstants.{MAX_BYTES}
 use Rattle.lb_trace.specs.declared.trace.Code.{Code}
 use Rattle.lb_trace.specs.declared.trace.Code.TheVariants as bad
@@ -46,7 +46,7 @@ after_line r (Some kind) fields = after r kind fields
 
 -- what was read with a line more, or the line's first code
 unfoldable pub line_at : Reading → Bool → List ℕ → Result Reading Code
-line_at r cut line = unless_bad (line_tests r cut line) (after_line r (line_kind (parts COMMA line)) (parts COMMA line))
+line_at r cut line = unless_bad (line_tests r cut line) (after_line r (line_kind (pieces COMMA line)) (pieces COMMA line))
 
 -- the text ends here
 unfoldable pub ended : Reading → Result Reading Code
@@ -87,7 +87,7 @@ trace_of r =
 unfoldable pub reading_of : List ℕ → Result Trace (ℕ × Code)
 reading_of text =
     if nat_le (length text) MAX_BYTES
-    then (lines_from nothing_read (parts LINE_FEED text) >>= λ r. Ok (trace_of r))
+    then (lines_from nothing_read (pieces LINE_FEED text) >>= λ r. Ok (trace_of r))
     else Err (0, bad.TooLong)
 
 -- ---- answers of the code

@@ -3,7 +3,7 @@
 use Rattle.std.specs.Prelude.{ℕ, Bool, true, not, ◌&&◌, List, [], ◌∷◌, ◌++◌, length, codes, if◌then◌else◌, Option, Some, None, is_none, Result, Ok, Err}
 use Rattle.std.specs.Str.{bytes_eq}
 use Rattle.lb_text.specs.declared.marks.TheConstants.{COMMA}
-use Rattle.lb_fields.specs.Parts.{parts, is_plain}
+use Rattle.lb_fields.specs.Pieces.{pieces, is_plain}
 use Rattle.lb_trace.specs.declared.trace.Code.{Code}
 use Rattle.lb_trace.specs.declared.trace.Code.TheVariants as bad
 use Rattle.lb_trace.specs.declared.kind.LineKind.{LineKind}
@@ -61,7 +61,7 @@ kind_tests r (Some kind) fields = place_tests r kind fields ++ value_tests r kin
 
 -- all of a line's tests
 unfoldable pub line_tests : Reading → Bool → List ℕ → Tests
-line_tests r cut line = byte_tests r cut line ++ kind_tests r (line_kind (parts COMMA line)) (parts COMMA line)
+line_tests r cut line = byte_tests r cut line ++ kind_tests r (line_kind (pieces COMMA line)) (pieces COMMA line)
 
 -- those of a text that ends here
 unfoldable pub end_tests : Reading → Tests

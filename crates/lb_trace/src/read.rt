@@ -1,6 +1,6 @@
 //! Reading a whole text.
 ghost use Rattle.std.specs.Prelude.{◌≤◌, [], length, IfOk, ◌≡◌};
-ghost use Rattle.lb_fields.specs.Parts.{parts};
+ghost use Rattle.lb_fields.specs.Pieces.{pieces};
 ghost use Rattle.lb_trace.specs.Grammar.{lines_from, nothing_read, trace_of, reading_of, Gives};
 ghost use Rattle.lb_trace.specs.Ticked.{AreTicked};
 
@@ -9,7 +9,7 @@ use crate::reading::Reading;
 use crate::trace::{Code, Header, MAX_BYTES, Trace, TraceError};
 use csv::ByteRecord;
 use lb_base::{Items, MAX_CPUS, Mask, NoMemory};
-use lb_fields::{Parts, start};
+use lb_fields::{Pieces, start};
 use lb_text::LINE_FEED;
 use std::alloc::Global;
 
@@ -24,18 +24,18 @@ fn none_ticked() -> [Option<u64>; MAX_CPUS as usize]
 #[tactic(auto, unfolding(crate::specs::Grammar::lines_from))]
 fn lines_from(alloc: Global, text: &[u8]) -> Result<Reading, TraceError>
     requires { length text.now ≤ MAX_BYTES }
-    ensures reading { Gives result (lines_from nothing_read (parts LINE_FEED text.now)) }
+    ensures reading { Gives result (lines_from nothing_read (pieces LINE_FEED text.now)) }
     ensures few { IfOk result (λ read. length read.cpus ≤ MAX_CPUS) }
 {
     let mut reading = Reading::new(alloc);
     let mut reader = start(alloc, text);
     let mut fields = ByteRecord::new(alloc);
     let mut ticked = none_ticked();
-    let mut lines = Parts::new(text, LINE_FEED);
-    let Some(mut line) = lines.next_part() else {
+    let mut lines = Pieces::new(text, LINE_FEED);
+    let Some(mut line) = lines.next_piece() else {
         return Ok(reading);
     };
-    while let Some(next) = lines.next_part() {
+    while let Some(next) = lines.next_piece() {
         let number = reading.line;
         match reading.take_line(alloc, line, &mut reader, &mut fields, &mut ticked) {
             Ok(()) => line = next,

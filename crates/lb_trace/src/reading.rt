@@ -1,7 +1,7 @@
 //! What was read so far, and the line after it.
 ghost use Rattle.std.specs.Prelude.{◌≡◌, ◌<◌, ◌^◌, ◌-◌, ◌∷◌, ◌++◌, ◌==◌, if◌then◌else◌, ℕ, List, true, false, None, length, IfErr, OnOk, Ok, Err};
 ghost use Rattle.csv.specs.Records.{fields_of};
-ghost use Rattle.lb_fields.specs.Parts.{is_plain};
+ghost use Rattle.lb_fields.specs.Pieces.{is_plain};
 ghost use Rattle.lb_fields.specs.Standing.{Stands};
 ghost use Rattle.lb_trace.specs.declared.kind.LineKind.TheVariants as kinds;
 ghost use Rattle.lb_trace.specs.declared.reading.Reading.{Reading as Read};

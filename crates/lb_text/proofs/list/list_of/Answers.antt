@@ -16,7 +16,7 @@ pub overflow_add-result : goal.overflow_add-result
 overflow_add-result c =
     let r = subst (λ (ps : List (List ℕ)). IsReading c.args.text.now ps c.loop-item.start c.loop-item.mask)
     c.in-Some.ensures c.loop-item.invariant in
-    let fits = list_fits c.args.text.now c.next_part.new.self c.loop-item.start c.loop-item.mask c.in-Some.item.now r in
+    let fits = list_fits c.args.text.now c.next_piece.new.self c.loop-item.start c.loop-item.mask c.in-Some.item.now r in
     let within = c.in-Err.ensures.place.within in
     search rules
 
@@ -25,7 +25,7 @@ returns-in-Err-clause-refused c =
     let r = subst (λ (ps : List (List ℕ)). IsReading c.args.text.now ps c.loop-item.start c.loop-item.mask)
     c.in-Some.ensures c.loop-item.invariant in
     let e = c.in-Err.ensures in
-    (bad_list c.args.text.now c.next_part.new.self c.loop-item.start c.loop-item.mask c.in-Some.item.now
+    (bad_list c.args.text.now c.next_piece.new.self c.loop-item.start c.loop-item.mask c.in-Some.item.now
     c.in-Err.bad.at r (e.refused, e.place)).0
 
 pub returns-in-Err-clause-place : goal.returns-in-Err-clause-place
@@ -33,21 +33,21 @@ returns-in-Err-clause-place c =
     let r = subst (λ (ps : List (List ℕ)). IsReading c.args.text.now ps c.loop-item.start c.loop-item.mask)
     c.in-Some.ensures c.loop-item.invariant in
     let e = c.in-Err.ensures in
-    (bad_list c.args.text.now c.next_part.new.self c.loop-item.start c.loop-item.mask c.in-Some.item.now
+    (bad_list c.args.text.now c.next_piece.new.self c.loop-item.start c.loop-item.mask c.in-Some.item.now
     c.in-Err.bad.at r (e.refused, e.place)).1
 
 pub overflow_add-start-in-Some : goal.overflow_add-start-in-Some
 overflow_add-start-in-Some c =
     let r = subst (λ (ps : List (List ℕ)). IsReading c.args.text.now ps c.loop-item.start c.loop-item.mask)
     c.in-Some.ensures c.loop-item.invariant in
-    let fits = list_fits c.args.text.now c.next_part.new.self c.loop-item.start c.loop-item.mask c.in-Some.item.now r in
+    let fits = list_fits c.args.text.now c.next_piece.new.self c.loop-item.start c.loop-item.mask c.in-Some.item.now r in
     search rules
 
 pub loop-item-preserved : goal.loop-item-preserved
 loop-item-preserved c =
     let r = subst (λ (ps : List (List ℕ)). IsReading c.args.text.now ps c.loop-item.start c.loop-item.mask)
     c.in-Some.ensures c.loop-item.invariant in
-    reading_more c.args.text.now c.next_part.new.self c.loop-item.start c.in-Ok.run'.0 c.in-Ok.run'.1 c.loop-item.mask
+    reading_more c.args.text.now c.next_piece.new.self c.loop-item.start c.in-Ok.run'.0 c.in-Ok.run'.1 c.loop-item.mask
     c.run_of.result c.or-mask.result c.in-Some.item.now r c.in-Ok.ensures.item c.run_of.ensures (search rules) c.or-mask.ensures.cpus
 
 pub returns-clause-list : goal.returns-clause-list

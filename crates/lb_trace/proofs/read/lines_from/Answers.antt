@@ -1,7 +1,7 @@
 use Rattle.std.proofs.Common.{◌≡◌, ◌≤◌, ◌+◌, ◌∷◌, ◌++◌, length, length-append, true, List, ℕ, refl, sym, ap, ◌∙◌, arith, rules}
 use Rattle.std.specs.List.{join_with_byte}
 use Rattle.std.proofs.lemmas.List.Splits.{join_with_byte-slice_split}
-use Rattle.lb_fields.specs.Parts.{parts, is_plain}
+use Rattle.lb_fields.specs.Pieces.{pieces, is_plain}
 use Rattle.lb_fields.specs.Standing.{Stands}
 use Rattle.lb_trace.specs.declared.trace.TheConstants.{MAX_BYTES}
 use Rattle.lb_trace.specs.Grammar.{lines_from}
@@ -13,8 +13,8 @@ pub loop-next-init : goal.loop-next-init
 loop-next-init c =
     let text = c.args.text.now in
     let line = c.in-Some.line.now in
-    let lines = c.next_part.new.self in
-    let cut : parts 10 text ≡ line ∷ lines = search rules in
+    let lines = c.next_piece.new.self in
+    let cut : pieces 10 text ≡ line ∷ lines = search rules in
     let whole : join_with_byte 10 (line ∷ lines) ≡ text = ap (join_with_byte 10) (sym cut) ∙ join_with_byte-slice_split 10 text in
     let size = ap (λ (t : List ℕ). length t) whole in
     let most : length text ≤ MAX_BYTES = c.requires in
@@ -34,8 +34,8 @@ loop-next-preserved c =
     let old = c.loop-next.reading in
     let new = c.take_line.new.self in
     let line = c.loop-next.line.now in
-    let next = c.in-Some-next_part.next.now in
-    let rest = c.next_part-in-loop-next.new.self in
+    let next = c.in-Some-next_piece.next.now in
+    let rest = c.next_piece-in-loop-next.new.self in
     let left = join_with_byte 10 (next ∷ rest) in
     let more : c.loop-next.lines ≡ next ∷ rest = search rules in
     let stands : is_plain line ≡ true → Stands c.loop-next.reader (line ++ 10 ∷ left) = rw more at inv.stands in
@@ -58,8 +58,8 @@ unfolding lines_from
 returns-in-Err-Bad-clause-reading c =
     let inv = c.loop-next.invariant in
     let line = c.loop-next.line.now in
-    let next = c.in-Some-next_part.next.now in
-    let rest = c.next_part-in-loop-next.new.self in
+    let next = c.in-Some-next_piece.next.now in
+    let rest = c.next_piece-in-loop-next.new.self in
     let more : c.loop-next.lines ≡ next ∷ rest = search rules in
     let stands : is_plain line ≡ true → Stands c.loop-next.reader (line ++ 10 ∷ join_with_byte 10 (next ∷ rest)) = rw more at inv.stands in
     let step = rw c.in-Err-Bad.field-0-is at (c.in-Err-Bad.ensures.step (join_with_byte 10 (next ∷ rest)) stands) in

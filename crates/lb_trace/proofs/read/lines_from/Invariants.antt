@@ -1,6 +1,6 @@
 use Rattle.std.proofs.Common.{◌≡◌, ◌≤◌, ◌+◌, ◌∷◌, true, length}
 use Rattle.std.specs.List.{join_with_byte}
-use Rattle.lb_fields.specs.Parts.{parts, is_plain}
+use Rattle.lb_fields.specs.Pieces.{pieces, is_plain}
 use Rattle.lb_fields.specs.Standing.{Stands}
 use Rattle.lb_trace.specs.declared.trace.TheConstants.{MAX_BYTES}
 use Rattle.lb_trace.specs.Grammar.{lines_from, nothing_read}
@@ -14,7 +14,7 @@ invariant-loop-next l = record {
   ticked : AreTicked l.reading.rows l.ticked;
   some : 1 ≤ l.reading.line;
   room : l.reading.line + length (join_with_byte 10 (l.line ∷ l.lines)) ≤ MAX_BYTES + 1;
-  from : lines_from l.reading (l.line ∷ l.lines) ≡ lines_from nothing_read (parts 10 l.text);
+  from : lines_from l.reading (l.line ∷ l.lines) ≡ lines_from nothing_read (pieces 10 l.text);
   stands : is_plain l.line ≡ true → Stands l.reader (join_with_byte 10 (l.line ∷ l.lines));
 }
 

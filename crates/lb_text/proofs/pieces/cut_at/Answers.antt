@@ -1,5 +1,5 @@
 use Rattle.lb_text.proofs.Cut.{starts}
-use Rattle.lb_text.proofs.parts.cut_at.Goals as goal
+use Rattle.lb_text.proofs.pieces.cut_at.Goals as goal
 
 pub loop-i-init : goal.loop-i-init
 loop-i-init c = starts c.args.text.now c.args.mark

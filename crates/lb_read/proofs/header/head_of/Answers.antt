@@ -1,13 +1,13 @@
 use Rattle.std.proofs.Common.{◌≡◌, ℕ, ◌+◌, ◌-◌, ◌<◌, Bool, true, false, ◌&&◌, ◌||◌, List, length, sym, ap, subst, ◌∙◌, arith}
 use Rattle.lb_trace.specs.declared.trace.TheConstants.{MAX_BYTES}
 use Rattle.lb_read.specs.Repeats.{can_repeat, is_parts, has_room}
-use Rattle.lb_read.proofs.FrontFacts.{FrontSoFar, so_far_more, front_other, front_stopped, front_end}
-use Rattle.lb_read.proofs.header.front_of.Goals as goal
+use Rattle.lb_read.proofs.HeadFacts.{HeadSoFar, so_far_more, head_other, head_stopped, head_end}
+use Rattle.lb_read.proofs.header.head_of.Goals as goal
 
 pub returns-in_default-repeated : goal.returns-in_default-repeated
 returns-in_default-repeated c =
     let f =
-    front_other _ _ _ _ _ _ c.in-Some.after.now c.loop-line.invariant c.in-Some.ensures.lines c.in_default-repeated.ensures in
+    head_other _ _ _ _ _ _ c.in-Some.after.now c.loop-line.invariant c.in-Some.ensures.lines c.in_default-repeated.ensures in
     record { trace = f.trace_is; lines = f.lines_is; few = f.few; stopped = f.stopped_is; rest = f.rest_is; within = f.within }
 
 pub returns-then-not-branch : goal.returns-then-not-branch
@@ -18,7 +18,7 @@ returns-then-not-branch c =
     ap (λ n. can_repeat c.loop-line.parted body && has_room (MAX_BYTES - n) body) (sym used) ∙ sym c.in_ok-can_follow.ensures
     ∙ c.if-not-branch.true in
     let f =
-    front_stopped _ _ _ _ _ _ c.in-Some.after.now body c.loop-line.invariant c.in-Some.ensures.lines
+    head_stopped _ _ _ _ _ _ c.in-Some.after.now body c.loop-line.invariant c.in-Some.ensures.lines
     c.in-Some-repeated.ensures.0 c.in-Some-repeated.ensures.1 cannot in
     record { trace = f.trace_is; lines = f.lines_is; few = f.few; stopped = f.stopped_is; rest = f.rest_is; within = f.within }
 
@@ -33,12 +33,12 @@ loop-line-preserved c =
     let more =
     so_far_more _ _ _ _ _ _ c.in-Some.after.now body c.loop-line.invariant c.in-Some.ensures.lines
     (omega (arith, lt)) c.in-Some-repeated.ensures.0 c.in-Some-repeated.ensures.1 can in
-    subst (λ (p : Bool). FrontSoFar c.args.text.now c.add_line.new.trace.items
+    subst (λ (p : Bool). HeadSoFar c.args.text.now c.add_line.new.trace.items
     (c.loop-line.lines + 1) p c.in-Some.after.now) (sym c.parted_by-parted.ensures)
-    (subst (λ (t : List ℕ). FrontSoFar c.args.text.now t (c.loop-line.lines + 1)
+    (subst (λ (t : List ℕ). HeadSoFar c.args.text.now t (c.loop-line.lines + 1)
     (c.loop-line.parted || is_parts body) c.in-Some.after.now) (sym c.in_ok-add_line.ensures) more)
 
 pub returns : goal.returns
 returns c =
-    let f = front_end _ _ _ _ _ c.loop-line.invariant c.in_default.ensures.lines in
+    let f = head_end _ _ _ _ _ c.loop-line.invariant c.in_default.ensures.lines in
     record { trace = f.trace_is; lines = f.lines_is; few = f.few; stopped = f.stopped_is; rest = f.rest_is; within = f.within }

@@ -1,13 +1,13 @@
--- A text as the parts between its marks: lines between line feeds, fields between commas. There is
--- one part more than there are marks. A line is plain where each of its bytes may stand in a trace.
+-- A text as the pieces between its marks: lines between line feeds, fields between commas. There is
+-- one piece more than there are marks. A line is plain where each of its bytes may stand in a trace.
 use Rattle.std.specs.Prelude.{ℕ, Bool, List, ◌||◌, ◌==◌}
 use Rattle.std.specs.Char.{is_ascii_digit, is_ascii_lowercase}
 use Rattle.std.specs.List.{list_all, slice_split}
 use Rattle.lb_text.specs.declared.marks.TheConstants.{COMMA, SEMICOLON, MINUS}
 
--- the parts of a text between the bytes that are this mark
-abbrev pub parts : ℕ → List ℕ → List (List ℕ)
-parts mark text = slice_split (λ byte. byte == mark) text
+-- the pieces of a text between the bytes that are this mark
+abbrev pub pieces : ℕ → List ℕ → List (List ℕ)
+pieces mark text = slice_split (λ byte. byte == mark) text
 
 -- a digit, a letter from `a` to `z`, a comma, `;` or `-`
 abbrev pub is_plain_byte : ℕ → Bool

@@ -17,46 +17,46 @@ fn cut_at(text: &[u8], mark: u8) -> Option<(&[u8], &[u8])>
     None
 }
 
-/// The parts of a text between its marks that are not taken yet. Contracts see it as their list.
-/// A text has one part more than it has marks; some of them may be empty.
+/// The pieces of a text between its marks that are not taken yet. Contracts see it as their list.
+/// A text has one piece more than it has marks; some of them may be empty.
 #[derive(Drop)]
-pub struct Parts<'a> {
+pub struct Pieces<'a> {
     rest: Option<&'a [u8]>,
     mark: u8,
 }
 
-impl<'a> Model for Parts<'a> {
+impl<'a> Model for Pieces<'a> {
     ghost use Rattle.std.specs.Prelude.{ℕ, List};
     ghost use Rattle.std.specs.Option.{option_copied};
-    ghost use Rattle.lb_text.specs.Parts.{parts_left};
+    ghost use Rattle.lb_text.specs.Pieces.{pieces_left};
 
     ghost Value = { List (List ℕ) };
 
-    ghost view = { λ p. parts_left p.mark (option_copied p.rest) };
+    ghost view = { λ p. pieces_left p.mark (option_copied p.rest) };
 }
 
-impl<'a> Parts<'a> {
-    /// All parts of a text.
+impl<'a> Pieces<'a> {
+    /// All pieces of a text.
     pub fn new(text: &'a [u8], mark: u8) -> Self
         ensures { result ≡ slice_split (λ b. b == mark) text.now }
     {
-        Parts {
+        Pieces {
             rest: Some(text),
             mark,
         }
     }
 
-    /// Takes the next part; None where none is left.
-    pub fn next_part(&mut self) -> Option<&'a [u8]>
-        ensures { MatchOption result ((self.old ≡ []) × (self.new ≡ [])) (λ part. self.old ≡ part.now ∷ self.new) }
+    /// Takes the next piece; None where none is left.
+    pub fn next_piece(&mut self) -> Option<&'a [u8]>
+        ensures { MatchOption result ((self.old ≡ []) × (self.new ≡ [])) (λ piece. self.old ≡ piece.now ∷ self.new) }
     {
         let Some(rest) = self.rest else {
             return None;
         };
         match cut_at(rest, self.mark) {
-            Some((part, after)) => {
+            Some((piece, after)) => {
                 self.rest = Some(after);
-                Some(part)
+                Some(piece)
             }
             None => {
                 self.rest = None;

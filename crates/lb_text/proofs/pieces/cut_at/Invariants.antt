@@ -1,7 +1,7 @@
 use Rattle.std.proofs.Common.{◌≡◌, eqb, take, drop}
 use Rattle.std.specs.List.{slice_split}
 use Rattle.lb_text.proofs.Cut.{onto_front}
-use Rattle.lb_text.proofs.parts.cut_at.Given as goal
+use Rattle.lb_text.proofs.pieces.cut_at.Given as goal
 
 abbrev pub invariant-loop-i : goal.invariant-loop-i
 invariant-loop-i l = onto_front (take l.i l.text) (slice_split (λ b. eqb b l.mark) (drop l.i l.text)) ≡ slice_split

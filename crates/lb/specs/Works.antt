@@ -1,0 +1,142 @@
+-- What each work does with its input: how it ends, where it could be read and there is memory, and what
+-- it writes where it is done. `step` and `topo` read a trace, `check` reads a history, and `gen` and `sum`
+-- read nothing.
+use Rattle.std.specs.Prelude.{◌≡◌, ◌⊎◌, ℕ, ◌<◌, ◌≤◌, Bool, true, false, List, [], ◌∷◌, ◌++◌, length, codes, Result, Ok, Err, Option, Some, None, IfSome}
+use Rattle.std.specs.Io.KnownBytes.{IsAtEnd}
+use Rattle.std.specs.Fmt.{decimal}
+use Rattle.lb_trace.specs.declared.trace.TheConstants.{MAX_BYTES}
+use Rattle.lb_trace.specs.declared.trace.Code.{Code}
+use Rattle.lb_trace.specs.declared.trace.Code.TheVariants.{TooLong, BadLine}
+use Rattle.lb_trace.specs.declared.trace.Trace.{Trace}
+use Rattle.lb_trace.specs.Grammar.{reading_of}
+use Rattle.lb_core.specs.declared.history.History.{History}
+use Rattle.lb_core.specs.Serial.{IsSerialHistory}
+use Rattle.lb_record.specs.declared.history.TheConstants.{MAX_HISTORY_BYTES}
+use Rattle.lb_record.specs.History.{text_of}
+use Rattle.lb_read.specs.declared.written.Read.{Read}
+use Rattle.lb_read.specs.Texts.{lines_of}
+use Rattle.lb_read.specs.Whole.{ReadsAs}
+use Rattle.lb_read.specs.FirstBad.{IsFirstBadLine}
+use Rattle.lb_audit.specs.declared.verdict.Verdict.{Verdict}
+use Rattle.lb_audit.specs.declared.verdict.Verdict.TheVariants as verdict
+use Rattle.lb_audit.specs.Verdict.{verdict_of}
+use Rattle.lb_topo.specs.Text.{topology_text}
+use Rattle.lb_generator.specs.Generator.{trace_drawn}
+use Rattle.lb_generator.specs.Text.{text_drawn}
+use Rattle.lb_summary.specs.Summary.{summary_text}
+use Rattle.lb_words.specs.declared.work.Work.{Work}
+use Rattle.lb_words.specs.declared.work.Work.TheVariants.{Step, Topo, Check, Gen, Sum}
+use Rattle.lb.specs.declared.status.Status.{Status}
+use Rattle.lb.specs.declared.status.Status.TheVariants as status
+use Rattle.lb.specs.Invocation.{Stream, IsUntouched, HadFault}
+
+-- ---- what a work reads
+-- the work reads its source
+abbrev pub reads : Work → Bool
+reads (Gen number rows) = false
+reads (Sum number rows) = false
+reads work = true
+
+-- the words ask for a work that reads its source
+abbrev pub reads_source : Option Work → Bool
+reads_source None = false
+reads_source (Some work) = reads work
+
+-- the longest input that a work reads, in bytes
+abbrev pub limit : Work → ℕ
+limit Check = MAX_HISTORY_BYTES
+limit work = MAX_BYTES
+
+-- P holds of the input of the work: what its source told, or nothing where the work reads nothing
+abbrev pub OfInput : Work → Stream → (List ℕ → Type 0) → Type 0
+OfInput (Gen number rows) source P = P []
+OfInput (Sum number rows) source P = P []
+OfInput work source P = IfSome source.before P
+
+-- these bytes are that input
+abbrev pub IsInput : Work → Stream → List ℕ → Type 0
+IsInput (Gen number rows) source input = input ≡ []
+IsInput (Sum number rows) source input = input ≡ []
+IsInput work source input = source.before ≡ Some input
+
+-- the source was read to its end by a work that reads it
+abbrev pub WasRead : Work → Stream → Type 0
+WasRead (Gen number rows) source = IsUntouched source
+WasRead (Sum number rows) source = IsUntouched source
+WasRead work source = IsAtEnd source.after
+
+-- ---- how a work ends
+-- by what a text reads as: a trace, or its first bad line and that line's code
+abbrev pub reading_end : Result Trace (ℕ × Code) → Status
+reading_end (Ok trace) = status.Done
+reading_end (Err bad) = status.Refused bad.0 bad.1
+
+-- by what is said of a history
+abbrev pub verdict_end : Verdict → Status
+verdict_end verdict.Legal = status.Done
+verdict_end (verdict.Illegal ticket rule) = status.Illegal ticket rule
+
+-- a text that reads as a history is judged
+pub record IsJudged (input : List ℕ) (end : Status) : Type 0 where
+  pub read : Read
+  pub reads : ReadsAs input read
+  pub judged : end ≡ verdict_end (verdict_of read)
+
+-- any other text has a first bad line
+pub record IsBad (input : List ℕ) (end : Status) : Type 0 where
+  pub line : ℕ
+  pub bad : IsFirstBadLine (lines_of input) line
+  pub refused : end ≡ status.Refused line BadLine
+
+abbrev pub HistoryEnds : List ℕ → Status → Type 0
+HistoryEnds input end =
+    ((MAX_HISTORY_BYTES < length input) × (end ≡ status.Refused 0 TooLong))
+    ⊎ ((length input ≤ MAX_HISTORY_BYTES) × (IsJudged input end ⊎ IsBad input end))
+
+abbrev pub Ends : Work → List ℕ → Status → Type 0
+Ends Step input end = end ≡ reading_end (reading_of input)
+Ends Topo input end = end ≡ reading_end (reading_of input)
+Ends Check input end = HistoryEnds input end
+Ends (Gen number rows) input end = end ≡ status.Done
+Ends (Sum number rows) input end = end ≡ status.Done
+
+-- the status says what is wrong with the input
+abbrev pub IsRefusal : Status → Type 0
+IsRefusal (status.Refused line code) = Unit {0}
+IsRefusal (status.Illegal ticket rule) = Unit {0}
+IsRefusal end = ⊥
+
+-- the work stops with this status before anything could be written
+abbrev pub Stops : Work → Stream → Status → Type 0
+Stops work source status.ReadFault = (reads work ≡ true) × HadFault source
+Stops work source status.NoMemory = Unit {0}
+Stops work source end = IsRefusal end × OfInput work source (λ input. Ends work input end)
+
+-- ---- what a work writes
+-- what `check` writes of a legal history with so many entries
+abbrev pub legal_text : ℕ → List ℕ
+legal_text entries = codes "legal " ++ (decimal entries ++ 10 ∷ [])
+
+-- the text of the serial history of a trace
+abbrev pub IsSerialText : Trace → List ℕ → Type 0
+IsSerialText t text = (h : History) × IsSerialHistory t h × (text ≡ text_of h)
+
+-- the summary of the serial history of a trace
+abbrev pub IsSummary : Trace → List ℕ → Type 0
+IsSummary t text = (h : History) × IsSerialHistory t h × (text ≡ summary_text h)
+
+-- what the work writes for its input, where it is done
+abbrev pub IsOutput : Work → List ℕ → List ℕ → Type 0
+IsOutput Step input output = (t : Trace) × (reading_of input ≡ Ok t) × IsSerialText t output
+IsOutput Topo input output = (t : Trace) × (reading_of input ≡ Ok t) × (output ≡ topology_text t)
+IsOutput Check input output = (read : Read) × ReadsAs input read × (output ≡ legal_text (length read.entries))
+IsOutput (Gen number rows) input output = output ≡ text_drawn number rows
+IsOutput (Sum number rows) input output = IsSummary (trace_drawn number rows) output
+
+-- the work is done with its input, and has this to write
+abbrev pub IsDone : Work → List ℕ → List ℕ → Type 0
+IsDone work input output = Ends work input status.Done × IsOutput work input output
+
+-- the same of what its source told
+abbrev pub HasOutput : Work → Stream → List ℕ → Type 0
+HasOutput work source output = WasRead work source × OfInput work source (λ input. IsDone work input output)
