@@ -1,12 +1,20 @@
--- Laws of verdicts: each is the one that a history deserves.
-use Rattle.std.specs.Prelude.{◌≡◌, ℕ, ◌↔◌}
+-- Laws of verdicts: what a text reads as may be judged, and each verdict is the one that its history deserves.
+use Rattle.std.specs.Prelude.{◌≡◌, ℕ, ◌↔◌, true, List}
+use Rattle.std.specs.List.{list_all}
+use Rattle.lb_trace.specs.Accepted.{IsHeader}
 use Rattle.lb_core.specs.declared.history.History.{History}
 use Rattle.lb_core.specs.declared.rule.Rule.{Rule}
 use Rattle.lb_core.specs.Legal.{IsLegalHistory}
 use Rattle.lb_read.specs.declared.written.Read.{Read}
-use Rattle.lb_read.specs.Written.{as_read}
+use Rattle.lb_read.specs.Written.{written_fits, as_read}
+use Rattle.lb_read.specs.Whole.{ReadsAs}
 use Rattle.lb_audit.specs.declared.verdict.Verdict.TheVariants.{Legal, Illegal}
 use Rattle.lb_audit.specs.Verdict.{IsLegal, IsFirstFault, verdict_of}
+
+-- what a text reads as has the header of an accepted trace, and entries in range
+abbrev pub TextsMayBeJudged : Type 0
+TextsMayBeJudged = (text : List ℕ) (read : Read) → ReadsAs text read
+    → IsHeader read.header × (list_all written_fits read.entries ≡ true)
 
 -- legal is said exactly of the legal ones
 abbrev pub LegalExactly : Type 0
