@@ -1,5 +1,5 @@
 //! What can be read of a state. No reader takes memory.
-ghost use Rattle.std.specs.Prelude.{◌≡◌, ◌<◌, length};
+ghost use Rattle.std.specs.Prelude.{◌≡◌, ◌<◌, ◌≤◌, length};
 ghost use Rattle.std.specs.List.{slice_index_or};
 ghost use Rattle.lb_base.specs.Figures.{no_fig};
 ghost use Rattle.lb_domain.specs.Topologies.{domains_within};
@@ -56,6 +56,15 @@ impl State {
         ensures { result.now ≡ domains_within self.now.header.cpus self.now.header.distances (masks_at self.now (length self.now.versions)) }
     {
         self.parts.topology_of(self.parts.version())
+    }
+
+    /// The domains of each CPU within the masks of a version that was published.
+    pub fn topology_of(&self, version: u64) -> &Topology
+        requires some { 1 ≤ version }
+        requires published { version ≤ length self.now.versions }
+        ensures { result.now ≡ domains_within self.now.header.cpus self.now.header.distances (masks_at self.now version) }
+    {
+        self.parts.topology_of(version)
     }
 
     /// Where a task is: on which queue, or in the hand of which lane.

@@ -1,0 +1,5 @@
+-- A text to which one text after another is appended.
+use Rattle.std.proofs.Common.{◌≡◌, ℕ, List, ◌++◌, ◌∙◌, ap, append_assoc}
+
+pub followed : (a b c x y : List ℕ) → b ≡ a ++ x → c ≡ b ++ y → c ≡ a ++ (x ++ y)
+followed a b c x y first second = second ∙ ap (λ (z : List ℕ). z ++ y) first ∙ append_assoc a x y
