@@ -1,9 +1,10 @@
 -- Each step of the machine keeps its tasks allowed, and the law Permitted.
 use Rattle.std.proofs.Common.{◌≡◌, ℕ, suc, ◌+◌, ◌<◌, Bool, true, false, not, cond, ◌==◌, ◌||◌, eqb, List, [], ◌∷◌, length, get_or, All, Option, Some, None, refl, sym, ◌∙◌, ap, arith, subst, inl, inr}
 use Rattle.std.specs.List.{list_all}
-use Rattle.std.proofs.lemmas.Bool.{or_parts, and_parts, and_from, eqb-true, cases_eq}
+use Rattle.std.proofs.lemmas.Bool.{or_parts, and_parts, and_from, eqb-true, cases_eq, cases_lt, not-true}
 use Rattle.std.proofs.lemmas.List.{length-set}
 use Rattle.std.proofs.lemmas.List.FromFn.{length-map-range_with_len}
+use Rattle.std.proofs.lemmas.List.Sums.{list_all-from_AllPass}
 use Rattle.lb_base.specs.Sets.{is_empty}
 use Rattle.lb_queue.specs.declared.awake.Awake.{Awake}
 use Rattle.lb_queue.specs.declared.record.TaskRecord.{TaskRecord}
@@ -31,16 +32,16 @@ use Rattle.lb_core.specs.Leaving.{Leaving, leaving, out_by}
 use Rattle.lb_core.specs.Rules.{leaves_instead}
 use Rattle.lb_core.specs.QueueAfter.{queue_after, queue_by, cause_of, rest_of}
 use Rattle.lb_core.specs.CourseAfter.{course_after, takes_off, drew}
-use Rattle.lb_core.specs.Machine.{MachineState, queue_at, course_at, sight, tasks_at, opening_queue, start}
+use Rattle.lb_core.specs.Machine.{MachineState, no_queue, queue_at, course_at, sight, tasks_at, opening_queue, start}
 use Rattle.lb_core.specs.Step.{after, queues_after}
 use Rattle.lb_core.specs.Legal.{MayBeAdded, run, MayFollow}
-use Rattle.lb_core.specs.Permitted.{may_stand, IsPermitted, PermittedAlways}
+use Rattle.lb_core.specs.Permitted.{may_stand, IsPermitted, HaveMasks, PermittedAlways, PermittedOpens, PermittedStays}
 use Rattle.lb_queue.specs.Laws.{CallsMove}
 use Rattle.lb_core.proofs.Allowed.{may_be, may_go_to, may_run, IsAllowed}
 use Rattle.lb_core.proofs.Unbroken.{unbroken_here}
 use Rattle.lb_core.proofs.Places.{IsChanged, course_same, course_other}
 use Rattle.lb_core.proofs.Placing.{Kept, entry, distinct, queue_changed, course_hand, leaving_is, lane_there, cpu_there, form_lets, step_kept, owner_wrong, no_queue_changes, quiet_facts, still_facts, still_lists, is_still, is_quiet, is_no_queue}
-use Rattle.lb_core.proofs.Opening.{opening_at, opening_hand, start_kept}
+use Rattle.lb_core.proofs.Opening.{opening_at, opening_hand, past, start_kept}
 use Rattle.lb_core.proofs.Headers.{all_index, homes_declared, masks_given}
 use Rattle.lb_core.proofs.Leavings.{is_left}
 use Rattle.lb_core.proofs.Carrying.{lists_of}
@@ -234,6 +235,7 @@ start_permits h masks = record {
   hands = λ lane. none_goes (course_at (start h).courses lane) (opening_hand h lane);
 }
 
+-- ---- the invariant, and the two things that it says
 permitted : (m : MachineState) → Permit m → IsPermitted m
 permitted m p = record {
   on_queues = λ cpu lt k d i. let h = (and_parts _ _
@@ -242,7 +244,59 @@ permitted m p = record {
   in_hands = λ lane k d i. (and_parts _ _ (all_index (may_go_to (course_at m.courses lane).to) _ (p.hands lane) k d i)).0;
 }
 
+have_masks : (m : MachineState) → Permit m → HaveMasks m
+have_masks m p = record {
+  own = p.cpus;
+  awake = λ cpu lt k d i. not-true _ ((and_parts _ _
+      (all_index (λ (a : Awake). may_be (queue_at m.queues cpu).cpu a.stop a.task) _ (p.queues cpu).awake k d i)).1);
+  asleep = λ cpu lt k d i. not-true _ (all_index may_run _ (p.queues cpu).asleep k d i);
+  gone = λ cpu lt k d i. not-true _ (all_index may_run _ (p.queues cpu).gone k d i);
+  in_hands = λ lane k d i. not-true _ ((and_parts _ _
+      (all_index (may_go_to (course_at m.courses lane).to) _ (p.hands lane) k d i)).1);
+}
+
+-- a mask that is not empty, as the tests of the invariant say it
+some_mask : (b : Bool) → b ≡ false → not b ≡ true
+some_mask b e = rw e refl
+
+run_all : (ts : List TaskRecord) → All (λ t. is_empty t.mask ≡ false) ts → list_all may_run ts ≡ true
+run_all ts all = list_all-from_AllPass may_run ts (λ k d i. some_mask _ (all k d i))
+
+allowed_inside : (m : MachineState) (cpu : ℕ) → cpu < length m.queues → IsPermitted m → HaveMasks m
+    → IsAllowed (queue_at m.queues cpu)
+allowed_inside m cpu lt p h =
+    let q = queue_at m.queues cpu in
+    record {
+      awake = list_all-from_AllPass (λ (a : Awake). may_be q.cpu a.stop a.task) q.awake (λ k d i. and_from _ _
+          (subst (λ (x : ℕ). may_stand x (get_or q.awake k d) ≡ true) (sym (h.own cpu lt)) (p.on_queues cpu lt k d i))
+          (some_mask _ (h.awake cpu lt k d i)));
+      asleep = run_all q.asleep (h.asleep cpu lt);
+      gone = run_all q.gone (h.gone cpu lt);
+    }
+
+permit : (m : MachineState) → IsPermitted m → HaveMasks m → Permit m
+permit m p h = record {
+  cpus = h.own;
+  queues = λ cpu. elim (cases_lt cpu (length m.queues)) [
+    | inl lt ↦ allowed_inside m cpu lt p h
+    | inr ge ↦ subst IsAllowed (sym (past m.queues cpu no_queue ge)) (record { awake = refl; asleep = refl; gone = refl })
+  ];
+  hands = λ lane. let c = course_at m.courses lane in
+      list_all-from_AllPass (may_go_to c.to) c.hand
+      (λ k d i. and_from _ _ (p.in_hands lane k d i) (some_mask _ (h.in_hands lane k d i)));
+}
+
+-- ---- the law, after every legal front and from entry to entry
 pub permitted_always : CallsMove → TaskLaws → PermittedAlways
 permitted_always moves law h es accepted legal =
     permitted (run es (start h)) (run_permits moves law es (start h) (start_kept h (homes_declared h accepted))
     (start_permits h (masks_given h accepted)) legal)
+
+pub permitted_opens : PermittedOpens
+permitted_opens h accepted =
+    let p = start_permits h (masks_given h accepted) in (permitted (start h) p, have_masks (start h) p)
+
+pub permitted_stays : TaskLaws → PermittedStays
+permitted_stays law m e placed rests p masks added =
+    let k = step_permits law m e.owner e.lane e.prev e.what (record { placed = placed; hands = rests }) (permit m p masks) added in
+    (permitted (after m e) k, have_masks (after m e) k)

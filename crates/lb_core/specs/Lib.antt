@@ -22,3 +22,4 @@ pub mod Passes
 pub mod TurnCounters
 pub mod OpenTurns
 pub mod Ranges
+pub mod Asks

@@ -1,7 +1,7 @@
 //! Laws of every legal front and history, over the definitions alone: each function's contract is the
 //! law, and its body calls the laws below that it stands on.
 ghost use Rattle.lb_core.specs.Placed.{PlacedAlways, PlacedOpens, PlacedStays};
-ghost use Rattle.lb_core.specs.Permitted.{PermittedAlways};
+ghost use Rattle.lb_core.specs.Permitted.{PermittedAlways, PermittedOpens, PermittedStays};
 ghost use Rattle.lb_core.specs.Passes.{PassesAlways};
 ghost use Rattle.lb_core.specs.TurnCounters.{TurnsFitAlways};
 ghost use Rattle.lb_core.specs.OpenTurns.{TurnsStayOpen};
@@ -61,6 +61,22 @@ pub fn permitted()
     next_stops();
     // what a pull takes, and in which order it leaves the rest
     pulls_follow_picks();
+}
+
+/// In the opening state of an accepted header each awake task may run where it is or is asked to leave, and
+/// each task in a hand may run where the hand goes; and each queue is its CPU's, and no task's mask is empty.
+/// Each entry that may be added keeps both, where each task is at its one place and each hand empty unless
+/// its lane is in flight, which `placed_stays` keeps.
+pub fn permitted_stays()
+    ensures opens { PermittedOpens }
+    ensures stays { PermittedStays }
+{
+    // what a call leaves of masks and stop requests, and that the queue stays its CPU's
+    tests_last();
+    calls_keep_rest();
+    // where tasks that leave may go, and that the stop that is due may be taken
+    taken_may_run();
+    next_stops();
 }
 
 /// After every legal front a queue's counters are as many as its CPU has domains in the version that

@@ -12,7 +12,7 @@ mod rule;
 
 pub use course::{Course, Form};
 pub use entry::{CpuFig, Entry, FigName, OutcomeWord, Owner, What};
-pub use history::History;
+pub use history::{History, MAX_TICKET};
 pub use lb_queue::TaskRecord;
 pub use lists::{CounterRows, Entries, FigNames, Figs, Ids, Numbers, TaskRecords};
 pub use place::Place;

@@ -61,13 +61,15 @@ use Rattle.lb_core.proofs.Equality.{numbers_same}
 use Rattle.lb_core.proofs.Placing.{is_no_queue, entry}
 use Rattle.lb_core.proofs.Unbroken.{unbroken, unbroken_here}
 use Rattle.lb_ready.specs.Ready.{IsSmall, SparesLocal, Spares, is_mask_in, is_task_in, Names, IsReady, unnamed, FitsForm}
-use Rattle.lb_ready.specs.Calls.{IsOnAt, LookAsks, CommandAsks, LeavingAsks, LandingAsks, TurnAsks, TrialAsks, QueueAsks, IsNamed}
+use Rattle.lb_core.specs.Asks.{CommandAsks}
+use Rattle.lb_ready.specs.Calls.{IsOnAt, LookAsks, LeavingAsks, LandedAsks, TurnAsks, TrialAsks, QueueAsks, IsNamed}
 use Rattle.lb_ready.specs.Laws.{CallsMayBeTried, CallsMayBeMade, LooksMayBeDecided, StopsMayBeTaken, TasksStand}
 use Rattle.lb_ready.proofs.Staging.{staged, staged_cpu}
 use Rattle.lb_ready.proofs.Steps.{of_out}
 use Rattle.lb_ready.proofs.Keeping.{parted, look_inside, DomainLaws, can_be_read}
 use Rattle.lb_ready.proofs.Figures.{by_cpu_at, named_small, small_sum}
-use Rattle.lb_ready.proofs.Going.{or_none, stands, somewhere, cpu_inside}
+use Rattle.lb_ready.proofs.Due.{or_none}
+use Rattle.lb_ready.proofs.Going.{stands, somewhere, cpu_inside}
 use Rattle.lb_ready.proofs.Fitting.{none_excluded}
 use Rattle.lb_ready.proofs.Requests.{stands_once, distinct}
 
@@ -190,19 +192,21 @@ tasks_stand m t k lt = by_place (place_at m t) refl
 
 -- ---- landings
 landing_asks : (m : MachineState) (lane cpu : ℕ) → IsReady m → cpu < length m.header.cpus
-    → cpu ≡ (course_at m.courses lane).to → LandingAsks (course_at m.courses lane) (queue_at m.queues cpu)
+    → cpu ≡ (course_at m.courses lane).to → LandedAsks (course_at m.courses lane) (queue_at m.queues cpu)
 landing_asks m lane cpu k lt e = record {
-  to = sym e ∙ sym (k.queues cpu lt).own;
   permitted = λ i d inside. subst (λ (x : ℕ). has (get_or (course_at m.courses lane).hand i d).mask x ≡ true)
       (sym e ∙ sym (k.queues cpu lt).own) (k.permitted.in_hands lane i d inside);
-  differ = λ id. stands_once m k.placed (HandOf lane) id;
-  unknown = λ i d inside.
-      let t = get_or (course_at m.courses lane).hand i d in
-      let h = there_at (λ (x : TaskRecord). x.id) (course_at m.courses lane).hand i d inside in
-      or_none _ _ (or_none _ _ (nowhere (λ (a : Awake). a.task.id) t.id (queue_at m.queues cpu).awake
-      (elsewhere m t.id lane (AwakeAt cpu) k.placed h refl))
-      (nowhere (λ (x : TaskRecord). x.id) t.id (queue_at m.queues cpu).asleep (elsewhere m t.id lane (AsleepAt cpu) k.placed h refl)))
-      (nowhere (λ (x : TaskRecord). x.id) t.id (queue_at m.queues cpu).gone (elsewhere m t.id lane (GoneAt cpu) k.placed h refl));
+  landing = record {
+    to = sym e ∙ sym (k.queues cpu lt).own;
+    differ = λ id. stands_once m k.placed (HandOf lane) id;
+    unknown = λ i d inside.
+        let t = get_or (course_at m.courses lane).hand i d in
+        let h = there_at (λ (x : TaskRecord). x.id) (course_at m.courses lane).hand i d inside in
+        or_none _ _ (or_none _ _ (nowhere (λ (a : Awake). a.task.id) t.id (queue_at m.queues cpu).awake
+        (elsewhere m t.id lane (AwakeAt cpu) k.placed h refl))
+        (nowhere (λ (x : TaskRecord). x.id) t.id (queue_at m.queues cpu).asleep (elsewhere m t.id lane (AsleepAt cpu) k.placed h refl)))
+        (nowhere (λ (x : TaskRecord). x.id) t.id (queue_at m.queues cpu).gone (elsewhere m t.id lane (GoneAt cpu) k.placed h refl));
+  };
 }
 
 -- ---- turns

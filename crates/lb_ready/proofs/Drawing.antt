@@ -36,7 +36,7 @@ use Rattle.lb_core.proofs.Unbroken.{unbroken, unbroken_here, unbroken_elsewhere}
 use Rattle.lb_ready.specs.Ready.{IsReady}
 use Rattle.lb_ready.specs.Laws.{is_at_rest, NextIsSerial, SerialIsNext}
 use Rattle.lb_ready.specs.Next.{cpu_of_place, cpu_next, owner_of, what_next, is_answerable, row_by, may_take, drawn, drawn_if, next_in, next_entry, Takes, IsSerialNext}
-use Rattle.lb_ready.proofs.Going.{Keeps, each_kept, may_be_added, or_none, not_not}
+use Rattle.lb_ready.proofs.Due.{Keeps, each_kept, may_be_added, or_none, not_not}
 use Rattle.lb_ready.proofs.Running.{next_may, row_keeps, closes, closing_rowless, closing_serial}
 use Rattle.lb_ready.proofs.Calls.{look_due, scan_due}
 use Rattle.lb_ready.proofs.Staging.{staged}

@@ -1,6 +1,6 @@
 -- The histories of an accepted trace: they have as many rows as the trace, end, and what each entry says is
 -- in range.
-use Rattle.std.proofs.Common.{arith, ◌≡◌, ℕ, suc, ◌≤◌, Bool, true, false, cond, ◌==◌, List, [], ◌∷◌, length, refl, sym, ◌∙◌, ap, inl, inr, ◌+◌, ◌*◌, ◌^◌, ◌<◌, ◌++◌, map, replicate, get_or, subst}
+use Rattle.std.proofs.Common.{arith, ◌≡◌, ℕ, suc, ◌≤◌, Bool, true, false, cond, ◌==◌, List, [], ◌∷◌, length, refl, sym, ◌∙◌, ap, inl, inr, ◌+◌, ◌*◌, ◌<◌, ◌++◌, map, replicate, get_or, subst}
 use Rattle.std.specs.List.{list_all, range_with_len}
 use Rattle.std.proofs.lemmas.Bool.{and_from, and_parts, eq-eqb, eqb-true, ne_eqb, cases_eq}
 use Rattle.std.specs.Prelude.{sum_by}
@@ -18,6 +18,7 @@ use Rattle.lb_core.specs.declared.entry.Entry.{Entry}
 use Rattle.lb_core.specs.declared.entry.What.{What}
 use Rattle.lb_core.specs.declared.entry.What.TheVariants.{Row}
 use Rattle.lb_core.specs.declared.history.History.{History}
+use Rattle.lb_core.specs.declared.history.TheConstants.{MAX_TICKET}
 use Rattle.lb_core.specs.OfTrace.{of_lane, row_of, rows_drawn, IsHistoryOf}
 use Rattle.lb_core.specs.Course.{opening_course}
 use Rattle.lb_core.specs.Machine.{MachineState, opening_queue, start}
@@ -167,7 +168,7 @@ histories_end opens stays falls t history accepted of =
 
 -- ---- in range
 fits_from : (laws : ReadyLaws) (es : List Entry) (m : MachineState) → IsReady m → MayFollow es m
-    → list_all (is_row m.header) (rows_drawn es) ≡ true → m.ticket + length es ≤ 2 ^ 40 → fit_from (m.ticket + 1) es ≡ true
+    → list_all (is_row m.header) (rows_drawn es) ≡ true → m.ticket + length es ≤ MAX_TICKET → fit_from (m.ticket + 1) es ≡ true
 unfolding after
 fits_from laws [] m k follow rows few = refl
 fits_from laws (e ∷ es) m k follow rows few =

@@ -14,6 +14,7 @@ pub mod Owed
 pub mod Counters
 pub mod Scans
 pub mod Keeping
+pub mod Due
 pub mod Going
 pub mod Running
 pub mod Calls

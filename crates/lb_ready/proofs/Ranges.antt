@@ -24,6 +24,7 @@ use Rattle.lb_queue.specs.declared.answers.Reply.TheVariants.{NotHere}
 use Rattle.lb_queue.specs.Tasks.{occurs, ids}
 use Rattle.lb_queue.specs.Queue.{QueueState, nobody, clock_at, milliseconds}
 use Rattle.lb_queue.specs.Turns.{counters_found, counters_closed, due_positions, positions_by, positions_found}
+use Rattle.lb_core.specs.declared.history.TheConstants.{MAX_TICKET}
 use Rattle.lb_core.specs.declared.entry.FigName.{FigName}
 use Rattle.lb_core.specs.declared.course.Course.{Course}
 use Rattle.lb_core.specs.declared.course.Form.{Form}
@@ -137,7 +138,7 @@ long n le = le-leb n 18446744073709551615 (omega (arith, le))
 cpu_below : (h : Header) (cpu : ℕ) → IsHeader h → cpu < length h.cpus → cpu < 64
 cpu_below h cpu a lt = let most = a.most_cpus in omega arith
 
-row_long : (n ticket : ℕ) → n ≤ ticket + 1 → ticket < 2 ^ 40 → is_long n ≡ true
+row_long : (n ticket : ℕ) → n ≤ ticket + 1 → ticket < MAX_TICKET → is_long n ≡ true
 row_long n ticket le few = long n (omega arith)
 
 interval_long : (i : ℕ) (c : Counters) → i ≡ c.interval → IsInRange c → is_long i ≡ true
@@ -234,7 +235,7 @@ decision_ok h (Pull source kind imbalance) a s i = and_from _ _ (short source (l
 
 -- the figures that an entry names, of the CPUs of a mask that has one
 named_fit : (m : MachineState) (f : Form) (s : Sight) (names : List FigName) (mask : Mask) (cpu : ℕ) → IsReady m
-    → m.ticket < 2 ^ 40 → figures_due f s ≡ mask → cpu < 64 → has mask cpu ≡ true →
+    → m.ticket < MAX_TICKET → figures_due f s ≡ mask → cpu < 64 → has mask cpu ≡ true →
     same_numbers (map (λ n. n.cpu) names) (members (figures_due f s)) ≡ true
     → list_any (λ (n : FigName). ltb (entries_at m n.cpu) n.n) names ≡ false → are_figures names ≡ true
 named_fit m f s names mask cpu k few e lt there same published =
@@ -295,7 +296,7 @@ told b c r h = refl
 -- what is known of the machine and the entry
 pub record Known (m : MachineState) (o : Owner) (lane prev : ℕ) (w : What) : Type 0 where
   pub ready : IsReady m
-  pub few : m.ticket < 2 ^ 40
+  pub few : m.ticket < MAX_TICKET
   pub may : MayBeAdded m (entry o lane prev w)
   pub row : RowFits m.header w lane
 
@@ -483,7 +484,7 @@ owner_in m o lane prev w k h = by_owner o h
         and_from _ _ (short cpu (length m.header.cpus) (omega (arith, lt, z)) (few_cpus m.header k.accepted)) (of_lane (Queue cpu) h)
 
 -- the whole entry, at the next ticket
-pub entry_in : ReadyLaws → (m : MachineState) (e : Entry) → IsReady m → m.ticket < 2 ^ 40 → MayBeAdded m e
+pub entry_in : ReadyLaws → (m : MachineState) (e : Entry) → IsReady m → m.ticket < MAX_TICKET → MayBeAdded m e
     → RowFits m.header e.what e.lane → entry_fits (m.ticket + 1) e ≡ true
 unfolding entry_fits
 entry_in laws m e k few h r =

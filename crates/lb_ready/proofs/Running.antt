@@ -42,7 +42,8 @@ use Rattle.lb_ready.specs.Ready.{Names, FitsForm, Fits, ServesIn, IsReady, unnam
 use Rattle.lb_ready.specs.Laws.{is_at_rest, OthersRest, GoesOn, ServiceGoesOn, RowsAreTaken, ClosingGoesOn, TracesHaveRuns, OpensReady, StaysReady, EntriesFall}
 use Rattle.lb_ready.specs.Left.{rows_before, entries_left}
 use Rattle.lb_ready.proofs.Counting.{found_in}
-use Rattle.lb_ready.proofs.Going.{Keeps, drawn_by, each_kept, may_be_added, not_not, or_none, Next, Knows, stage_by, same, out_goes, at_a_queue, next_goes}
+use Rattle.lb_ready.proofs.Due.{Keeps, drawn_by, each_kept, may_be_added, not_not, or_none, Next, Knows, stage_by, same, out_goes}
+use Rattle.lb_ready.proofs.Going.{at_a_queue, next_goes}
 use Rattle.lb_ready.specs.Next.{row_by, cpu_next, queue_next, owner_of, out_of, what_next, is_answerable}
 use Rattle.lb_ready.proofs.Changes.{course_elsewhere}
 use Rattle.lb_ready.proofs.Keeping.{opening_course_at}

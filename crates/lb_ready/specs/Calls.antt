@@ -1,20 +1,20 @@
 -- What the call that an entry stands for asks, with the values that the course of its lane fixes: of the
 -- queue that draws the entry, of a decision, and of the search for the target of a kick.
-use Rattle.std.specs.Prelude.{◌≡◌, ℕ, pos, negsuc, ◌<◌, ◌≤◌, ◌≤ℤ◌, true, false, Option, Some, None, IfSome, IsSome, Bool, All, length, find, is_some, ◌==◌, List}
+use Rattle.std.specs.Prelude.{◌≡◌, ℕ, ◌<◌, ◌≤◌, true, false, Option, Some, IfSome, IsSome, Bool, All, length, find, is_some, ◌==◌, List}
 use Rattle.lb_base.specs.declared.mask.TheConstants.{MAX_CPUS}
 use Rattle.lb_base.specs.Mask.{has}
 use Rattle.lb_base.specs.Figures.{AllHaveFigures}
 use Rattle.lb_imbalance.specs.Conditions.{IsUnion, HaveSmallSums}
 use Rattle.lb_trace.specs.declared.trace.Command.{Command}
-use Rattle.lb_trace.specs.declared.trace.Command.TheVariants.{Wake, Nice, Tick}
+use Rattle.lb_trace.specs.declared.trace.Command.TheVariants.{Wake}
 use Rattle.lb_queue.specs.declared.record.TaskRecord.{TaskRecord}
 use Rattle.lb_queue.specs.declared.answers.OutCause.{OutCause}
 use Rattle.lb_queue.specs.declared.answers.OutCause.TheVariants.{Wake as WakeOut, Push as PushOut}
-use Rattle.lb_queue.specs.Tasks.{ids, occurs, awake_with, task_with}
-use Rattle.lb_queue.specs.Queue.{QueueState, away, knows}
-use Rattle.lb_queue.specs.Requests.{has_owed, next_stop}
+use Rattle.lb_queue.specs.Tasks.{awake_with, task_with}
+use Rattle.lb_queue.specs.Queue.{QueueState, away}
+use Rattle.lb_queue.specs.Requests.{next_stop}
 use Rattle.lb_queue.specs.Hands.{stop_to}
-use Rattle.lb_queue.specs.Turns.{AreInOrder, FitCounters, IsOpenAt}
+use Rattle.lb_queue.specs.Turns.{IsOpenAt}
 use Rattle.lb_core.specs.declared.course.Course.{Course}
 use Rattle.lb_core.specs.declared.entry.What.{What}
 use Rattle.lb_core.specs.declared.entry.What.TheVariants.{Look, Did, Out, Landed, Turn, Shut, Close, Over, Scan}
@@ -22,17 +22,11 @@ use Rattle.lb_core.specs.declared.entry.CpuFig.{CpuFig}
 use Rattle.lb_core.specs.declared.place.Place.{Place}
 use Rattle.lb_core.specs.declared.place.Place.TheVariants.{Awake as AwakeAt, Asleep as AsleepAt, Gone as GoneAt, Hand as HandOf}
 use Rattle.lb_core.specs.Machine.{MachineState, queue_at}
-use Rattle.lb_core.specs.Course.{turn_domains, turn_domain, shapes_of, widest_span}
+use Rattle.lb_core.specs.Course.{turn_domain, widest_span}
 use Rattle.lb_core.specs.Sight.{Sight, by_cpu}
 use Rattle.lb_core.specs.Leaving.{leaving}
+use Rattle.lb_core.specs.Asks.{CommandAsks, LandingAsks, OpeningAsks}
 use Rattle.lb_ready.specs.Ready.{local_group}
-
--- a wake is for a task that stays, a nice value is in range, and a tick passes no owed request over
-abbrev pub CommandAsks : Option Command → QueueState → Type 0
-CommandAsks (Some (Wake t)) q = away q t ≡ None
-CommandAsks (Some (Nice t nice)) q = (negsuc 19 ≤ℤ nice) × (nice ≤ℤ pos 19)
-CommandAsks (Some (Tick cpu)) q = has_owed q ≡ false
-CommandAsks command q = Unit {0}
 
 -- a task that wakes elsewhere has to, and a push goes where the active request goes
 abbrev pub LeavingAsks : OutCause → Option Command → ℕ → QueueState → Type 0
@@ -40,24 +34,20 @@ LeavingAsks WakeOut (Some (Wake t)) to q = away q t ≡ Some to
 LeavingAsks PushOut command to q = q.active ≡ Some to
 LeavingAsks cause command to q = Unit {0}
 
--- the tasks of the hand come to this queue, each once; they may run there, and it does not know them
-pub record LandingAsks (c : Course) (q : QueueState) : Type 0 where
-  pub to : c.to ≡ q.cpu
-  pub differ : (id : ℕ) → occurs id (ids c.hand) ≤ 1
-  pub unknown : All (λ (t : TaskRecord). knows q t.id ≡ false) c.hand
+-- the tasks of the hand may land at this queue, and may run there
+pub record LandedAsks (c : Course) (q : QueueState) : Type 0 where
+  pub landing : LandingAsks c q
   pub permitted : All (λ (t : TaskRecord). has t.mask q.cpu ≡ true) c.hand
 
--- the domains of a turn are few, stand in order, and fit the counters
-pub record TurnAsks (s : Sight) : Type 0 where
-  pub few : length (shapes_of (turn_domains s.header s.course)) ≤ 20
-  pub in_order : AreInOrder (shapes_of (turn_domains s.header s.course))
-  pub fit : FitCounters s.queue s.course.version (shapes_of (turn_domains s.header s.course))
+-- a turn may open over the domains of the course
+abbrev pub TurnAsks : Sight → Type 0
+TurnAsks s = OpeningAsks s.header s.queue s.course
 
 -- by the kind of the entry
 abbrev pub QueueAsks : What → Sight → Type 0
 QueueAsks (Did r) s = CommandAsks s.course.command s.queue
 QueueAsks (Out cause to tasks) s = IfSome (leaving s) (λ l. LeavingAsks l.cause s.course.command l.to s.queue)
-QueueAsks (Landed tasks) s = LandingAsks s.course s.queue
+QueueAsks (Landed tasks) s = LandedAsks s.course s.queue
 QueueAsks (Turn ps) s = TurnAsks s
 QueueAsks Shut s = TurnAsks s
 QueueAsks (Close p w i f) s = IsOpenAt s.queue.open_turn (turn_domain s.header s.course).shape.position

@@ -1,6 +1,6 @@
 -- Laws of the machine: what its states keep, how many entries are left, that a serial run always has
 -- a next entry, and that every accepted trace has a serial history.
-use Rattle.std.specs.Prelude.{Option, Some, IfSome, length, ◌≡◌, ℕ, ◌+◌, ◌<◌, Bool, true, false, [], ◌*◌, ◌^◌, ◌≤◌}
+use Rattle.std.specs.Prelude.{Option, Some, IfSome, length, ◌≡◌, ℕ, ◌+◌, ◌<◌, Bool, true, false, [], ◌*◌, ◌≤◌}
 use Rattle.std.specs.List.{slice_index_or, list_all}
 use Rattle.lb_trace.specs.declared.trace.Header.{Header}
 use Rattle.lb_trace.specs.declared.trace.Row.{Row}
@@ -10,6 +10,7 @@ use Rattle.lb_core.specs.declared.entry.Entry.{Entry}
 use Rattle.lb_core.specs.declared.entry.Owner.TheVariants.{Lane}
 use Rattle.lb_core.specs.declared.entry.What.TheVariants.{Row as RowEntry}
 use Rattle.lb_core.specs.declared.history.History.{History}
+use Rattle.lb_core.specs.declared.history.TheConstants.{MAX_TICKET}
 use Rattle.lb_core.specs.declared.entry.What.{What}
 use Rattle.lb_core.specs.Elsewhere.{is_rest, ticked_elsewhere}
 use Rattle.lb_core.specs.Machine.{MachineState, queue_at, course_at, place_at, start, sight}
@@ -129,8 +130,8 @@ HistoriesEnd = (t : Trace) (history : History) → IsTrace t → IsHistoryOf t h
 abbrev pub EntriesFit : Type 0
 EntriesFit = (t : Trace) (history : History) → IsTrace t → IsHistoryOf t history → entries_fit history.entries ≡ true
 
--- so does each entry that may be added to a ready machine of fewer than 2^40 tickets, where its row, if it
--- takes one up, is accepted
+-- so does each entry that may be added to a ready machine of fewer than MAX_TICKET tickets, where its row, if
+-- it takes one up, is accepted
 abbrev pub EntryFits : Type 0
-EntryFits = (m : MachineState) (e : Entry) → IsReady m → m.ticket < 2 ^ 40 → MayBeAdded m e
+EntryFits = (m : MachineState) (e : Entry) → IsReady m → m.ticket < MAX_TICKET → MayBeAdded m e
     → list_all (is_row m.header) (row_of e.what e.lane) ≡ true → entry_fits (m.ticket + 1) e ≡ true

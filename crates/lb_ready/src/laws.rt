@@ -117,7 +117,7 @@ pub fn histories_end()
 
 /// What the entries of a history of an accepted trace say is in the ranges of its text
 /// (docs/rules/history-text.md), tickets and previous tickets too; and so does each entry that may be
-/// added to a ready machine that has not drawn 2^40 entries.
+/// added to a ready machine that has not drawn [`lb_core::MAX_TICKET`] entries.
 pub fn entries_fit()
     ensures histories { EntriesFit }
     ensures entries { EntryFits }
