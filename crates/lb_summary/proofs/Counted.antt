@@ -1,5 +1,5 @@
 -- What the code adds up is what the summary says: entry by entry, and without going past 64 bits.
-use Rattle.std.proofs.Common.{arith, ◌≡◌, ℕ, ◌+◌, ◌*◌, ◌<◌, ◌≤◌, Bool, true, false, cond, ◌&&◌, List, [], ◌∷◌, length, filter, refl, sym, ◌∙◌, ap, zero-add}
+use Rattle.std.proofs.Common.{arith, ◌≡◌, ℕ, ◌+◌, ◌*◌, ◌≤◌, Bool, true, false, cond, ◌&&◌, List, [], ◌∷◌, length, filter, refl, sym, ◌∙◌, ap, zero-add}
 use Rattle.std.specs.Prelude.{sum_by}
 use Rattle.std.proofs.lemmas.Bool.{and_parts}
 use Rattle.std.proofs.lemmas.List.Sums.{sum_by-cons}
@@ -17,16 +17,16 @@ use Rattle.lb_core.specs.Step.{after}
 use Rattle.lb_ready.specs.Laws.{StaysReady, ReadsInRange}
 use Rattle.lb_ready.specs.Ready.{IsReady}
 use Rattle.lb_summary.specs.declared.summary.Summary.{Summary}
-use Rattle.lb_summary.specs.Summary.{Step, steps_from, takes_up_row, leaves_for, tasks_in, level_in_work, is_smt, is_mc, is_pkg, is_numa, pulls_at, steps_where, tasks_where, summary_of}
+use Rattle.lb_summary.specs.Summary.{Step, steps_from, takes_up_row, leaves_for, tasks_in, level_balanced, is_smt, is_mc, is_pkg, is_numa, pulls_at, steps_where, tasks_where, summary_of}
 use Rattle.lb_summary.specs.Counting.{counting, plus, AreAtMost, MayCount}
 use Rattle.lb_summary.proofs.Leaving.{may_count}
 
 -- ---- one step more
 -- what a step is worth, where it passes a test or not
-abbrev worth : Bool → ℕ → ℕ
+abbrev pub worth : Bool → ℕ → ℕ
 worth passes n = cond {A = ℕ} passes n 0
 
-more_tasks : (test : Step → Bool) (s : Step) (ss : List Step) →
+pub more_tasks : (test : Step → Bool) (s : Step) (ss : List Step) →
     tasks_where test (s ∷ ss) ≡ worth (test s) (tasks_in s.entry.what) + tasks_where test ss
 more_tasks test s ss = by_test (test s)
   where
@@ -83,7 +83,7 @@ now_or_later false n a x y e = omega arith
 
 -- so an entry that is counted is a step less to be counted
 pub one_more : (a : Summary) (s : Step) (ss : List Step) →
-    plus (counting s.entry.what (level_in_work s) a) (summary_of ss) ≡ plus a (summary_of (s ∷ ss))
+    plus (counting s.entry.what (level_balanced s.before s.entry.lane) a) (summary_of ss) ≡ plus a (summary_of (s ∷ ss))
 unfolding summary_of gained
 one_more a s ss =
     let w = s.entry.what in
@@ -94,7 +94,7 @@ one_more a s ss =
     λ test n. now_or_later (test s) (tasks_in w) n _ _ (more_tasks test s ss) in
     let rows = now_or_later (takes_up_row w) 1 a.rows _ _ (more_steps (λ x. takes_up_row x.entry.what) s ss) in
     let entries : a.entries + 1 + length ss ≡ a.entries + length (s ∷ ss) = omega arith in
-    ap (λ (b : Summary). plus b (summary_of ss)) (counted w (level_in_work s) a)
+    ap (λ (b : Summary). plus b (summary_of ss)) (counted w (level_balanced s.before s.entry.lane) a)
     ∙ (λ t. record {
       rows = rows t;
       entries = entries t;
@@ -138,7 +138,7 @@ few_steps test (s ∷ ss) =
     let rest = few_steps test ss in
     omega arith
 
-as_many : (m : MachineState) (es : List Entry) → length (steps_from m es) ≡ length es
+pub as_many : (m : MachineState) (es : List Entry) → length (steps_from m es) ≡ length es
 as_many m [] = refl
 as_many m (e ∷ es) = let k = as_many (after m e) es in omega arith
 

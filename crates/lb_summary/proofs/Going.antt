@@ -1,8 +1,7 @@
 -- Where the count stands after some entries, and one entry more.
-use Rattle.std.proofs.Common.{arith, ◌≡◌, ℕ, suc, ◌+◌, ◌*◌, ◌^◌, ◌<◌, ◌≤◌, true, List, [], ◌∷◌, length, drop, get_or, refl, sym, ◌∙◌, ap, subst, add-one, drop-cons}
+use Rattle.std.proofs.Common.{arith, ◌≡◌, ℕ, suc, ◌+◌, ◌^◌, ◌<◌, ◌≤◌, true, List, [], ◌∷◌, length, drop, get_or, refl, sym, ◌∙◌, ap, subst, add-one, drop-cons}
 use Rattle.std.proofs.lemmas.Bool.{and_parts}
 use Rattle.lb_trace.specs.Accepted.{IsHeader}
-use Rattle.lb_trace.specs.declared.trace.TheConstants.{MAX_TASKS}
 use Rattle.lb_core.specs.declared.entry.Entry.{Entry}
 use Rattle.lb_core.specs.declared.history.History.{History}
 use Rattle.lb_core.specs.Legal.{MayBeAdded, MayFollow, IsLegalFront}
@@ -12,7 +11,7 @@ use Rattle.lb_core.specs.Step.{after}
 use Rattle.lb_ready.specs.Laws.{OpensReady, StaysReady, ReadsInRange}
 use Rattle.lb_ready.specs.Ready.{IsReady}
 use Rattle.lb_summary.specs.declared.summary.Summary.{Summary}
-use Rattle.lb_summary.specs.Summary.{Step, steps_from, steps_of, level_in_work, summary_of}
+use Rattle.lb_summary.specs.Summary.{steps_from, steps_of, level_balanced, summary_of}
 use Rattle.lb_summary.specs.Counting.{counting, plus, AreAtMost, MayCount}
 use Rattle.lb_summary.proofs.Leaving.{may_count}
 use Rattle.lb_summary.proofs.Counted.{one_more, at_most, says_fit, step_ready, all_may_count}
@@ -30,7 +29,7 @@ pub record Goes (total s : Summary) (m : MachineState) (n : ℕ) (e : Entry) (re
   pub may : MayCount e.what m e.lane
   pub fits : what_fits e.what ≡ true
   pub added : MayBeAdded m e
-  pub next : IsCounting total (counting e.what (level_in_work (record { before = m; entry = e })) s) (after m e) (n + 1) rest
+  pub next : IsCounting total (counting e.what (level_balanced m e.lane) s) (after m e) (n + 1) rest
 
 pub goes : StaysReady → ReadsInRange → (total s : Summary) (m : MachineState) (n : ℕ) (e : Entry) (rest : List Entry)
     → IsCounting total s m n (e ∷ rest) → Goes total s m n e rest
@@ -61,10 +60,10 @@ goes_at stays reads total s m i e items es same k lt is =
 
 -- where the code has counted it and has taken the step
 pub goes_on : (total s t : Summary) (m k : MachineState) (n : ℕ) (e : Entry) (rest : List Entry) → Goes total s m n e rest
-    → t ≡ counting e.what (level_in_work (record { before = m; entry = e })) s → k ≡ after m e → IsCounting total t k (n + 1) rest
+    → t ≡ counting e.what (level_balanced m e.lane) s → k ≡ after m e → IsCounting total t k (n + 1) rest
 goes_on total s t m k n e rest g counted taken =
     subst (λ (x : Summary). IsCounting total x k (n + 1) rest) (sym counted)
-    (subst (λ (x : MachineState). IsCounting total (counting e.what (level_in_work (record { before = m; entry = e })) s) x (n + 1) rest)
+    (subst (λ (x : MachineState). IsCounting total (counting e.what (level_balanced m e.lane) s) x (n + 1) rest)
     (sym taken) g.next)
 
 -- ---- how large the numbers are

@@ -1,17 +1,16 @@
 -- What an `out` that may be added says: a pull is of a lane that balances a domain, and no more tasks leave
 -- than the trace has.
-use Rattle.std.proofs.Common.{arith, ◌≡◌, ℕ, ◌+◌, ◌<◌, ◌≤◌, Bool, true, false, cond, not, List, length, Option, Some, None, refl, sym, ◌∙◌, ap, subst, get_or-set_same}
+use Rattle.std.proofs.Common.{arith, ◌≡◌, ℕ, ◌+◌, ◌≤◌, Bool, true, false, cond, not, List, length, Option, Some, None, refl, sym, ◌∙◌, ap, get_or-set_same}
 use Rattle.std.proofs.lemmas.Bool.{or_parts, and_parts, not-false, ltb-true}
 use Rattle.lb_queue.specs.declared.answers.OutCause.{OutCause}
 use Rattle.lb_queue.specs.declared.answers.OutCause.TheVariants.{Pull}
 use Rattle.lb_queue.specs.declared.answers.Stop.{Stop}
 use Rattle.lb_queue.specs.Queue.{QueueState, away}
 use Rattle.lb_queue.specs.Requests.{next_stop}
-use Rattle.lb_queue.specs.Tasks.{ids, occurs}
+use Rattle.lb_queue.specs.Tasks.{ids}
 use Rattle.lb_queue.proofs.Counting.{length_below}
 use Rattle.lb_trace.specs.declared.trace.Command.{Command}
 use Rattle.lb_trace.specs.declared.trace.Command.TheVariants.{Wake as WakeTask}
-use Rattle.lb_trace.specs.declared.trace.Header.{Header}
 use Rattle.lb_core.specs.declared.course.Course.{Course}
 use Rattle.lb_core.specs.declared.course.Form.{Form}
 use Rattle.lb_core.specs.declared.course.Form.TheVariants.{Rest, Asked, Serving, Looked}
@@ -21,13 +20,12 @@ use Rattle.lb_core.specs.declared.entry.What.{What}
 use Rattle.lb_core.specs.declared.entry.What.TheVariants.{Out}
 use Rattle.lb_core.specs.declared.place.Place.TheVariants.{Hand as HandOf}
 use Rattle.lb_core.specs.declared.rule.Rule.TheVariants.{Pick}
-use Rattle.lb_core.specs.Course.{env_of}
 use Rattle.lb_core.specs.CourseAfter.{course_after, drew, takes_off}
-use Rattle.lb_core.specs.Leaving.{Leaving, leaving, out_by, wake_out, wake_to, stop_out, push_out, served_out, pull_out}
+use Rattle.lb_core.specs.Leaving.{Leaving, leaving, out_by, wake_out, wake_to, stop_out, push_out, served_out}
 use Rattle.lb_core.specs.Legal.{MayBeAdded}
 use Rattle.lb_core.specs.Machine.{MachineState, no_course, course_at, sight}
 use Rattle.lb_core.specs.OpenTurns.{IsAtPosition, TurnIn}
-use Rattle.lb_core.specs.Placed.{times, is_its_place, IsPlaced}
+use Rattle.lb_core.specs.Placed.{is_its_place, IsPlaced}
 use Rattle.lb_core.specs.Rules.{is_other_out}
 use Rattle.lb_core.specs.Same.{same_cause}
 use Rattle.lb_core.specs.Step.{after}
@@ -35,7 +33,7 @@ use Rattle.lb_core.proofs.Equality.{cause_is, numbers_same}
 use Rattle.lb_core.proofs.Placing.{entry, lane_there}
 use Rattle.lb_core.proofs.Unbroken.{unbroken_here}
 use Rattle.lb_ready.specs.Ready.{IsReady}
-use Rattle.lb_summary.specs.Counting.{Balances, PullsWhere, MayCount}
+use Rattle.lb_summary.specs.Counting.{PullsWhere, MayCount}
 
 -- ---- the `out` that is due
 -- it is that of the entry

@@ -2,3 +2,6 @@ pub mod Leaving
 pub mod Counted
 pub mod Going
 pub mod Texts
+pub mod Places
+pub mod Once
+pub mod Alone

@@ -1,3 +1,4 @@
 pub mod Summary
 pub mod Text
 pub mod Counting
+pub mod Laws

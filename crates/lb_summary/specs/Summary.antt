@@ -44,9 +44,10 @@ abbrev pub tasks_in : What → ℕ
 tasks_in (Out cause to ids) = length ids
 tasks_in w = 0
 
--- the level of the domain that the step's lane balances
-abbrev pub level_in_work : Step → LevelName
-level_in_work s = (turn_domain s.before.header (course_at s.before.courses s.entry.lane)).shape.name
+-- the level of the domain that a lane balances: the one at its position in work, of the turn's CPU, within the
+-- version that the turn took up
+abbrev pub level_balanced : MachineState → ℕ → LevelName
+level_balanced m lane = (turn_domain m.header (course_at m.courses lane)).shape.name
 
 abbrev pub is_smt : LevelName → Bool
 is_smt Smt = true
@@ -67,7 +68,7 @@ is_numa level = false
 
 -- tasks are pulled at a level
 abbrev pub pulls_at : (LevelName → Bool) → Step → Bool
-pulls_at is_level s = leaves_for Pull s.entry.what && is_level (level_in_work s)
+pulls_at is_level s = leaves_for Pull s.entry.what && is_level (level_balanced s.before s.entry.lane)
 
 -- ---- counts
 -- how many steps pass a test

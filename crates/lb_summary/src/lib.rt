@@ -2,6 +2,7 @@
 //! pushed and stopped (docs/rules/generator.md).
 #![tactic(auto)]
 
+pub mod laws;
 mod summary;
 mod text;
 

@@ -2,11 +2,9 @@
 ghost use Rattle.std.specs.Prelude.{◌≡◌, ◌^◌, ◌<◌, ◌≤◌, length, true, IfOk};
 ghost use Rattle.lb_trace.specs.Accepted.{IsHeader};
 ghost use Rattle.lb_trace.specs.declared.trace.TheConstants.{MAX_TASKS};
-ghost use Rattle.lb_core.specs.Course.{turn_domain};
 ghost use Rattle.lb_core.specs.Legal.{IsLegalFront};
-ghost use Rattle.lb_core.specs.Machine.{course_at};
 ghost use Rattle.lb_core.specs.Ranges.{entries_fit};
-ghost use Rattle.lb_summary.specs.Summary.{level_in_work, steps_of, summary_of};
+ghost use Rattle.lb_summary.specs.Summary.{level_balanced, steps_of, summary_of};
 ghost use Rattle.lb_summary.specs.Counting.{with_pulled, with_tasks, counting, AreAtMost, Balances, PullsWhere, MayCount};
 
 use lb_base::{LevelName, NoMemory};
@@ -39,13 +37,14 @@ pub struct Summary {
 }
 
 // The level of the domain that a lane balances.
-fn level_in_work(state: &State, lane: u32) -> LevelName
+fn level_balanced(state: &State, lane: u32) -> LevelName
     requires { Balances state.now lane }
-    ensures { result ≡ (turn_domain state.now.header (course_at state.now.courses lane)).shape.name }
+    ensures { result ≡ level_balanced state.now lane }
 {
     let course = state.course(lane);
     let topology = state.topology_of(course.version);
-    Turn::new(state.header(), topology, course).shape().name
+    let shape = Turn::new(state.header(), topology, course).shape();
+    shape.name
 }
 
 impl Summary {
@@ -68,10 +67,10 @@ impl Summary {
         requires small { AreAtMost (2 ^ 63) self.old }
         requires few { tasks ≤ MAX_TASKS }
         requires pulls { PullsWhere cause before.now lane }
-        ensures { self.new ≡ with_tasks cause (turn_domain before.now.header (course_at before.now.courses lane)).shape.name tasks self.old }
+        ensures { self.new ≡ with_tasks cause (level_balanced before.now lane) tasks self.old }
     {
         match cause {
-            OutCause::Pull => self.count_pulled(level_in_work(before, lane), tasks),
+            OutCause::Pull => self.count_pulled(level_balanced(before, lane), tasks),
             OutCause::Push => self.pushed += tasks,
             OutCause::Stop => self.stopped += tasks,
             // a wake to another queue is counted nowhere
@@ -84,7 +83,7 @@ impl Summary {
     fn count(&mut self, before: &State, entry: &Entry)
         requires small { AreAtMost (2 ^ 62) self.old }
         requires may { MayCount entry.now.what before.now entry.now.lane }
-        ensures { self.new ≡ counting entry.now.what (level_in_work (record { before = before.now; entry = entry.now })) self.old }
+        ensures { self.new ≡ counting entry.now.what (level_balanced before.now entry.now.lane) self.old }
     {
         self.entries += 1;
         match &entry.what {

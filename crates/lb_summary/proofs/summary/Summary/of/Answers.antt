@@ -1,11 +1,7 @@
-use Rattle.std.proofs.Common.{◌≡◌, ◌+◌, arith, List, [], length, sym, ◌∙◌, ap, subst, drop}
+use Rattle.std.proofs.Common.{◌≡◌, arith, List, [], length, ◌∙◌, ap, drop}
 use Rattle.std.proofs.lemmas.List.{drop_all}
 use Rattle.lb_core.specs.declared.entry.Entry.{Entry}
-use Rattle.lb_core.specs.Machine.{MachineState}
-use Rattle.lb_core.specs.Step.{after}
-use Rattle.lb_summary.specs.declared.summary.Summary.{Summary}
-use Rattle.lb_summary.specs.Summary.{steps_of, summary_of}
-use Rattle.lb_summary.proofs.Going.{IsCounting, goes_at, goes_on, few_in_all, few_so_far, all_counted}
+use Rattle.lb_summary.proofs.Going.{goes_at, goes_on, few_in_all, few_so_far, all_counted}
 use Rattle.lb_summary.proofs.summary.Summary.of.Goals as goal
 
 pub count-requires-clause-small : goal.count-requires-clause-small

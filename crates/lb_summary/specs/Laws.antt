@@ -1,0 +1,43 @@
+-- Laws of the summary: its steps are the places of the history, each task that leaves a queue counts on one
+-- line or left by a wake, and what is written of a history that is its end alone.
+use Rattle.std.specs.Prelude.{ℕ, ◌+◌, ◌≡◌, true, Some, List, [], ◌∷◌, ◌++◌, length, take, slice_get, codes}
+use Rattle.lb_base.specs.declared.mask.Mask.{Mask}
+use Rattle.lb_queue.specs.declared.answers.OutCause.TheVariants.{Wake}
+use Rattle.lb_text.specs.declared.marks.TheConstants.{LINE_FEED}
+use Rattle.lb_trace.specs.declared.trace.Header.{Header}
+use Rattle.lb_core.specs.declared.entry.Owner.TheVariants.{Lane}
+use Rattle.lb_core.specs.declared.entry.What.TheVariants.{End}
+use Rattle.lb_core.specs.declared.entry.Entry.{Entry}
+use Rattle.lb_core.specs.declared.history.History.{History}
+use Rattle.lb_core.specs.Legal.{run}
+use Rattle.lb_core.specs.Machine.{start}
+use Rattle.lb_summary.specs.Summary.{Step, steps_of, leaves_for, tasks_where, summary_of}
+use Rattle.lb_summary.specs.Text.{summary_text}
+
+-- there is a step for each entry, with the machine that the entries before it lead to
+abbrev pub StepsArePlaces : Type 0
+StepsArePlaces =
+    (h : History) → (length (steps_of h) ≡ length h.entries) × ((i : ℕ) (e : Entry) → slice_get h.entries i ≡ Some e
+    → slice_get (steps_of h) i ≡ Some (record { before = run (take i h.entries) (start h.header); entry = e }))
+
+-- the tasks on the six lines and those that left by a wake are all that left a queue
+abbrev pub TasksCountOnce : Type 0
+TasksCountOnce =
+    (steps : List Step) →
+    let s = summary_of steps in
+    s.pulled_smt + s.pulled_mc + s.pulled_pkg + s.pulled_numa + s.pushed + s.stopped
+    + tasks_where (λ x. leaves_for Wake x.entry.what) steps ≡ tasks_where (λ x. true) steps
+
+-- lines, each with its end
+abbrev pub lines : List (List ℕ) → List ℕ
+lines [] = []
+lines (line ∷ more) = line ++ LINE_FEED ∷ lines more
+
+-- without rows there is the end alone
+abbrev pub EndAlone : Type 0
+EndAlone =
+    (h : Header) (unserved : Mask) →
+    let end : Entry = record { owner = Lane 0; lane = 0; prev = 0; what = End unserved } in
+    summary_text (record { header = h; entries = end ∷ [] })
+    ≡ lines (codes "rows 0" ∷ codes "entries 1" ∷ codes "pulled SMT 0" ∷ codes "pulled MC 0" ∷ codes "pulled PKG 0"
+    ∷ codes "pulled NUMA 0" ∷ codes "pushed 0" ∷ codes "stopped 0" ∷ [])
