@@ -11,7 +11,7 @@ use Rattle.lb_words.specs.declared.work.Work.TheVariants.{Step, Topo, Check, Gen
 use Rattle.lb.specs.declared.status.Status.{Status}
 use Rattle.lb.specs.declared.status.Status.TheVariants as status
 use Rattle.lb.specs.Invocation.{Stream}
-use Rattle.lb.specs.Works.{verdict_end, OfInput, IsInput, IsJudged, IsBad, HistoryEnds, Ends}
+use Rattle.lb.specs.Works.{status_of_verdict, OfInput, IsInput, IsJudged, IsBad, IsStatusOfHistory, IsStatusOf}
 
 -- that a text reads as one history, or has one first bad line
 pub record Reading : Type 0 where
@@ -46,14 +46,14 @@ of_each (Sum number rows) source P Q f h = f [] h
 both_judged : Reading → (input : List ℕ) (a b : Status) → IsJudged input a → IsJudged input b → a ≡ b
 both_judged law input a b x y =
     let same : x.read ≡ y.read = law.once input x.read y.read x.reads y.reads in
-    x.judged ∙ (ap (λ (r : Read). verdict_end (verdict_of r)) same ∙ sym y.judged)
+    x.judged ∙ (ap (λ (r : Read). status_of_verdict (verdict_of r)) same ∙ sym y.judged)
 
 both_bad : Reading → (input : List ℕ) (a b : Status) → IsBad input a → IsBad input b → a ≡ b
 both_bad law input a b x y =
     let same : x.line ≡ y.line = law.first input x.line y.line x.bad y.bad in
     x.refused ∙ (ap (λ (n : ℕ). status.Refused n BadLine) same ∙ sym y.refused)
 
-one_history_end : Reading → (input : List ℕ) (a b : Status) → HistoryEnds input a → HistoryEnds input b → a ≡ b
+one_history_end : Reading → (input : List ℕ) (a b : Status) → IsStatusOfHistory input a → IsStatusOfHistory input b → a ≡ b
 one_history_end law input a b (inl x) (inl y) = x.1 ∙ sym y.1
 one_history_end law input a b (inl x) (inr y) = absurd (omega (x.0, y.0))
 one_history_end law input a b (inr x) (inl y) = absurd (omega (x.0, y.0))
@@ -62,7 +62,7 @@ one_history_end law input a b (inr (within, inl x)) (inr (short, inr y)) = absur
 one_history_end law input a b (inr (within, inr x)) (inr (short, inl y)) = absurd (law.apart input y.read x.line y.reads x.bad)
 one_history_end law input a b (inr (within, inr x)) (inr (short, inr y)) = both_bad law input a b x y
 
-pub one_end : Reading → (work : Work) (input : List ℕ) (a b : Status) → Ends work input a → Ends work input b → a ≡ b
+pub one_end : Reading → (work : Work) (input : List ℕ) (a b : Status) → IsStatusOf work input a → IsStatusOf work input b → a ≡ b
 one_end law Step input a b x y = x ∙ sym y
 one_end law Topo input a b x y = x ∙ sym y
 one_end law Check input a b x y = one_history_end law input a b x y

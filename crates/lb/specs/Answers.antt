@@ -9,7 +9,7 @@ use Rattle.lb_words.specs.Words.{work_of}
 use Rattle.lb.specs.declared.status.Status.{Status}
 use Rattle.lb.specs.declared.status.Status.TheVariants as status
 use Rattle.lb.specs.Invocation.{Stream, Invocation, IsUntouched, HadFault, HadNoFault, Took, TookPrefix}
-use Rattle.lb.specs.Works.{IsInput, Ends, IsRefusal, Stops, HasOutput}
+use Rattle.lb.specs.Works.{IsInput, IsStatusOf, NamesFault, Fails, HasOutput}
 
 -- ---- statuses
 -- the exit status
@@ -37,17 +37,27 @@ status_text (status.Illegal ticket rule) = codes "lb: ticket " ++ (decimal ticke
 abbrev pub OfWork : List (List ℕ) → (Work → Type 0) → Type 0
 OfWork words P = (work : Work) × (work_of words ≡ Some work) × P work
 
--- the words are no command, or their work stops with this status before anything could be written
-abbrev pub StopsCall : Status → Invocation → Type 0
-StopsCall status.Usage c = (work_of c.words ≡ None) × IsUntouched c.source
-StopsCall status.NoMemory c = Unit {0}
-StopsCall end c = OfWork c.words (λ work. Stops work c.source end)
+-- the words are no command, or their work fails with this status before anything could be written
+abbrev pub FailsCall : Status → Invocation → Type 0
+FailsCall status.Usage c = (work_of c.words ≡ None) × IsUntouched c.source
+FailsCall status.NoMemory c = Unit {0}
+FailsCall end c = OfWork c.words (λ work. Fails work c.source end)
+
+-- the work of the words is done, and has this to write
+abbrev pub WorkHas : Invocation → List ℕ → Type 0
+WorkHas c output = OfWork c.words (λ work. HasOutput work c.source output)
 
 -- what a status says before it is reported
-abbrev pub Means : Status → Invocation → Type 0
-Means status.Done c = (output : List ℕ) × OfWork c.words (λ work. HasOutput work c.source output) × Took c.out output
-Means status.WriteFault c = HadFault c.out × ((output : List ℕ) × OfWork c.words (λ work. HasOutput work c.source output) × TookPrefix c.out output)
-Means end c = StopsCall end c × IsUntouched c.out
+abbrev pub Says : Status → Invocation → Type 0
+Says status.Done c = (output : List ℕ) × WorkHas c output × Took c.out output × HadNoFault c.out
+Says status.WriteFault c = HadFault c.out × ((output : List ℕ) × WorkHas c output × TookPrefix c.out output)
+Says end c = FailsCall end c × IsUntouched c.out
+
+-- the status stands before anything is written to the out sink
+abbrev pub IsBeforeWriting : Status → Type 0
+IsBeforeWriting status.Done = ⊥
+IsBeforeWriting status.WriteFault = ⊥
+IsBeforeWriting s = Unit {0}
 
 -- ---- the report
 -- the error sink took the whole text of the status, and none of its calls failed
@@ -65,18 +75,19 @@ Tells was now error = ((now ≡ was) × Told was error) ⊎ ((now ≡ status.Wri
 -- the same, where want of memory may be told in place of what is wrong with the input, since the text
 -- of that needs memory
 abbrev pub Reports : Status → Status → Stream → Type 0
-Reports was now error = Tells was now error ⊎ (IsRefusal was × Tells status.NoMemory now error)
+Reports was now error = Tells was now error ⊎ (NamesFault was × Tells status.NoMemory now error)
 
 -- ---- the whole call
 -- A status says what the work did, and was told whole. A write fault is the work's own, or stands in
 -- place of the status `was` that the work ended with and that could not be told whole.
 abbrev pub Answers : Status → Invocation → Stream → Type 0
-Answers status.WriteFault c error = (Means status.WriteFault c × Told status.WriteFault error) ⊎ ((was : Status) × Means was c × ToldPrefix was error)
-Answers s c error = Means s c × Told s error
+Answers status.WriteFault c error = (Says status.WriteFault c × Told status.WriteFault error) ⊎ ((was : Status) × Says was c × ToldPrefix was error)
+Answers s c error = Says s c × Told s error
 
--- where nothing failed, the status is the end of the work on its input, or want of memory
+-- where nothing failed, the status is that of the work on its input, or want of memory
 abbrev pub Completes : Status → Invocation → Stream → Type 0
 Completes s c error =
-    (work : Work) (input : List ℕ) (end : Status) → work_of c.words ≡ Some work → IsInput work c.source input → Ends work input end
+    (work : Work) (input : List ℕ) (end : Status)
+    → work_of c.words ≡ Some work → IsInput work c.source input → IsStatusOf work input end
     → (HadFault c.source → ⊥) → (HadFault c.out → ⊥) → (HadFault error → ⊥)
     → (s ≡ end) ⊎ (s ≡ status.NoMemory)

@@ -22,7 +22,7 @@ use Rattle.lb_read.specs.Whole.{ReadsAs}
 use Rattle.lb_read.specs.Written.{as_read}
 use Rattle.lb.specs.Invocation.{Invocation, Took}
 
--- the serial history of a trace
+-- a history is the serial one of a trace, and what holds of it
 pub record IsTheHistory (t : Trace) (h : History) : Type 0 where
   -- it is legal, and holds each lane's rows, each once, in order
   pub history : IsHistoryOf t h
@@ -49,4 +49,5 @@ pub record IsTheHistory (t : Trace) (h : History) : Type 0 where
 abbrev pub Headline : Invocation → Type 0
 Headline c =
     IsAtEnd c.source.after
-    × IfSome c.source.before (λ text. (t : Trace) × (reading_of text ≡ Ok t) × ((h : History) × IsTheHistory t h × Took c.out (text_of h)))
+    × IfSome c.source.before (λ text. (t : Trace) × (reading_of text ≡ Ok t)
+    × ((h : History) × IsTheHistory t h × Took c.out (text_of h)))

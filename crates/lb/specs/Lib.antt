@@ -2,4 +2,4 @@ pub mod Invocation
 pub mod Works
 pub mod Answers
 pub mod Headline
-pub mod Stops
+pub mod Failures

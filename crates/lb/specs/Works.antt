@@ -1,4 +1,4 @@
--- What each work does with its input: how it ends, where it could be read and there is memory, and what
+-- What each work does with its input: its status, where that could be read and there is memory, and what
 -- it writes where it is done. `step` and `topo` read a trace, `check` reads a history, and `gen` and `sum`
 -- read nothing.
 use Rattle.std.specs.Prelude.{◌≡◌, ◌⊎◌, ℕ, ◌<◌, ◌≤◌, Bool, true, false, List, [], ◌∷◌, ◌++◌, length, codes, Result, Ok, Err, Option, Some, None, IfSome}
@@ -45,6 +45,8 @@ reads_source (Some work) = reads work
 -- the longest input that a work reads, in bytes
 abbrev pub limit : Work → ℕ
 limit Check = MAX_HISTORY_BYTES
+limit (Gen number rows) = 0
+limit (Sum number rows) = 0
 limit work = MAX_BYTES
 
 -- P holds of the input of the work: what its source told, or nothing where the work reads nothing
@@ -65,22 +67,22 @@ WasRead (Gen number rows) source = IsUntouched source
 WasRead (Sum number rows) source = IsUntouched source
 WasRead work source = IsAtEnd source.after
 
--- ---- how a work ends
+-- ---- the status of a work
 -- by what a text reads as: a trace, or its first bad line and that line's code
-abbrev pub reading_end : Result Trace (ℕ × Code) → Status
-reading_end (Ok trace) = status.Done
-reading_end (Err bad) = status.Refused bad.0 bad.1
+abbrev pub status_of_reading : Result Trace (ℕ × Code) → Status
+status_of_reading (Ok trace) = status.Done
+status_of_reading (Err bad) = status.Refused bad.0 bad.1
 
 -- by what is said of a history
-abbrev pub verdict_end : Verdict → Status
-verdict_end verdict.Legal = status.Done
-verdict_end (verdict.Illegal ticket rule) = status.Illegal ticket rule
+abbrev pub status_of_verdict : Verdict → Status
+status_of_verdict verdict.Legal = status.Done
+status_of_verdict (verdict.Illegal ticket rule) = status.Illegal ticket rule
 
 -- a text that reads as a history is judged
 pub record IsJudged (input : List ℕ) (end : Status) : Type 0 where
   pub read : Read
   pub reads : ReadsAs input read
-  pub judged : end ≡ verdict_end (verdict_of read)
+  pub judged : end ≡ status_of_verdict (verdict_of read)
 
 -- any other text has a first bad line
 pub record IsBad (input : List ℕ) (end : Status) : Type 0 where
@@ -88,29 +90,29 @@ pub record IsBad (input : List ℕ) (end : Status) : Type 0 where
   pub bad : IsFirstBadLine (lines_of input) line
   pub refused : end ≡ status.Refused line BadLine
 
-abbrev pub HistoryEnds : List ℕ → Status → Type 0
-HistoryEnds input end =
+abbrev pub IsStatusOfHistory : List ℕ → Status → Type 0
+IsStatusOfHistory input end =
     ((MAX_HISTORY_BYTES < length input) × (end ≡ status.Refused 0 TooLong))
     ⊎ ((length input ≤ MAX_HISTORY_BYTES) × (IsJudged input end ⊎ IsBad input end))
 
-abbrev pub Ends : Work → List ℕ → Status → Type 0
-Ends Step input end = end ≡ reading_end (reading_of input)
-Ends Topo input end = end ≡ reading_end (reading_of input)
-Ends Check input end = HistoryEnds input end
-Ends (Gen number rows) input end = end ≡ status.Done
-Ends (Sum number rows) input end = end ≡ status.Done
+abbrev pub IsStatusOf : Work → List ℕ → Status → Type 0
+IsStatusOf Step input end = end ≡ status_of_reading (reading_of input)
+IsStatusOf Topo input end = end ≡ status_of_reading (reading_of input)
+IsStatusOf Check input end = IsStatusOfHistory input end
+IsStatusOf (Gen number rows) input end = end ≡ status.Done
+IsStatusOf (Sum number rows) input end = end ≡ status.Done
 
 -- the status says what is wrong with the input
-abbrev pub IsRefusal : Status → Type 0
-IsRefusal (status.Refused line code) = Unit {0}
-IsRefusal (status.Illegal ticket rule) = Unit {0}
-IsRefusal end = ⊥
+abbrev pub NamesFault : Status → Type 0
+NamesFault (status.Refused line code) = Unit {0}
+NamesFault (status.Illegal ticket rule) = Unit {0}
+NamesFault end = ⊥
 
--- the work stops with this status before anything could be written
-abbrev pub Stops : Work → Stream → Status → Type 0
-Stops work source status.ReadFault = (reads work ≡ true) × HadFault source
-Stops work source status.NoMemory = Unit {0}
-Stops work source end = IsRefusal end × OfInput work source (λ input. Ends work input end)
+-- the work fails with this status before anything could be written
+abbrev pub Fails : Work → Stream → Status → Type 0
+Fails work source status.ReadFault = (reads work ≡ true) × HadFault source
+Fails work source status.NoMemory = Unit {0}
+Fails work source end = NamesFault end × OfInput work source (λ input. IsStatusOf work input end)
 
 -- ---- what a work writes
 -- what `check` writes of a legal history with so many entries
@@ -135,7 +137,7 @@ IsOutput (Sum number rows) input output = IsSummary (trace_drawn number rows) ou
 
 -- the work is done with its input, and has this to write
 abbrev pub IsDone : Work → List ℕ → List ℕ → Type 0
-IsDone work input output = Ends work input status.Done × IsOutput work input output
+IsDone work input output = IsStatusOf work input status.Done × IsOutput work input output
 
 -- the same of what its source told
 abbrev pub HasOutput : Work → Stream → List ℕ → Type 0

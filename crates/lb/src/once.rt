@@ -2,12 +2,12 @@ ghost use Rattle.std.specs.Prelude.{◌≡◌, ◌≤◌, length, map, false, So
 ghost use Rattle.lb_words.specs.declared.work.Work.TheVariants.{Step};
 ghost use Rattle.lb_words.specs.Words.{work_of, IsInRange};
 ghost use Rattle.lb.specs.Invocation.{stream_of, invocation_of};
-ghost use Rattle.lb.specs.Works.{reads, reads_source, limit, OfInput, WasRead, Stops, HasOutput};
-ghost use Rattle.lb.specs.Answers.{OfWork, StopsCall, Means, Answers, Completes};
+ghost use Rattle.lb.specs.Works.{reads, reads_source, limit, OfInput, WasRead, Fails, HasOutput};
+ghost use Rattle.lb.specs.Answers.{Says, IsBeforeWriting, Answers, Completes};
 ghost use Rattle.lb.specs.Headline.{Headline};
 
 use crate::status::{Status, report};
-use crate::works::output_for;
+use crate::works::text_for;
 use lb_core::laws::{one_serial_history, permitted, placed, replies};
 use lb_io::{Sink, Source, read_all, write_all};
 use lb_read::laws::{headers_read_back, histories_read_back, texts_read_once};
@@ -35,7 +35,7 @@ fn input_of<S: Source>(alloc: Global, work: Work, src: &mut S) -> Result<Vec<u8>
     ensures read { IfOk result (λ input. WasRead work (stream_of S.left S.faults src.old src.new)) }
     ensures told { IfOk result (λ input. OfInput work (stream_of S.left S.faults src.old src.new) (λ told. told ≡ input.items)) }
     ensures short { IfOk result (λ input. length input.items ≤ limit work) }
-    ensures stopped { IfErr result (Stops work (stream_of S.left S.faults src.old src.new)) }
+    ensures failed { IfErr result (Fails work (stream_of S.left S.faults src.old src.new)) }
     ensures unread { reads work ≡ false → src.new ≡ src.old }
 {
     match limit_of(work) {
@@ -48,11 +48,11 @@ fn input_of<S: Source>(alloc: Global, work: Work, src: &mut S) -> Result<Vec<u8>
 fn output_of<S: Source>(alloc: Global, work: Work, src: &mut S) -> Result<Vec<u8>, Status>
     requires { IsInRange work }
     ensures done { IfOk result (λ output. HasOutput work (stream_of S.left S.faults src.old src.new) output.items) }
-    ensures stopped { IfErr result (Stops work (stream_of S.left S.faults src.old src.new)) }
+    ensures failed { IfErr result (Fails work (stream_of S.left S.faults src.old src.new)) }
     ensures unread { reads work ≡ false → src.new ≡ src.old }
 {
     let input = input_of(alloc, work, src)?;
-    output_for(alloc, work, input)
+    text_for(alloc, work, input)
 }
 
 // The work of the words, before its status is reported.
@@ -62,9 +62,11 @@ fn perform<S: Source, O: Sink>(
     src: &mut S,
     out: &mut O,
 ) -> Status
-    ensures means { Means result
-        (invocation_of (map string_bytes words.now) (stream_of S.left S.faults src.old src.new) (stream_of O.taken O.faults out.old out.new)) }
+    ensures says { Says result
+        (invocation_of (map string_bytes words.now)
+            (stream_of S.left S.faults src.old src.new) (stream_of O.taken O.faults out.old out.new)) }
     ensures unread { reads_source (work_of (map string_bytes words.now)) ≡ false → src.new ≡ src.old }
+    ensures unwritten { IsBeforeWriting result → out.new ≡ out.old }
 {
     let work = match work_of(alloc, words) {
         Ok(Some(work)) => work,
@@ -91,14 +93,18 @@ pub fn once<S: Source, O: Sink, E: Sink>(
     err: &mut E,
 ) -> Status
     ensures answers { Answers result
-        (invocation_of (map string_bytes words.now) (stream_of S.left S.faults src.old src.new) (stream_of O.taken O.faults out.old out.new))
+        (invocation_of (map string_bytes words.now)
+            (stream_of S.left S.faults src.old src.new) (stream_of O.taken O.faults out.old out.new))
         (stream_of E.taken E.faults err.old err.new) }
     ensures completes { Completes result
-        (invocation_of (map string_bytes words.now) (stream_of S.left S.faults src.old src.new) (stream_of O.taken O.faults out.old out.new))
+        (invocation_of (map string_bytes words.now)
+            (stream_of S.left S.faults src.old src.new) (stream_of O.taken O.faults out.old out.new))
         (stream_of E.taken E.faults err.old err.new) }
     ensures headline { result ≡ Status.Done → work_of (map string_bytes words.now) ≡ Some Step → Headline
-        (invocation_of (map string_bytes words.now) (stream_of S.left S.faults src.old src.new) (stream_of O.taken O.faults out.old out.new)) }
+        (invocation_of (map string_bytes words.now)
+            (stream_of S.left S.faults src.old src.new) (stream_of O.taken O.faults out.old out.new)) }
     ensures unread { reads_source (work_of (map string_bytes words.now)) ≡ false → src.new ≡ src.old }
+    ensures unwritten { IsBeforeWriting result → out.new ≡ out.old }
 {
     // What the headline rests on. The text that was read is a trace that keeps to its limits; after each
     // legal front every task stands at one place, where it may run unless it is asked to leave; each look

@@ -3,7 +3,7 @@ ghost use Rattle.lb_words.specs.declared.work.Work.TheVariants.{Step};
 ghost use Rattle.lb_words.specs.Words.{work_of};
 ghost use Rattle.lb.specs.Invocation.{stream_of, invocation_of};
 ghost use Rattle.lb.specs.Works.{reads_source};
-ghost use Rattle.lb.specs.Answers.{Answers, Completes};
+ghost use Rattle.lb.specs.Answers.{IsBeforeWriting, Answers, Completes};
 ghost use Rattle.lb.specs.Headline.{Headline};
 
 use crate::once::once;
@@ -24,14 +24,18 @@ pub fn top<R: Threads + Wait + Sync, S: Source, O: Sink, E: Sink, G: Gate>(
     _gate: &G,
 ) -> Status
     ensures answers { Answers result
-        (invocation_of (map string_bytes words.now) (stream_of S.left S.faults src.old src.new) (stream_of O.taken O.faults out.old out.new))
+        (invocation_of (map string_bytes words.now)
+            (stream_of S.left S.faults src.old src.new) (stream_of O.taken O.faults out.old out.new))
         (stream_of E.taken E.faults err.old err.new) }
     ensures completes { Completes result
-        (invocation_of (map string_bytes words.now) (stream_of S.left S.faults src.old src.new) (stream_of O.taken O.faults out.old out.new))
+        (invocation_of (map string_bytes words.now)
+            (stream_of S.left S.faults src.old src.new) (stream_of O.taken O.faults out.old out.new))
         (stream_of E.taken E.faults err.old err.new) }
     ensures headline { result ≡ Status.Done → work_of (map string_bytes words.now) ≡ Some Step → Headline
-        (invocation_of (map string_bytes words.now) (stream_of S.left S.faults src.old src.new) (stream_of O.taken O.faults out.old out.new)) }
+        (invocation_of (map string_bytes words.now)
+            (stream_of S.left S.faults src.old src.new) (stream_of O.taken O.faults out.old out.new)) }
     ensures unread { reads_source (work_of (map string_bytes words.now)) ≡ false → src.new ≡ src.old }
+    ensures unwritten { IsBeforeWriting result → out.new ≡ out.old }
 {
     once(alloc, words, src, out, err)
 }

@@ -9,21 +9,22 @@ ghost use Rattle.lb_words.specs.declared.work.Work.TheVariants.{Step};
 ghost use Rattle.lb_words.specs.Words.{IsInRange};
 ghost use Rattle.lb_generator.specs.Generator.{trace_drawn};
 ghost use Rattle.lb.specs.declared.status.Status.TheVariants as status;
-ghost use Rattle.lb.specs.Works.{reading_end, limit, Ends, HistoryEnds, IsRefusal, IsDone, IsSerialText, IsSummary, legal_text};
+ghost use Rattle.lb.specs.Works.{status_of_reading, limit, IsStatusOf, IsStatusOfHistory, NamesFault, IsDone, IsSerialText, IsSummary, legal_text};
 
 use crate::status::Status;
+use lb_audit::laws::texts_may_be_judged;
 use lb_audit::{Verdict, check};
 use lb_base::NoMemory;
 use lb_generator::generate;
 use lb_generator::laws::are_accepted;
 use lb_read::read_history;
-use lb_ready::laws::entries_fit;
+use lb_ready::laws::{entries_fit, histories_end};
 use lb_record::history_text;
 use lb_serial::serial;
 use lb_summary::summary_text;
 use lb_text::put_number;
 use lb_topo::topology_text;
-use lb_trace::{MAX_ROWS, Trace};
+use lb_trace::{MAX_ROWS, Trace, TraceError};
 use lb_trace::laws::accepted;
 use lb_words::Work;
 use std::alloc::Global;
@@ -45,6 +46,8 @@ fn summary_of(alloc: Global, trace: &Trace) -> Result<Vec<u8>, NoMemory>
     ensures { IfOk result (λ text. IsSummary trace.now text.items) }
 {
     entries_fit();
+    // and there are not too many of them
+    histories_end();
     let history = serial(alloc, trace)?;
     summary_text(alloc, &history)
 }
@@ -64,7 +67,8 @@ fn legal_text(alloc: Global, entries: u64) -> Result<Vec<u8>, NoMemory>
 fn trace_in(alloc: Global, input: Vec<u8>) -> Result<Trace, Status>
     ensures read { IfOk result (λ trace. reading_of input.items ≡ Ok trace) }
     ensures accepted { IfOk result (λ trace. IsTrace trace) }
-    ensures stopped { IfErr result (λ end. (end ≡ status.NoMemory) ⊎ (IsRefusal end × (end ≡ reading_end (reading_of input.items)))) }
+    ensures failed { IfErr result (λ end.
+        (end ≡ status.NoMemory) ⊎ (NamesFault end × (end ≡ status_of_reading (reading_of input.items)))) }
 {
     // A text that is accepted is a trace that keeps to its limits.
     accepted();
@@ -76,10 +80,10 @@ fn trace_in(alloc: Global, input: Vec<u8>) -> Result<Trace, Status>
 fn judged_text(alloc: Global, input: Vec<u8>) -> Result<Vec<u8>, Status>
     requires { length input.items ≤ MAX_HISTORY_BYTES }
     ensures done { IfOk result (λ output. IsDone Work.Check input.items output.items) }
-    ensures stopped { IfErr result (λ end. (end ≡ status.NoMemory) ⊎ (IsRefusal end × HistoryEnds input.items end)) }
+    ensures failed { IfErr result (λ end. (end ≡ status.NoMemory) ⊎ (NamesFault end × IsStatusOfHistory input.items end)) }
 {
-    // The header of a history is that of an accepted trace.
-    accepted();
+    // What a text reads as may be judged.
+    texts_may_be_judged();
     let read = read_history(alloc, &input)?;
     drop(input);
     match check(alloc, &read)? {
@@ -99,17 +103,18 @@ fn drawn_summary(alloc: Global, number: u32, rows: u32) -> Result<Vec<u8>, NoMem
     let text = generate(alloc, number, rows)?;
     match Trace::read(alloc, &text) {
         Ok(trace) => summary_of(alloc, &trace),
-        Err(_) => Err(NoMemory),
+        Err(TraceError::NoMemory) => Err(NoMemory),
+        Err(TraceError::Refused { .. }) => unreachable!(),
     }
 }
 
 /// What a work writes for its input; or the status that says what is wrong with the input, or that memory
 /// ran out.
-pub fn output_for(alloc: Global, work: Work, input: Vec<u8>) -> Result<Vec<u8>, Status>
+pub fn text_for(alloc: Global, work: Work, input: Vec<u8>) -> Result<Vec<u8>, Status>
     requires in_range { IsInRange work }
     requires short { length input.items ≤ limit work }
     ensures done { IfOk result (λ output. IsDone work input.items output.items) }
-    ensures stopped { IfErr result (λ end. (end ≡ status.NoMemory) ⊎ (IsRefusal end × Ends work input.items end)) }
+    ensures failed { IfErr result (λ end. (end ≡ status.NoMemory) ⊎ (NamesFault end × IsStatusOf work input.items end)) }
 {
     let output = match work {
         Work::Step => serial_text(alloc, &trace_in(alloc, input)?)?,
