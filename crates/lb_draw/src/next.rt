@@ -1,8 +1,9 @@
 //! The entry that comes next.
-ghost use Rattle.std.specs.Prelude.{◌≡◌, ◌<◌, ◌^◌, IfOk, IfSome, Option, false, true, length};
+ghost use Rattle.std.specs.Prelude.{◌≡◌, ◌<◌, IfOk, IfSome, Option, false, true, length};
 ghost use Rattle.std.specs.Option.{option_map};
 ghost use Rattle.lb_core.specs.declared.course.Form.TheVariants as form;
 ghost use Rattle.lb_core.specs.declared.entry.Entry.{Entry};
+ghost use Rattle.lb_core.specs.declared.history.TheConstants.{MAX_TICKET};
 ghost use Rattle.lb_core.specs.Elsewhere.{is_rest};
 ghost use Rattle.lb_core.specs.Machine.{course_at};
 ghost use Rattle.lb_ready.specs.Next.{IsSerialNext, at_rest, cpu_next, drawn, is_answerable, may_take, next_entry, next_in, owner_of, what_next};
@@ -35,7 +36,7 @@ pub fn next_entry(
     row: Option<&Row>,
 ) -> Result<Option<Entry>, NoMemory>
     requires ready { IsReady parts.now.machine }
-    requires few { parts.now.machine.ticket < 2 ^ 40 }
+    requires few { parts.now.machine.ticket < MAX_TICKET }
     requires lane { lane < length parts.now.machine.courses }
     requires own { IfSome row (λ r. r.now.lane ≡ lane) }
     ensures value { IfOk result (λ drawn. drawn ≡ next_entry parts.now.machine lane (option_map (λ r. r.now) row.entry)) }
@@ -55,7 +56,7 @@ fn next_of(
     row: Option<&Row>,
 ) -> Result<Option<Entry>, NoMemory>
     requires ready { IsReady parts.now.machine }
-    requires few { parts.now.machine.ticket < 2 ^ 40 }
+    requires few { parts.now.machine.ticket < MAX_TICKET }
     requires lane { lane < length parts.now.machine.courses }
     ensures { IfOk result (λ drawn. drawn ≡ next_entry parts.now.machine lane (option_map (λ r. r.now) row.entry)) }
 {
@@ -74,7 +75,7 @@ fn next_of(
 // A lane at rest takes up a row.
 fn taking(alloc: Global, parts: &Parts, lane: u32, row: &Row) -> Result<Option<Entry>, NoMemory>
     requires ready { IsReady parts.now.machine }
-    requires few { parts.now.machine.ticket < 2 ^ 40 }
+    requires few { parts.now.machine.ticket < MAX_TICKET }
     requires lane { lane < length parts.now.machine.courses }
     ensures { IfOk result (λ drawn. drawn ≡ at_rest (Some row.now) parts.now.machine lane (course_at parts.now.machine.courses lane)) }
 {
@@ -111,7 +112,7 @@ fn may_take(parts: &Parts, lane: u32, row: &Row) -> bool
 // Lane 0 at rest goes on closing the history.
 fn ending(alloc: Global, parts: &Parts, lane: u32) -> Result<Option<Entry>, NoMemory>
     requires ready { IsReady parts.now.machine }
-    requires few { parts.now.machine.ticket < 2 ^ 40 }
+    requires few { parts.now.machine.ticket < MAX_TICKET }
     requires live { parts.now.machine.ended ≡ false }
     requires lane { lane < length parts.now.machine.courses }
     requires rest { (course_at parts.now.machine.courses lane).form ≡ form.Rest }
@@ -126,7 +127,7 @@ fn ending(alloc: Global, parts: &Parts, lane: u32) -> Result<Option<Entry>, NoMe
 // A lane that serves its row goes on.
 fn at_work(alloc: Global, parts: &Parts, lane: u32) -> Result<Option<Entry>, NoMemory>
     requires ready { IsReady parts.now.machine }
-    requires few { parts.now.machine.ticket < 2 ^ 40 }
+    requires few { parts.now.machine.ticket < MAX_TICKET }
     requires live { parts.now.machine.ended ≡ false }
     requires lane { lane < length parts.now.machine.courses }
     requires busy { is_rest (course_at parts.now.machine.courses lane).form ≡ false }
@@ -143,7 +144,7 @@ fn at_work(alloc: Global, parts: &Parts, lane: u32) -> Result<Option<Entry>, NoM
 // The entry that the form of the lane's course draws.
 fn entry_due(alloc: Global, parts: &Parts, lane: u32) -> Result<Entry, NoMemory>
     requires ready { IsReady parts.now.machine }
-    requires few { parts.now.machine.ticket < 2 ^ 40 }
+    requires few { parts.now.machine.ticket < MAX_TICKET }
     requires live { parts.now.machine.ended ≡ false }
     requires lane { lane < length parts.now.machine.courses }
     requires answerable { (course_at parts.now.machine.courses lane).form ≡ form.Asked
@@ -171,7 +172,7 @@ fn what_next(
     cpu: u32,
 ) -> Result<What, NoMemory>
     requires ready { IsReady parts.now.machine }
-    requires few { parts.now.machine.ticket < 2 ^ 40 }
+    requires few { parts.now.machine.ticket < MAX_TICKET }
     requires live { parts.now.machine.ended ≡ false }
     requires lane { lane < length parts.now.machine.courses }
     requires course { course.now ≡ course_at parts.now.machine.courses lane }

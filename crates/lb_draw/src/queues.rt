@@ -1,6 +1,7 @@
 //! What the queues draw next: answers, tasks that leave and land, and turns.
-ghost use Rattle.std.specs.Prelude.{◌≡◌, ◌<◌, ◌^◌, IfOk, length};
+ghost use Rattle.std.specs.Prelude.{◌≡◌, ◌<◌, IfOk, length};
 ghost use Rattle.lb_core.specs.declared.course.Form.TheVariants as form;
+ghost use Rattle.lb_core.specs.declared.history.TheConstants.{MAX_TICKET};
 ghost use Rattle.lb_core.specs.Leaving.{out_by};
 ghost use Rattle.lb_core.specs.Machine.{queue_at};
 ghost use Rattle.lb_due.specs.Replies.{AnswersAt};
@@ -65,7 +66,7 @@ pub(crate) fn answer(
     cpu: u32,
 ) -> Result<What, NoMemory>
     requires ready { IsReady parts.now.machine }
-    requires few { parts.now.machine.ticket < 2 ^ 40 }
+    requires few { parts.now.machine.ticket < MAX_TICKET }
     requires asked { course.now.form ≡ form.Asked }
     requires names { Names parts.now.machine.header course.now.command }
     requires there { cpu < length parts.now.machine.queues }

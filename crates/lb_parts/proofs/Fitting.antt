@@ -6,13 +6,13 @@ use Rattle.std.proofs.lemmas.Bool.{eq-eqb, ne_eqb, cases_eq}
 use Rattle.std.proofs.lemmas.List.{get_or-set_same, get_or-set_other, set-get_or}
 use Rattle.std.proofs.lemmas.List.Sums.{sum_by-set}
 use Rattle.lb_queue.specs.Hands.{HandState}
-use Rattle.lb_queue.specs.Queue.{QueueState}
 use Rattle.lb_core.specs.declared.course.Course.{Course}
 use Rattle.lb_core.specs.Machine.{MachineState, course_at, no_course}
 use Rattle.lb_core.specs.Placed.{is_flight}
 use Rattle.lb_parts.specs.Held.{Held, HandsFit, Holds, IsLoaded, hand_at, booked_at, held_for, tasks_for}
 use Rattle.lb_parts.specs.Leaves.{HasLoaded, HasTakenOff, HasLanded}
 use Rattle.lb_parts.specs.Takes.{StillHeld}
+use Rattle.lb_queue.specs.Queue.{QueueState}
 
 -- what a step leaves of a lane: another course, as many lanes and queues
 pub record HasStepped (p p2 : Held) (lane : ℕ) (c2 : Course) : Type 0 where
@@ -48,7 +48,7 @@ held_at hands hands2 courses courses2 lane h2 c2 inhands incourses holds here he
 -- by the hand of the lane after it, and the bookings
 fits : (p p2 : Held) (lane : ℕ) (c2 : Course) (h2 : Option HandState) → HandsFit p → HasStepped p p2 lane c2
     → p2.hands ≡ slice_set p.hands lane h2 → Holds h2 c2 → length p2.booked ≡ length p.booked
-    → ((cpu : ℕ) → held_for cpu p2.hands ≤ booked_at p2.booked cpu) → HandsFit p2
+    → ((cpu : ℕ) → booked_at p2.booked cpu ≡ held_for cpu p2.hands) → HandsFit p2
 fits p p2 lane c2 h2 fit step he here le be = record {
   lanes = ap (λ (l : List (Option HandState)). length l) he ∙ length-set p.hands lane h2 ∙ fit.lanes
       ∙ sym (length-set p.machine.courses lane c2) ∙ ap (λ (l : List Course). length l) (sym step.courses);
@@ -84,7 +84,7 @@ for_it cpu h e = ap (λ (b : Bool). cond {A = ℕ} b (length h.tasks) 0) (eq-eqb
 more_booked : (p : Held) (lane to count cpu : ℕ) (h : HandState) → HandsFit p → lane < length p.hands
     → hand_at p.hands lane ≡ None → to < length p.booked
     → h.to ≡ to → length h.tasks ≡ count
-    → held_for cpu (slice_set p.hands lane (Some h)) ≤ booked_at (slice_set p.booked to (booked_at p.booked to + count)) cpu
+    → booked_at (slice_set p.booked to (booked_at p.booked to + count)) cpu ≡ held_for cpu (slice_set p.hands lane (Some h))
 more_booked p lane to count cpu h fit inside none intobooked goes holds =
     let sums = sum_by-set (tasks_for cpu) p.hands lane (Some h) None inside in
     let before : tasks_for cpu (hand_at p.hands lane) ≡ 0 = ap (λ (o : Option HandState). tasks_for cpu o) none in
@@ -125,8 +125,8 @@ fit_left p p2 lane to c2 fit step left into before =
 -- ---- tasks landed
 fewer_booked : (p : Held) (lane to cpu : ℕ) (h : HandState) → HandsFit p → lane < length p.hands
     → hand_at p.hands lane ≡ Some h → to < length p.booked
-    → h.to ≡ to → held_for cpu (slice_set p.hands lane None) ≤ booked_at
-    (slice_set p.booked to (booked_at p.booked to - length h.tasks)) cpu
+    → h.to ≡ to
+    → booked_at (slice_set p.booked to (booked_at p.booked to - length h.tasks)) cpu ≡ held_for cpu (slice_set p.hands lane None)
 fewer_booked p lane to cpu h fit inside held intobooked goes =
     let sums = sum_by-set (tasks_for cpu) p.hands lane None None inside in
     let before : tasks_for cpu (hand_at p.hands lane) ≡ tasks_for cpu (Some h) = ap (λ (o : Option HandState). tasks_for cpu o) held in

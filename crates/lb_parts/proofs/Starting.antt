@@ -35,6 +35,15 @@ pub opening_figs : (h : Header) → map (λ (q : BookedQueue). figure q.state 0 
 opening_figs h = map_twice (λ (cpu : ℕ). let q : BookedQueue = record { state = opening_queue h cpu; booked = 0 } in
     q) (λ (q : BookedQueue). figure q.state 0 0 ∷ []) (range_with_len 0 (length h.cpus))
 
+none_of : (f : ℕ → QueueState) (cpus : List ℕ) (cpu : ℕ)
+    → booked_at (bookings (map (λ (k : ℕ). let q : BookedQueue = record { state = f k; booked = 0 } in q) cpus)) cpu ≡ 0
+none_of f [] cpu = refl
+none_of f (k ∷ cpus) zero = refl
+none_of f (k ∷ cpus) (suc cpu) = none_of f cpus cpu
+
+pub none_booked : (h : Header) (cpu : ℕ) → booked_at (bookings (opened h)) cpu ≡ 0
+none_booked h cpu = none_of (opening_queue h) (range_with_len 0 (length h.cpus)) cpu
+
 -- ---- no lane has a hand
 no_hand : (n lane : ℕ) → hand_at (replicate n None) lane ≡ None
 no_hand zero lane = refl
@@ -50,8 +59,8 @@ nothing_held : (n lane : ℕ) (o : Option HandState) (c : Course) → o ≡ None
 nothing_held n lane o c e rests = let P : Option HandState → Type 0 = λ x. Holds x c in subst P (sym e) rests
 
 pub fit_start : (p : Held) (n : ℕ) (c : Course) → p.hands ≡ replicate n None → p.machine.courses ≡ replicate n c
-    → is_flight c.form ≡ false → length p.booked ≡ length p.machine.queues → HandsFit p
-fit_start p n c he ce rests be = record {
+    → is_flight c.form ≡ false → length p.booked ≡ length p.machine.queues → ((cpu : ℕ) → booked_at p.booked cpu ≡ 0) → HandsFit p
+fit_start p n c he ce rests be none = record {
   lanes = ap (λ (l : List (Option HandState)). length l) he ∙ length-replicate n None ∙ sym (length-replicate n c)
       ∙ ap (λ (l : List Course). length l) (sym ce);
   queues = be;
@@ -61,6 +70,7 @@ fit_start p n c he ce rests be = record {
   booked = λ cpu.
       let h : held_for cpu p.hands ≡ n * 0 =
       ap (λ (l : List (Option HandState)). held_for cpu l) he ∙ sum_by-replicate (tasks_for cpu) n None in
+      let z = none cpu in
       omega arith;
 }
 

@@ -9,7 +9,7 @@ use Rattle.lb_core.specs.declared.course.Course.{Course}
 use Rattle.lb_core.specs.Course.{turn_domains, shapes_of}
 use Rattle.lb_core.specs.Machine.{course_at}
 use Rattle.lb_turn.specs.Turns.{TurnState}
-use Rattle.lb_parts.specs.Asks.{OpeningAsks}
+use Rattle.lb_core.specs.Asks.{OpeningAsks}
 use Rattle.lb_parts.specs.Held.{Held}
 
 -- the turn, where the fields of the parts show the machine and the lane's course

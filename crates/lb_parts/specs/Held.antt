@@ -1,7 +1,7 @@
 -- What the parts of the machine are, as contracts see them: the machine itself, and what the machine does
 -- not show: the hand of each lane that is in flight, how many landings are booked at each queue, and for
 -- how many more figures of each queue there is room. And how the hands go with the machine.
-use Rattle.std.specs.Prelude.{◌≡◌, ℕ, ◌==◌, ◌≤◌, false, true, if◌then◌else◌, Option, Some, None, List, length, sum_by}
+use Rattle.std.specs.Prelude.{◌≡◌, ℕ, ◌==◌, false, true, if◌then◌else◌, Option, Some, None, List, length, sum_by}
 use Rattle.std.specs.List.{slice_index_or}
 use Rattle.lb_queue.specs.Hands.{HandState}
 use Rattle.lb_core.specs.declared.course.Course.{Course}
@@ -47,10 +47,10 @@ tasks_for cpu (Some h) = if h.to == cpu then length h.tasks else 0
 abbrev pub held_for : ℕ → List (Option HandState) → ℕ
 held_for cpu hands = sum_by (tasks_for cpu) hands
 
--- each lane has a hand or none, as its course says, and at each queue at least as many landings are booked
--- as the hands that go there hold
+-- each lane has a hand or none, as its course says, and at each queue just as many landings are booked as the
+-- hands that go there hold
 pub record HandsFit (p : Held) : Type 0 where
   pub lanes : length p.hands ≡ length p.machine.courses
   pub queues : length p.booked ≡ length p.machine.queues
   pub holds : (lane : ℕ) → Holds (hand_at p.hands lane) (course_at p.machine.courses lane)
-  pub booked : (cpu : ℕ) → held_for cpu p.hands ≤ booked_at p.booked cpu
+  pub booked : (cpu : ℕ) → booked_at p.booked cpu ≡ held_for cpu p.hands

@@ -16,7 +16,8 @@ use Rattle.lb_core.specs.Course.{task_of, turn_domain, source_of}
 use Rattle.lb_core.specs.Leaving.{leaving}
 use Rattle.lb_core.specs.Machine.{MachineState, course_at, queue_at, figures_at, sight}
 use Rattle.lb_core.specs.Placed.{is_flight}
-use Rattle.lb_parts.specs.Asks.{TicksBelow, CommandAsks, IsMapped, RebuildAsks, LandingAsks, HasTurn, OpeningAsks, IsInWork, PullAsks, IsPublished}
+use Rattle.lb_core.specs.Asks.{CommandAsks, LandingAsks, OpeningAsks}
+use Rattle.lb_parts.specs.Asks.{TicksBelow, IsMapped, RebuildAsks, HasTurn, IsInWork, PullAsks, IsPublished}
 use Rattle.lb_parts.specs.Held.{Held, hand_at}
 use Rattle.lb_parts.specs.Leaves.{IsDue, HasTakenOff, HasLanded}
 use Rattle.lb_parts.specs.Steps.{of_queue}

@@ -1,5 +1,5 @@
 -- The serial entry of a lane says what is in range, where the row that is given is an accepted one.
-use Rattle.std.proofs.Common.{◌≡◌, ℕ, ◌+◌, ◌<◌, ◌^◌, Bool, true, false, List, [], ◌∷◌, Option, Some, None, refl, sym, ◌∙◌, ap, subst, Bor}
+use Rattle.std.proofs.Common.{◌≡◌, ℕ, ◌+◌, ◌<◌, Bool, true, false, List, [], ◌∷◌, Option, Some, None, refl, sym, ◌∙◌, ap, subst, Bor}
 use Rattle.std.specs.Prelude.{IfSome, option_copied, option_to_list}
 use Rattle.std.specs.List.{list_all}
 use Rattle.std.proofs.lemmas.Bool.{and_parts}
@@ -8,6 +8,7 @@ use Rattle.lb_queue.proofs.Every.{all_one}
 use Rattle.lb_trace.specs.declared.trace.Header.{Header}
 use Rattle.lb_trace.specs.declared.trace.Row.{Row}
 use Rattle.lb_trace.specs.Accepted.{is_row}
+use Rattle.lb_core.specs.declared.history.TheConstants.{MAX_TICKET}
 use Rattle.lb_core.specs.declared.course.Course.{Course}
 use Rattle.lb_core.specs.declared.course.Form.{Form}
 use Rattle.lb_core.specs.declared.course.Form.TheVariants.{Rest}
@@ -46,7 +47,7 @@ unfolding entry_fits
 what_of ticket e h = (and_parts _ (what_fits e.what) h).1
 
 pub drawn_in_range : ReadsInRange → EntryFits → (m : MachineState) (lane : ℕ) (row : Option (Bor Row)) (e : Entry)
-    → IsReady m → m.ticket < 2 ^ 40 → IfSome row (λ r. is_row m.header r.now ≡ true)
+    → IsReady m → m.ticket < MAX_TICKET → IfSome row (λ r. is_row m.header r.now ≡ true)
     → IsSerialNext m lane (option_copied row) e → is_in_range e.what ≡ true
 drawn_in_range reads fits m lane row e k few accepted n =
     let own = n.own in

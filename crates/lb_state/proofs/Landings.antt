@@ -130,6 +130,6 @@ pub hands_may_land : HandsMayLand
 hands_may_land p k fit = record {
   own = λ cpu lt. (k.queues cpu (let q = k.sizes.queues in omega arith)).own;
   goes = λ i d lt. rw (get_or_default p.hands i d None lt) (goes p.machine i (hand_at p.hands i) k (fit.holds i));
-  room = fit.booked;
+  room = λ cpu. (let b = fit.booked cpu in omega arith);
   once = λ cpu id. stands_once p.machine p.hands cpu id k.placed fit.holds (place_at p.machine id) refl;
 }

@@ -3,7 +3,6 @@
 use Rattle.std.proofs.Common.{arith, ◌≡◌, ℕ, zero, suc, ◌+◌, ◌<◌, ◌≤◌, Bool, true, false, cond, List, [], ◌∷◌, length, map, ltb, get_or, Option, Some, None, is_some, is_none, refl, sym, ◌∙◌, ap, subst, not}
 use Rattle.std.specs.Prelude.{All, IfSome, IsSome, ◌==◌, ◌||◌, ◌&&◌}
 use Rattle.std.proofs.lemmas.Bool.{and_parts, or_parts, ltb-true, eqb-true, eq-eqb, not-false}
-use Rattle.lb_queue.specs.declared.record.TaskRecord.{TaskRecord}
 use Rattle.lb_queue.specs.declared.answers.Reply.{Reply}
 use Rattle.lb_queue.specs.Queue.{QueueState, is_awake}
 use Rattle.lb_queue.specs.Turns.{IsOpenAt}
@@ -22,6 +21,7 @@ use Rattle.lb_core.specs.declared.place.Place.{Place}
 use Rattle.lb_core.specs.declared.place.Place.TheVariants.{Awake as AwakeAt, Asleep as AsleepAt, Gone as GoneAt, Hand as HandOf}
 use Rattle.lb_core.specs.declared.rule.Rule.TheVariants.{Place as PlaceRule, Flight}
 use Rattle.lb_core.specs.Course.{task_of, turn_domain, turn_domains}
+use Rattle.lb_core.specs.Asks.{CommandAsks}
 use Rattle.lb_core.specs.Elsewhere.{is_at, task_elsewhere, answered_elsewhere}
 use Rattle.lb_core.specs.Legal.{MayBeAdded}
 use Rattle.lb_core.specs.Machine.{MachineState, course_at, queue_at, place_at, sight}
@@ -31,12 +31,13 @@ use Rattle.lb_core.specs.Stage.{draws}
 use Rattle.lb_core.proofs.Equality.{numbers_same}
 use Rattle.lb_core.proofs.Placing.{entry, form_lets}
 use Rattle.lb_core.proofs.Unbroken.{unbroken_here, unbroken_elsewhere}
-use Rattle.lb_ready.specs.Calls.{CommandAsks as CommandMeets, LandingAsks as LandingMeets, TurnAsks as TurnMeets, IsOnAt}
+use Rattle.lb_ready.specs.Calls.{TurnAsks as TurnMeets, IsOnAt, LandedAsks as LandingMeets}
 use Rattle.lb_ready.specs.Lanes.{Suits}
 use Rattle.lb_ready.specs.Laws.{TasksStand}
 use Rattle.lb_ready.specs.Ready.{IsReady, Names}
-use Rattle.lb_parts.specs.Asks.{CommandAsks, IsMapped, is_awake_place, HasVersion, HasTurn, OpeningAsks, IsInWork, PullAsks}
+use Rattle.lb_parts.specs.Asks.{IsMapped, is_awake_place, HasTurn, IsInWork, PullAsks}
 use Rattle.lb_parts.specs.Takes.{AnswerAsks, LandedAsks, TurnAsks, CloseAsks, OverAsks}
+use Rattle.lb_queue.specs.declared.record.TaskRecord.{TaskRecord}
 
 abbrev pub opens_or_shuts : What → Bool
 opens_or_shuts (Turn ps) = true
@@ -44,12 +45,6 @@ opens_or_shuts Shut = true
 opens_or_shuts w = false
 
 -- ---- answers
-pub command_asks : (command : Option Command) (q : QueueState) → CommandMeets command q → CommandAsks command q
-command_asks (Some (Wake t)) q k = k
-command_asks (Some (Nice t nice)) q k = k
-command_asks (Some (Tick cpu)) q k = k
-command_asks command q k = tt
-
 -- a row is answered in one form alone, where the rule of places is asked
 answered_here : (f : Form) (h : Header) (c : Course) (q : QueueState) (m : MachineState) (cpu lane : ℕ) (r : Reply)
     → draws f h c q lane (Did r) ≡ true → answered_elsewhere f c m (Queue cpu) (Did r) ≡ false
@@ -84,24 +79,21 @@ mapped stand m cpu (Some (Rebuild parts)) k n e = tt
 
 pub did_asks : TasksStand → (m : MachineState) (cpu lane prev : ℕ) (r : Reply) → IsReady m
     → MayBeAdded m (entry (Queue cpu) lane prev (Did r))
-    → CommandMeets (course_at m.courses lane).command (queue_at m.queues cpu)
+    → CommandAsks (course_at m.courses lane).command (queue_at m.queues cpu)
     → AnswerAsks m (queue_at m.queues cpu) (course_at m.courses lane)
 did_asks stand m cpu lane prev r k h meets =
     let e = entry (Queue cpu) lane prev (Did r) in
     let c = course_at m.courses lane in
     record {
-      command = command_asks c.command (queue_at m.queues cpu) meets;
+      command = meets;
       mapped = mapped stand m cpu c.command k (k.fits lane).says.names
           (answered_here c.form m.header c (sight m e).queue m cpu lane r (form_lets m e h).1 (unbroken_elsewhere m e h PlaceRule));
     }
 
 -- ---- turns
-has_version : (m : MachineState) (c : Course) → IsVersion m c.version c.masks → HasVersion m c
-has_version m c v = record { some = v.from_first; published = v.published; masks_are = v.masks_are }
-
 has_turn : (m : MachineState) (lane : ℕ) → IsReady m
     → IsVersion m (course_at m.courses lane).version (course_at m.courses lane).masks → HasTurn m (course_at m.courses lane)
-has_turn m lane k v = record { version = has_version m (course_at m.courses lane) v; turned = (k.fits lane).says.turned }
+has_turn m lane k v = record { version = v; turned = (k.fits lane).says.turned }
 
 in_work : (m : MachineState) (lane : ℕ) → IsReady m → IsAtPosition m lane (course_at m.courses lane) → IsInWork m (course_at m.courses lane)
 in_work m lane k t = record { turn = has_turn m lane k t.0.taken_up; inside = t.0.inside (course_at m.courses lane).position t.1 }
@@ -111,12 +103,6 @@ pub pull_asks : (f : Form) (m : MachineState) (lane : ℕ) → IsReady m → Tur
     → PullAsks f m (course_at m.courses lane)
 pull_asks Looked m lane k t = in_work m lane k t
 pull_asks f m lane k t = tt
-
--- what a turn meets when it opens
-opening_asks : (m : MachineState) (cpu lane : ℕ) (w : What) (prev : ℕ)
-    → TurnMeets (sight m (entry (Queue cpu) lane prev w)) → OpeningAsks m.header (queue_at m.queues cpu) (course_at m.courses lane)
-unfolding sight
-opening_asks m cpu lane w prev k = record { few = k.few; in_order = k.in_order; fit = k.fit }
 
 used_of : (f : Form) (m : MachineState) (lane : ℕ) (q : QueueState) (w : What) → opens_or_shuts w ≡ true
     → draws f m.header (course_at m.courses lane) q lane w ≡ true → TurnIn f m lane (course_at m.courses lane)
@@ -136,11 +122,12 @@ pub turn_asks : (m : MachineState) (cpu lane prev : ℕ) (w : What) (is_open : B
     → opens_or_shuts w ≡ true → MayBeAdded m (entry (Queue cpu) lane prev w)
     → TurnMeets (sight m (entry (Queue cpu) lane prev w)) → is_some (queue_at m.queues cpu).open_turn ≡ is_open →
     TurnAsks m (queue_at m.queues cpu) (course_at m.courses lane) is_open
+unfolding sight
 turn_asks m cpu lane prev w is_open k o h meets there =
     let e = entry (Queue cpu) lane prev w in
     record {
       turn = has_turn m lane k (used_of (course_at m.courses lane).form m lane (sight m e).queue w o (form_lets m e h).1 (k.turns lane));
-      opening = opening_asks m cpu lane w prev meets;
+      opening = meets;
       open_is = there;
     }
 
@@ -210,8 +197,8 @@ landed_asks m cpu lane prev tasks k lt h meets =
     let c = course_at m.courses lane in
     let same : tasks ≡ ids c.hand = numbers_same tasks (ids c.hand) (not-false _ (unbroken_here m e h Flight)) in
     record {
-      hand = record { to = meets.to; differ = meets.differ; unknown = meets.unknown };
-      here = meets.to ∙ (k.queues cpu lt).own;
+      hand = meets.landing;
+      here = meets.landing.to ∙ (k.queues cpu lt).own;
       source = (let s = (k.fits lane).says.pulled in let n = k.accepted.most_cpus in omega arith);
       places = subst (All (λ t. t < length m.places)) (sym same) (each_declared m lane k.placed);
     }

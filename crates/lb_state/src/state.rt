@@ -9,7 +9,7 @@ ghost use Rattle.lb_ready.specs.Next.{IsSerialNext};
 
 use crate::laws::{hands_may_land, steps_may_be_taken};
 use lb_base::NoMemory;
-use lb_core::{Entry, Rule};
+use lb_core::{Entry, MAX_TICKET, Rule};
 use lb_draw::next_entry;
 use lb_judge::first_broken;
 use lb_parts::Parts;
@@ -19,10 +19,6 @@ use std::alloc::Global;
 use std::marker::Model;
 
 mod readers;
-
-// A history of an accepted trace has fewer than 2^37 entries: one that the machine is asked to draw beyond
-// this ticket is none of a trace.
-const MAX_TICKET: u64 = 1_099_511_627_776;
 
 /// The machine after some legal entries of an accepted trace (docs/rules/lanes.md). Its parts change in
 /// place: no step copies a queue, a topology or the history.
@@ -80,7 +76,7 @@ impl State {
     /// to draw: the machine stays as it was then, as where memory runs out (docs/rules/lanes.md).
     ///
     /// So every serial entry of the lane that may be added is the answer, and the answer is one. No entry is
-    /// drawn past ticket 2^40.
+    /// drawn past ticket [`MAX_TICKET`].
     pub fn draw(
         &mut self,
         alloc: Global,

@@ -12,7 +12,7 @@ ghost use Rattle.lb_queue.specs.Queue.{away};
 ghost use Rattle.lb_queue.specs.Requests.{next_stop};
 ghost use Rattle.lb_core.specs.QueueAfter.{cause_of, rest_of};
 ghost use Rattle.lb_queue.specs.Hands.{land};
-ghost use Rattle.lb_parts.specs.Asks.{LandingAsks};
+ghost use Rattle.lb_core.specs.Asks.{LandingAsks};
 ghost use Rattle.lb_parts.specs.Held.{IsLoaded};
 ghost use Rattle.lb_parts.specs.Leaves.{GoesTo, HaveLeft, IsDue, out_with};
 

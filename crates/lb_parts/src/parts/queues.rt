@@ -9,7 +9,8 @@ ghost use Rattle.lb_core.specs.Course.{task_of};
 ghost use Rattle.lb_core.specs.Machine.{course_at, queue_at, figures_at};
 ghost use Rattle.lb_core.specs.QueueAfter.{answer_to};
 ghost use Rattle.lb_core.specs.Step.{places_after, places_by};
-ghost use Rattle.lb_parts.specs.Asks.{CommandAsks, is_awake_place};
+ghost use Rattle.lb_core.specs.Asks.{CommandAsks};
+ghost use Rattle.lb_parts.specs.Asks.{is_awake_place};
 
 use super::Parts;
 use lb_base::NoMemory;

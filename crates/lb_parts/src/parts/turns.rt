@@ -106,7 +106,8 @@ fn refuse_turn(
 }
 
 impl Parts {
-    ghost use Rattle.lb_parts.specs.Asks.{HasTurn, IsInWork, OpeningAsks};
+    ghost use Rattle.lb_core.specs.Asks.{OpeningAsks};
+    ghost use Rattle.lb_parts.specs.Asks.{HasTurn, IsInWork};
     ghost use Rattle.lb_parts.specs.Steps.{becomes, of_queue, served};
 
     // The turn of a lane, over the version that it took up.

@@ -5,8 +5,9 @@ use Rattle.lb_queue.specs.Figures.{figure}
 use Rattle.lb_queue.specs.Queue.{BookedQueue}
 use Rattle.lb_trace.specs.declared.trace.Header.{Header}
 use Rattle.lb_core.specs.Course.{opening_course}
+use Rattle.lb_parts.specs.Held.{booked_at}
 use Rattle.lb_parts.proofs.Queues.{states, bookings}
-use Rattle.lb_parts.proofs.Starting.{opened, opening_states, opening_figs, fit_start, start_is}
+use Rattle.lb_parts.proofs.Starting.{opened, opening_states, opening_figs, fit_start, start_is, none_booked}
 use Rattle.lb_parts.proofs.parts.Parts.start.Goals as goal
 
 pub returns-clause-machine : goal.returns-clause-machine
@@ -27,3 +28,4 @@ returns-clause-hands c =
     fit_start _ h.lanes (opening_course (length h.cpus))
     (c.in_ok-hands.ensures ∙ ap (λ (x : Header). replicate x.lanes None) c.in_ok-header.ensures) c.in_ok-courses.ensures refl
     (length-map queues (λ (q : BookedQueue). q.booked) ∙ sym (length-map queues (λ (q : BookedQueue). q.state)))
+    (λ cpu. ap (λ (l : List BookedQueue). booked_at (bookings l) cpu) c.in_ok-queues.ensures ∙ none_booked h cpu)

@@ -1,5 +1,6 @@
-use Rattle.std.proofs.Common.{arith, ◌<◌, ◌^◌, ◌≡◌, true, sym, subst, Option, option_copied}
+use Rattle.std.proofs.Common.{arith, ◌<◌, ◌≡◌, true, sym, subst, Option, option_copied}
 use Rattle.std.specs.Prelude.{IfSome}
+use Rattle.lb_core.specs.declared.history.TheConstants.{MAX_TICKET}
 use Rattle.lb_trace.specs.Accepted.{is_row}
 use Rattle.lb_core.specs.Machine.{MachineState}
 use Rattle.lb_core.specs.declared.entry.Entry.{Entry}
@@ -18,7 +19,7 @@ take-requires-clause-asks c =
     c.in-Some.is c.in_ok-drawn.ensures.drawn in
     let accepted = subst (λ (x : MachineState). IfSome c.args.row (λ r. is_row x.header r.now ≡ true))
     (sym c.self.view_is) c.requires.accepted in
-    let few : m.ticket < 2 ^ 40 = (let t = c.ticket.ensures in let f = c.if-ticket-ge-MAX_TICKET.false in omega (arith, t, f)) in
+    let few : m.ticket < MAX_TICKET = (let t = c.ticket.ensures in let f = c.if-ticket-ge-MAX_TICKET.false in omega (arith, t, f)) in
     let ranged : is_in_range e.what ≡ true =
     drawn_in_range c.ready.ensures.reads c.entries_fit.ensures.entries m c.args.lane c.args.row e ready few accepted next in
     c.steps_may_be_taken.ensures m e ready next.may ranged
@@ -33,7 +34,7 @@ invariant_of-self c =
     c.in-Some.is c.in_ok-drawn.ensures.drawn in
     let accepted = subst (λ (x : MachineState). IfSome c.args.row (λ r. is_row x.header r.now ≡ true))
     (sym c.self.view_is) c.requires.accepted in
-    let few : m.ticket < 2 ^ 40 = (let t = c.ticket.ensures in let f = c.if-ticket-ge-MAX_TICKET.false in omega (arith, t, f)) in
+    let few : m.ticket < MAX_TICKET = (let t = c.ticket.ensures in let f = c.if-ticket-ge-MAX_TICKET.false in omega (arith, t, f)) in
     let ranged : is_in_range e.what ≡ true =
     drawn_in_range c.ready.ensures.reads c.entries_fit.ensures.entries m c.args.lane c.args.row e ready few accepted next in
     record {
