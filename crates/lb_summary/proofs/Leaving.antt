@@ -37,11 +37,11 @@ use Rattle.lb_summary.specs.Counting.{PullsWhere, MayCount}
 
 -- ---- the `out` that is due
 -- it is that of the entry
-record IsDue (o : Option Leaving) (cause : OutCause) (tasks : List ℕ) : Type 0 where
-  out : Leaving
-  due : o ≡ Some out
-  same_cause : cause ≡ out.cause
-  same_tasks : tasks ≡ ids out.hand
+pub record IsDue (o : Option Leaving) (cause : OutCause) (tasks : List ℕ) : Type 0 where
+  pub out : Leaving
+  pub due : o ≡ Some out
+  pub same_cause : cause ≡ out.cause
+  pub same_tasks : tasks ≡ ids out.hand
 
 is_due : (o : Option Leaving) (cause : OutCause) (to : ℕ) (tasks : List ℕ) → is_other_out o cause to tasks ≡ false → IsDue o cause tasks
 is_due None cause to tasks h = absurd (let y : ⊥ = cc in y)
@@ -55,7 +55,7 @@ is_due (Some l) cause to tasks h =
       same_tasks = numbers_same tasks (ids l.hand) (not-false _ p.1);
     }
 
-due_of : (m : MachineState) (o : Owner) (lane prev : ℕ) (cause : OutCause) (to : ℕ) (tasks : List ℕ)
+pub due_of : (m : MachineState) (o : Owner) (lane prev : ℕ) (cause : OutCause) (to : ℕ) (tasks : List ℕ)
     → MayBeAdded m (entry o lane prev (Out cause to tasks)) →
     IsDue (leaving (sight m (entry o lane prev (Out cause to tasks)))) cause tasks
 due_of m o lane prev cause to tasks h = is_due _ cause to tasks (unbroken_here m (entry o lane prev (Out cause to tasks)) h Pick)
@@ -83,7 +83,7 @@ not_wake (Some (WakeTask t)) at q l h c = not_wake_to (away q t) at t q l h c
 not_wake (Some command) at q l h c = cc
 
 -- only after a look tasks are pulled, and there the lane balances a domain
-pull_at : (f : Form) (m : MachineState) (lane : ℕ) (q : QueueState) (l : Leaving) → Pull ≡ l.cause
+pub pull_at : (f : Form) (m : MachineState) (lane : ℕ) (q : QueueState) (l : Leaving) → Pull ≡ l.cause
     → out_by f m.header (course_at m.courses lane) q ≡ Some l → TurnIn f m lane (course_at m.courses lane)
     → IsAtPosition m lane (course_at m.courses lane)
 pull_at Rest m lane q l c h t = absurd (not_stop (next_stop q false) (course_at m.courses lane).at q l h c)
