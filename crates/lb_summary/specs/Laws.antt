@@ -5,6 +5,7 @@ use Rattle.std.specs.Prelude.{ℕ, ◌+◌, ◌≡◌, ◌<◌, ◌≤◌, true,
 use Rattle.lb_base.specs.declared.mask.Mask.{Mask}
 use Rattle.lb_queue.specs.declared.answers.OutCause.TheVariants.{Wake, Pull}
 use Rattle.lb_text.specs.declared.marks.TheConstants.{LINE_FEED}
+use Rattle.lb_domain.specs.declared.domain.Domain.{Domain}
 use Rattle.lb_domain.specs.Domains.{domains_of}
 use Rattle.lb_trace.specs.declared.trace.Header.{Header}
 use Rattle.lb_core.specs.declared.course.Course.{Course}
@@ -24,13 +25,17 @@ StepsArePlaces =
     (h : History) → (length (steps_of h) ≡ length h.entries) × ((i : ℕ) (e : Entry) → slice_get h.entries i ≡ Some e
     → slice_get (steps_of h) i ≡ Some (record { before = run (take i h.entries) (start h.header); entry = e }))
 
+-- the domains of the turn's CPU, within the version that the lane took up
+abbrev pub domains_taken_up : MachineState → Course → List Domain
+domains_taken_up m c = domains_of m.header.cpus m.header.distances (masks_at m c.version) c.cpu
+
 -- the lane took up a published version, in which its CPU has a domain at the position in work, and the level is
 -- that domain's
 pub record IsWithin (m : MachineState) (lane : ℕ) (c : Course) : Type 0 where
   pub from_first : 1 ≤ c.version
   pub published : c.version ≤ length m.versions
-  pub inside : c.position < length (domains_of m.header.cpus m.header.distances (masks_at m c.version) c.cpu)
-  pub level : level_balanced m lane ≡ (domain_at (domains_of m.header.cpus m.header.distances (masks_at m c.version) c.cpu) c.position).shape.name
+  pub inside : c.position < length (domains_taken_up m c)
+  pub level : level_balanced m lane ≡ (domain_at (domains_taken_up m c) c.position).shape.name
 
 -- so for each pull that may come after a legal front
 abbrev pub PullsAreWithin : Type 0
