@@ -37,7 +37,8 @@ more_tasks test s ss = by_test (test s)
     by_test true = sum_by-cons f s (filter test ss)
     by_test false = sym (zero-add _)
 
-more_steps : (test : Step → Bool) (s : Step) (ss : List Step) → steps_where test (s ∷ ss) ≡ worth (test s) 1 + steps_where test ss
+more_steps : (test : Step → Bool) (s : Step) (ss : List Step) →
+    steps_where test (s ∷ ss) ≡ worth (test s) 1 + steps_where test ss
 more_steps test s ss = by_test (test s)
   where
     by_test : (b : Bool) → length (cond b (s ∷ filter test ss) (filter test ss)) ≡ worth b 1 + length (filter test ss)
@@ -90,7 +91,8 @@ one_more a s ss =
     let pulled : (test : LevelName → Bool) (n : ℕ) →
     gains (pulls_at test s) (tasks_in w) n + tasks_where (pulls_at test) ss ≡ n + tasks_where (pulls_at test) (s ∷ ss) =
     λ test n. now_or_later (pulls_at test s) (tasks_in w) n _ _ (more_tasks (pulls_at test) s ss) in
-    let left : (test : Step → Bool) (n : ℕ) → gains (test s) (tasks_in w) n + tasks_where test ss ≡ n + tasks_where test (s ∷ ss) =
+    let left : (test : Step → Bool) (n : ℕ) →
+    gains (test s) (tasks_in w) n + tasks_where test ss ≡ n + tasks_where test (s ∷ ss) =
     λ test n. now_or_later (test s) (tasks_in w) n _ _ (more_tasks test s ss) in
     let rows = now_or_later (takes_up_row w) 1 a.rows _ _ (more_steps (λ x. takes_up_row x.entry.what) s ss) in
     let entries : a.entries + 1 + length ss ≡ a.entries + length (s ∷ ss) = omega arith in
@@ -143,7 +145,8 @@ as_many m [] = refl
 as_many m (e ∷ es) = let k = as_many (after m e) es in omega arith
 
 -- so no number is above 4,096 for each entry
-pub at_most : (m : MachineState) (es : List Entry) → AllMayCount m es → AreAtMost (MAX_TASKS * length es) (summary_of (steps_from m es))
+pub at_most : (m : MachineState) (es : List Entry) → AllMayCount m es
+    → AreAtMost (MAX_TASKS * length es) (summary_of (steps_from m es))
 unfolding summary_of
 at_most m es h =
     let n = as_many m es in

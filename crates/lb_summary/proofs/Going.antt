@@ -70,7 +70,8 @@ goes_on total s t m k n e rest g counted taken =
 pub few_in_all : OpensReady → StaysReady → ReadsInRange → (h : History) → IsHeader h.header → IsLegalFront h.header h.entries
     → entries_fit h.entries ≡ true → length h.entries < 2 ^ 40 → AreAtMost (2 ^ 62) (summary_of (steps_of h))
 few_in_all opens stays reads h header legal fit few =
-    let k = at_most (start h.header) h.entries (all_may_count stays reads (start h.header) h.entries 1 (opens h.header header) legal fit) in
+    let all = all_may_count stays reads (start h.header) h.entries 1 (opens h.header header) legal fit in
+    let k = at_most (start h.header) h.entries all in
     record {
       rows = (let n = k.rows in omega arith);
       entries = (let n = k.entries in omega arith);

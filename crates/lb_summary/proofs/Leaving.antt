@@ -37,13 +37,14 @@ use Rattle.lb_summary.specs.Counting.{PullsWhere, MayCount}
 
 -- ---- the `out` that is due
 -- it is that of the entry
-record IsDue (o : Option Leaving) (cause : OutCause) (tasks : List ℕ) : Type 0 where
-  out : Leaving
-  due : o ≡ Some out
-  same_cause : cause ≡ out.cause
-  same_tasks : tasks ≡ ids out.hand
+pub record IsDue (o : Option Leaving) (cause : OutCause) (tasks : List ℕ) : Type 0 where
+  pub out : Leaving
+  pub due : o ≡ Some out
+  pub same_cause : cause ≡ out.cause
+  pub same_tasks : tasks ≡ ids out.hand
 
-is_due : (o : Option Leaving) (cause : OutCause) (to : ℕ) (tasks : List ℕ) → is_other_out o cause to tasks ≡ false → IsDue o cause tasks
+is_due : (o : Option Leaving) (cause : OutCause) (to : ℕ) (tasks : List ℕ) → is_other_out o cause to tasks ≡ false
+    → IsDue o cause tasks
 is_due None cause to tasks h = absurd (let y : ⊥ = cc in y)
 is_due (Some l) cause to tasks h =
     let p = or_parts _ _ h in
@@ -55,7 +56,7 @@ is_due (Some l) cause to tasks h =
       same_tasks = numbers_same tasks (ids l.hand) (not-false _ p.1);
     }
 
-due_of : (m : MachineState) (o : Owner) (lane prev : ℕ) (cause : OutCause) (to : ℕ) (tasks : List ℕ)
+pub due_of : (m : MachineState) (o : Owner) (lane prev : ℕ) (cause : OutCause) (to : ℕ) (tasks : List ℕ)
     → MayBeAdded m (entry o lane prev (Out cause to tasks)) →
     IsDue (leaving (sight m (entry o lane prev (Out cause to tasks)))) cause tasks
 due_of m o lane prev cause to tasks h = is_due _ cause to tasks (unbroken_here m (entry o lane prev (Out cause to tasks)) h Pick)
@@ -77,13 +78,14 @@ not_wake_to : (o : Option ℕ) (at t : ℕ) (q : QueueState) (l : Leaving) → w
 not_wake_to None at t q l h c = cc
 not_wake_to (Some to) at t q l h c = cc
 
-not_wake : (command : Option Command) (at : ℕ) (q : QueueState) (l : Leaving) → wake_out command at q ≡ Some l → Pull ≡ l.cause → ⊥
+not_wake : (command : Option Command) (at : ℕ) (q : QueueState) (l : Leaving) → wake_out command at q ≡ Some l
+    → Pull ≡ l.cause → ⊥
 not_wake None at q l h c = cc
 not_wake (Some (WakeTask t)) at q l h c = not_wake_to (away q t) at t q l h c
 not_wake (Some command) at q l h c = cc
 
 -- only after a look tasks are pulled, and there the lane balances a domain
-pull_at : (f : Form) (m : MachineState) (lane : ℕ) (q : QueueState) (l : Leaving) → Pull ≡ l.cause
+pub pull_at : (f : Form) (m : MachineState) (lane : ℕ) (q : QueueState) (l : Leaving) → Pull ≡ l.cause
     → out_by f m.header (course_at m.courses lane) q ≡ Some l → TurnIn f m lane (course_at m.courses lane)
     → IsAtPosition m lane (course_at m.courses lane)
 pull_at Rest m lane q l c h t = absurd (not_stop (next_stop q false) (course_at m.courses lane).at q l h c)
@@ -125,7 +127,8 @@ few_in_hand m lane placed =
         by_test true e = let lt = ltb-true t (length m.places) ((and_parts _ _ e).0) in absurd (omega arith)
         by_test false e = refl
 
-hand_taken : (o : Owner) (n : ℕ) (x : Option Leaving) (l : Leaving) (c : Course) → x ≡ Some l → (drew o n (takes_off x c)).hand ≡ l.hand
+hand_taken : (o : Owner) (n : ℕ) (x : Option Leaving) (l : Leaving) (c : Course) → x ≡ Some l
+    → (drew o n (takes_off x c)).hand ≡ l.hand
 hand_taken Publisher n x l c h = rw h refl
 hand_taken (Lane k) n x l c h = rw h refl
 hand_taken (Queue cpu) n x l c h = rw h refl
@@ -139,7 +142,8 @@ few_leave m o lane prev cause to tasks h placed =
     let e = entry o lane prev (Out cause to tasks) in
     let d = due_of m o lane prev cause to tasks h in
     let c = get_or-set_same m.courses lane (course_after (sight m e) e) no_course (lane_there m e h) in
-    let hand = ap (λ (x : Course). x.hand) c ∙ hand_taken o ((sight m e).count + 1) (leaving (sight m e)) d.out (sight m e).course d.due in
+    let taken = hand_taken o ((sight m e).count + 1) (leaving (sight m e)) d.out (sight m e).course d.due in
+    let hand = ap (λ (x : Course). x.hand) c ∙ taken in
     let same : tasks ≡ ids (course_at (after m e).courses lane).hand = d.same_tasks ∙ ap ids (sym hand) in
     let few = few_in_hand (after m e) lane placed in
     rw same few

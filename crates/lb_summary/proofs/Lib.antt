@@ -5,3 +5,4 @@ pub mod Texts
 pub mod Places
 pub mod Once
 pub mod Alone
+pub mod Within

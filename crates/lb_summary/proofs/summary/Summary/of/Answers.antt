@@ -8,11 +8,12 @@ pub count-requires-clause-small : goal.count-requires-clause-small
 count-requires-clause-small c =
     let ready = c.ready.ensures in
     few_so_far c.loop-entry.summary _ _ _ c.loop-entry.invariant.counted
-    (few_in_all ready.opens ready.stays ready.reads c.args.history.now c.requires.header c.requires.legal c.requires.entries c.requires.few)
+    (few_in_all ready.opens ready.stays ready.reads c.args.history.now
+    c.requires.header c.requires.legal c.requires.entries c.requires.few)
 
 pub count-requires-clause-may : goal.count-requires-clause-may
-count-requires-clause-may c = (goes_at c.ready.ensures.stays c.ready.ensures.reads _ _ c.loop-entry.state c.loop-entry.entry-index
-    c.entry-item.result _ _ c.as_slice-entry-items.ensures c.loop-entry.invariant c.loop-entry-test.true c.entry-item.is).may
+count-requires-clause-may c = (goes_at c.ready.ensures.stays c.ready.ensures.reads _ _ c.loop-entry.state
+    c.loop-entry.entry-index c.entry-item.result _ _ c.as_slice-entry-items.ensures c.loop-entry.invariant c.loop-entry-test.true c.entry-item.is).may
 
 pub step-requires : goal.step-requires
 step-requires c = (goes_at c.ready.ensures.stays c.ready.ensures.reads _ _ c.loop-entry.state c.loop-entry.entry-index
