@@ -1,0 +1,7 @@
+use Rattle.std.proofs.Common.{rules, refl, [], ◌∷◌}
+use Rattle.lb_board.specs.Board.{Posts, opening}
+use Rattle.lb_seen.proofs.Steps.{begins}
+use Rattle.lb_board.proofs.board.open.Goals as goal
+
+pub ruled-requires : goal.ruled-requires
+ruled-requires c = (search rules, (search rules, begins Posts (record { fig = opening }) (opening ∷ []) (refl, refl)))

@@ -1,0 +1,4 @@
+pub mod Versions
+pub mod History
+pub mod Shown
+pub mod Copies
