@@ -1,11 +1,9 @@
-use crate::{Looker, Publisher, gather};
+use crate::{Publisher, gather};
 use lb_base::{Items, Mask};
 use lb_domain::Topology;
 use lb_levels::{CpuRow, Machine, MachineError};
 use std::alloc::Global;
-use std::sync::Wait;
 use std::test::Fail;
-use std::thread::join;
 
 // One CPU.
 fn machine(alloc: Global) -> Result<Machine, MachineError> {
