@@ -1,5 +1,5 @@
 -- The steps on what is shown keep the rule: whoever knows whose versions they are knows the same as what is shown.
-use Rattle.std.proofs.Common.{◌≡◌, ◌≢◌, ℕ, List, [], ◌∷◌, Option, Some, None, set, refl, sym, subst, ⊎_elim, ◌∙◌}
+use Rattle.std.proofs.Common.{◌≡◌, ◌≢◌, ℕ, List, Option, Some, None, set, refl, sym, subst, ⊎_elim, ◌∙◌}
 use mathlib.Core.Option.{some}
 use lib.ListN.{get_elem?}
 use Rattle.atomic_table.proofs.Lists.{at_set, at_snoc, set_again, set_else}
@@ -31,7 +31,7 @@ turns by v x y same views h at =
 pub forks : (by : ℕ) (v : Option VersionsSeen) → Forks rule by v v v
 forks by v x views h at j u e =
     ⊎_elim (λ (was : get_elem? (set views by v) j ≡ some u). h j u (subst (λ l. get_elem? l j ≡ some u) (set_again views by v at) was))
-        (λ (same : v ≡ u). subst (MayKnow x.known.book) same (h by v at)) (at_snoc (set views by v) v u j e)
+    (λ (same : v ≡ u). subst (MayKnow x.known.book) same (h by v at)) (at_snoc (set views by v) v u j e)
 
 pub merges : (by : ℕ) (v : Option VersionsSeen) (other : ℕ) (w : Option VersionsSeen) → Merges rule by v other w w None
 merges by v other w x views h at apart there =

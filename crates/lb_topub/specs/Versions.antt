@@ -1,6 +1,6 @@
 -- What contracts see of a publisher, of a looker and of a look: the versions that were published up to some moment,
 -- in order, each with its whole topology. Version n is the n-th of them.
-use Rattle.std.specs.Prelude.{◌≡◌, ℕ, ◌-◌, List, [], ◌∷◌, ◌++◌, length, Some, slice_get}
+use Rattle.std.specs.Prelude.{◌≡◌, ◌-◌, List, [], ◌∷◌, ◌++◌, length, Some, slice_get}
 use Rattle.logbook.specs.Pages.{Book}
 use Rattle.lb_domain.specs.Topologies.{DomainsWithin}
 

@@ -123,14 +123,13 @@ impl Known {
             .plain::<Nothing, Topology, Add>(next);
         let mut pen = self.seen.no_pen();
         let count = self.count;
-        let found = head
-            .compare_exchange::<Add, Nothing>(
-                count,
-                count + 1,
-                &mut self.seen,
-                &mut offer,
-                &mut pen,
-            );
+        let found = head.compare_exchange::<Add, Nothing>(
+            count,
+            count + 1,
+            &mut self.seen,
+            &mut offer,
+            &mut pen,
+        );
         self.count = if found == count { count + 1 } else { found };
         found == count
     }

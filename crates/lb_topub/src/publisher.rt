@@ -89,11 +89,8 @@ impl Publisher {
         };
         let known = self.known.with(rt, &self.head, &topology);
         let version = known.len();
-        copies::show(
-            rt,
-            &mut self.copies,
-            Shown::new(known.again(), topology),
-        );
+        let shown = Shown::new(known.again(), topology);
+        copies::show(rt, &mut self.copies, shown);
         self.known = known;
         Ok(version)
     }

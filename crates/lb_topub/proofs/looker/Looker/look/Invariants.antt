@@ -1,4 +1,3 @@
-use Rattle.std.proofs.Common.{◌≡◌}
 use Rattle.left_right.specs.Sides.{view}
 use Rattle.lb_topub.specs.Shown.{Knows}
 use Rattle.lb_topub.proofs.looker.Looker.look.Given as goal
