@@ -1,5 +1,6 @@
 -- A work ends on its input in one way.
 use Rattle.std.proofs.Common.{◌≡◌, ℕ, ◌<◌, ◌≤◌, List, length, Option, [], Some, None, sym, ◌∙◌, ap, subst, inl, inr}
+use native.Mathlib.Omega.{arith}
 use Rattle.std.specs.Prelude.{IfSome}
 use Rattle.lb_trace.specs.declared.trace.Code.TheVariants.{BadLine}
 use Rattle.lb_record.specs.declared.history.TheConstants.{MAX_HISTORY_BYTES}
@@ -55,8 +56,8 @@ both_bad law input a b x y =
 
 one_history_end : Reading → (input : List ℕ) (a b : Status) → IsStatusOfHistory input a → IsStatusOfHistory input b → a ≡ b
 one_history_end law input a b (inl x) (inl y) = x.1 ∙ sym y.1
-one_history_end law input a b (inl x) (inr y) = absurd (omega (x.0, y.0))
-one_history_end law input a b (inr x) (inl y) = absurd (omega (x.0, y.0))
+one_history_end law input a b (inl x) (inr y) = absurd (omega (arith, x.0, y.0))
+one_history_end law input a b (inr x) (inl y) = absurd (omega (arith, x.0, y.0))
 one_history_end law input a b (inr (within, inl x)) (inr (short, inl y)) = both_judged law input a b x y
 one_history_end law input a b (inr (within, inl x)) (inr (short, inr y)) = absurd (law.apart input x.read y.line x.reads y.bad)
 one_history_end law input a b (inr (within, inr x)) (inr (short, inl y)) = absurd (law.apart input y.read x.line y.reads x.bad)

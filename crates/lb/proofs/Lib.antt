@@ -1,4 +1,4 @@
-pub mod TooLong
 pub mod Ending
+pub mod Unread
 pub mod Reporting
 pub mod Headlines

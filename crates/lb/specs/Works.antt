@@ -23,7 +23,7 @@ use Rattle.lb_audit.specs.Verdict.{verdict_of}
 use Rattle.lb_topo.specs.Text.{topology_text}
 use Rattle.lb_generator.specs.Generator.{trace_drawn}
 use Rattle.lb_generator.specs.Text.{text_drawn}
-use Rattle.lb_summary.specs.Summary.{summary_text}
+use Rattle.lb_summary.specs.Text.{summary_text}
 use Rattle.lb_words.specs.declared.work.Work.{Work}
 use Rattle.lb_words.specs.declared.work.Work.TheVariants.{Step, Topo, Check, Gen, Sum}
 use Rattle.lb.specs.declared.status.Status.{Status}

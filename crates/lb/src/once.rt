@@ -1,4 +1,4 @@
-ghost use Rattle.std.specs.Prelude.{◌≡◌, ◌≤◌, length, map, false, Some, IfOk, IfErr, string_bytes};
+ghost use Rattle.std.specs.Prelude.{◌≡◌, ◌≤◌, length, map, true, false, Some, None, IfSome, IfOk, IfErr, string_bytes};
 ghost use Rattle.lb_words.specs.declared.work.Work.TheVariants.{Step};
 ghost use Rattle.lb_words.specs.Words.{work_of, IsInRange};
 ghost use Rattle.lb.specs.Invocation.{stream_of, invocation_of};

@@ -1,6 +1,6 @@
 //! Laws of verdicts, over the definitions alone: each function's contract is the law, and its body calls the
 //! laws below that it stands on.
-ghost use Rattle.lb_audit.specs.Laws.{TextsMayBeJudged, LegalExactly, FaultExactly, OwnVerdict};
+ghost use Rattle.lb_audit.specs.Laws.{TextsMayBeJudged, LegalExactly, FaultExactly, OwnVerdict, EndIsLast};
 
 use lb_trace::laws::accepted;
 
@@ -20,4 +20,9 @@ pub fn verdicts_are_exact()
     ensures legal { LegalExactly }
     ensures fault { FaultExactly }
     ensures own { OwnVerdict }
+{}
+
+/// The last entry of a legal history is the end, so it has one and nothing follows it.
+pub fn end_is_last()
+    ensures { EndIsLast }
 {}

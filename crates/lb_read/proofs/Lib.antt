@@ -19,3 +19,4 @@ pub mod Declared
 pub mod Sizes
 pub mod Shortest
 pub mod Room
+pub mod Exactly

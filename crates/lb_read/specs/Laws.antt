@@ -1,12 +1,14 @@
 -- Laws of the texts that read as histories.
-use Rattle.std.specs.Prelude.{◌≡◌, ℕ, ◌⊎◌, true, List, Ok}
+use Rattle.std.specs.Prelude.{◌≡◌, ℕ, ◌⊎◌, ◌↔◌, true, List, Some, Ok}
 use Rattle.lb_trace.specs.declared.trace.Trace.{Trace}
 use Rattle.lb_trace.specs.Grammar.{reading_of}
 use Rattle.lb_core.specs.declared.history.History.{History}
 use Rattle.lb_core.specs.Ranges.{entries_fit}
 use Rattle.lb_record.specs.History.{text_of}
 use Rattle.lb_read.specs.declared.written.Read.{Read}
-use Rattle.lb_read.specs.Written.{as_read}
+use Rattle.lb_read.specs.declared.written.WrittenEntry.{WrittenEntry}
+use Rattle.lb_read.specs.Written.{written_line, written_fits, as_read}
+use Rattle.lb_read.specs.Entries.{line_in}
 use Rattle.lb_read.specs.Texts.{lines_of}
 use Rattle.lb_read.specs.Whole.{IsDeclared, ReadsAs}
 use Rattle.lb_read.specs.FirstBad.{IsFirstBadLine}
@@ -25,6 +27,14 @@ NoneIsBad = (text : List ℕ) (read : Read) (n : ℕ) → ReadsAs text read → 
 
 abbrev pub OneIsFirst : Type 0
 OneIsFirst = (text : List ℕ) (n m : ℕ) → IsFirstBadLine (lines_of text) n → IsFirstBadLine (lines_of text) m → n ≡ m
+
+-- a line reads as an entry with its ticket exactly where it is that entry's line and what it says is in range
+abbrev pub LinesReadExactly : Type 0
+LinesReadExactly = (line : List ℕ) (w : WrittenEntry) → (line_in line ≡ Some w) ↔ ((line ≡ written_line w) × (written_fits w ≡ true))
+
+-- what was read has one text
+abbrev pub OneText : Type 0
+OneText = (a b : List ℕ) (read : Read) → ReadsAs a read → ReadsAs b read → a ≡ b
 
 -- a history has a header that can be read back, and entries that are in range
 pub record IsReadable (h : History) : Type 0 where

@@ -1,5 +1,13 @@
 //! Laws of the texts that read as histories, each the contract of a function that does nothing.
-ghost use Rattle.lb_read.specs.Laws.{ReadOnce, ReadOrBad, NoneIsBad, OneIsFirst, HeadersReadBack, ReadBack, AreOwn};
+ghost use Rattle.lb_read.specs.Laws.{ReadOnce, ReadOrBad, NoneIsBad, OneIsFirst};
+ghost use Rattle.lb_read.specs.Laws.{LinesReadExactly, OneText, HeadersReadBack, ReadBack, AreOwn};
+
+/// A line reads as an entry with its ticket exactly where it is that entry's line, and what it says is in
+/// range; and what was read has one text.
+pub fn lines_read_exactly()
+    ensures lines { LinesReadExactly }
+    ensures text { OneText }
+{}
 
 /// A text reads as a history, or some line of it is the first that is no line of a history at its
 /// place; never both. It reads as one history, and one line is the first bad one.
