@@ -1,9 +1,8 @@
 -- A work ends on its input in one way.
-use Rattle.std.proofs.Common.{◌≡◌, ℕ, ◌<◌, ◌≤◌, List, length, Option, [], Some, None, sym, ◌∙◌, ap, subst, inl, inr}
+use Rattle.std.proofs.Common.{◌≡◌, ℕ, List, Option, [], Some, None, sym, ◌∙◌, ap, subst, inl, inr}
 use native.Mathlib.Omega.{arith}
 use Rattle.std.specs.Prelude.{IfSome}
 use Rattle.lb_trace.specs.declared.trace.Code.TheVariants.{BadLine}
-use Rattle.lb_record.specs.declared.history.TheConstants.{MAX_HISTORY_BYTES}
 use Rattle.lb_read.specs.declared.written.Read.{Read}
 use Rattle.lb_read.specs.Laws.{ReadOnce, NoneIsBad, OneIsFirst}
 use Rattle.lb_audit.specs.Verdict.{verdict_of}

@@ -1,5 +1,5 @@
 -- Where the work of `step` is done, what was written is the text of the trace's one serial history.
-use Rattle.std.proofs.Common.{◌≡◌, ℕ, zero, suc, true, List, [], ◌∷◌, ◌++◌, take, Option, Some, None, Ok, sym, ◌∙◌, subst}
+use Rattle.std.proofs.Common.{◌≡◌, ℕ, zero, suc, true, List, [], ◌∷◌, take, Option, Some, None, Ok, sym, ◌∙◌, subst}
 use Rattle.lb_core.specs.declared.entry.Entry.{Entry}
 use Rattle.lb_core.specs.declared.history.History.{History}
 use Rattle.lb_core.specs.Machine.{MachineState, start}

@@ -1,5 +1,5 @@
 -- The work and its report make the answer, and the answer completes.
-use Rattle.std.proofs.Common.{◌≡◌, ℕ, List, Option, Some, None, refl, sym, ◌∙◌, subst, inl, inr}
+use Rattle.std.proofs.Common.{◌≡◌, ℕ, List, Some, refl, sym, ◌∙◌, subst, inl, inr}
 use Rattle.lb_words.specs.declared.work.Work.{Work}
 use Rattle.lb_words.specs.Words.{work_of}
 use Rattle.lb.specs.declared.status.Status.{Status}

@@ -56,15 +56,10 @@ fn output_of<S: Source>(alloc: Global, work: Work, src: &mut S) -> Result<Vec<u8
 }
 
 // The work of the words, before its status is reported.
-fn perform<S: Source, O: Sink>(
-    alloc: Global,
-    words: &[String],
-    src: &mut S,
-    out: &mut O,
-) -> Status
+fn perform<S: Source, O: Sink>(alloc: Global, words: &[String], src: &mut S, out: &mut O) -> Status
     ensures says { Says result
         (invocation_of (map string_bytes words.now)
-            (stream_of S.left S.faults src.old src.new) (stream_of O.taken O.faults out.old out.new)) }
+        (stream_of S.left S.faults src.old src.new) (stream_of O.taken O.faults out.old out.new)) }
     ensures unread { reads_source (work_of (map string_bytes words.now)) ≡ false → src.new ≡ src.old }
     ensures unwritten { IsBeforeWriting result → out.new ≡ out.old }
 {
@@ -94,15 +89,15 @@ pub fn once<S: Source, O: Sink, E: Sink>(
 ) -> Status
     ensures answers { Answers result
         (invocation_of (map string_bytes words.now)
-            (stream_of S.left S.faults src.old src.new) (stream_of O.taken O.faults out.old out.new))
+        (stream_of S.left S.faults src.old src.new) (stream_of O.taken O.faults out.old out.new))
         (stream_of E.taken E.faults err.old err.new) }
     ensures completes { Completes result
         (invocation_of (map string_bytes words.now)
-            (stream_of S.left S.faults src.old src.new) (stream_of O.taken O.faults out.old out.new))
+        (stream_of S.left S.faults src.old src.new) (stream_of O.taken O.faults out.old out.new))
         (stream_of E.taken E.faults err.old err.new) }
     ensures headline { result ≡ Status.Done → work_of (map string_bytes words.now) ≡ Some Step → Headline
         (invocation_of (map string_bytes words.now)
-            (stream_of S.left S.faults src.old src.new) (stream_of O.taken O.faults out.old out.new)) }
+        (stream_of S.left S.faults src.old src.new) (stream_of O.taken O.faults out.old out.new)) }
     ensures unread { reads_source (work_of (map string_bytes words.now)) ≡ false → src.new ≡ src.old }
     ensures unwritten { IsBeforeWriting result → out.new ≡ out.old }
 {

@@ -25,15 +25,15 @@ pub fn top<R: Threads + Wait + Sync, S: Source, O: Sink, E: Sink, G: Gate>(
 ) -> Status
     ensures answers { Answers result
         (invocation_of (map string_bytes words.now)
-            (stream_of S.left S.faults src.old src.new) (stream_of O.taken O.faults out.old out.new))
+        (stream_of S.left S.faults src.old src.new) (stream_of O.taken O.faults out.old out.new))
         (stream_of E.taken E.faults err.old err.new) }
     ensures completes { Completes result
         (invocation_of (map string_bytes words.now)
-            (stream_of S.left S.faults src.old src.new) (stream_of O.taken O.faults out.old out.new))
+        (stream_of S.left S.faults src.old src.new) (stream_of O.taken O.faults out.old out.new))
         (stream_of E.taken E.faults err.old err.new) }
     ensures headline { result ≡ Status.Done → work_of (map string_bytes words.now) ≡ Some Step → Headline
         (invocation_of (map string_bytes words.now)
-            (stream_of S.left S.faults src.old src.new) (stream_of O.taken O.faults out.old out.new)) }
+        (stream_of S.left S.faults src.old src.new) (stream_of O.taken O.faults out.old out.new)) }
     ensures unread { reads_source (work_of (map string_bytes words.now)) ≡ false → src.new ≡ src.old }
     ensures unwritten { IsBeforeWriting result → out.new ≡ out.old }
 {

@@ -24,8 +24,8 @@ use lb_serial::serial;
 use lb_summary::summary_text;
 use lb_text::put_number;
 use lb_topo::topology_text;
-use lb_trace::{MAX_ROWS, Trace, TraceError};
 use lb_trace::laws::accepted;
+use lb_trace::{MAX_ROWS, Trace, TraceError};
 use lb_words::Work;
 use std::alloc::Global;
 

@@ -20,11 +20,11 @@ ends [] m live may over = clash m.ended over live
 ends (e ∷ entries) m live may over =
     elim (cases_Bool (after m e).ended) [
       | inl ended ↦ record {
-          before = [];
-          last = e;
-          all = ap (λ (es : List Entry). e ∷ es) (nothing_follows entries (after m e) ended may.1);
-          is_end = ended_by e.what m.ended ended live;
-        }
+        before = [];
+        last = e;
+        all = ap (λ (es : List Entry). e ∷ es) (nothing_follows entries (after m e) ended may.1);
+        is_end = ended_by e.what m.ended ended live;
+      }
       | inr goes ↦
           let r : EndsWithEnd entries = ends entries (after m e) goes may.1 over in
           record { before = e ∷ r.before; last = r.last; all = ap (λ (es : List Entry). e ∷ es) r.all; is_end = r.is_end }

@@ -12,7 +12,7 @@ returns-clause-answers g c = reported c.perform-status.result c.report.result _ 
 pub returns-clause-completes : goal.returns-clause-completes
 returns-clause-completes g c =
     let law : Reading =
-      record { once = c.texts_read_once.ensures.once; apart = c.texts_read_once.ensures.apart; first = c.texts_read_once.ensures.first }
+    record { once = c.texts_read_once.ensures.once; apart = c.texts_read_once.ensures.apart; first = c.texts_read_once.ensures.first }
     in
     completes law c.report.result _ _ (reported c.perform-status.result c.report.result _ _ c.perform-status.ensures.says c.report.ensures)
 
