@@ -240,7 +240,8 @@ module _ {I L : Type 0} (m : Meaning I L) (ci : Coded I) (cl : Coded L) where
           λ i. record { made = a i; vacant = b i; columns = c i; fresh = d i; known = f i; read = r i; seen = g i }
 
   -- a join: the other view, too, has its codes
-  join_both : (owners id other : ℕ) (b bw : Bare) (bboth : Bare) (words : List ℕ) (bares : List Bare) (f : View I → View I → View I) →
+  join_both : (owners id other : ℕ) (b bw : Bare) (bboth : Bare) (words : List ℕ) (bares : List Bare)
+      (f : View I → View I → View I) →
       BareKept m ci cl owners words bares → get_elem? bares id ≡ some b → (other ≡ id → ⊥) →
       get_elem? (set bares id bboth) other ≡ some bw
       → ((v w : View I) → erase m ci cl v ≡ b → erase m ci cl w ≡ bw → erase m ci cl (f v w) ≡ bboth)

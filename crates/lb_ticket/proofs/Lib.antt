@@ -6,5 +6,6 @@ mod Keeping
 mod Closing
 mod Closed
 mod BareKeeping
+mod Belows
 mod SeatLists
 mod Learnt

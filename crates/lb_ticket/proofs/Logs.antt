@@ -270,7 +270,8 @@ module _ {I L : Type 0} (m : Meaning I L) where
       let k = m.owner j in
       let l = list_fits lists c k in
       let own : eqb k k ≡ true = eq-eqb k k refl in
-      let parts : owned_from k 1 (pre ++ j ∷ rest) ≡ owned_from k 1 pre ++ (1 + length pre, j) ∷ owned_from k (1 + length pre + 1) rest =
+      let later = owned_from k (1 + length pre + 1) rest in
+      let parts : owned_from k 1 (pre ++ j ∷ rest) ≡ owned_from k 1 pre ++ (1 + length pre, j) ∷ later =
       owned-append k 1 pre (j ∷ rest) ∙ ap
       (λ (b : Bool).
       owned_from k 1 pre ++

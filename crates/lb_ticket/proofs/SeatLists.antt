@@ -64,7 +64,8 @@ module _ {I : Type 0} where
   empty_snoc [] s a l p f k r = (l, p, f, k, r, tt)
   empty_snoc (x ∷ ss) s a l p f k r = (a.0, a.1, a.2, a.3, a.4, empty_snoc ss s a.5 l p f k r)
 
-  pub bare_column_step : (ci : Coded I) (k n to : ℕ) (ds : List (Drawn I)) (a b : List BareColumn) (rest : List (List (Drawn I))) →
+  pub bare_column_step : (ci : Coded I) (k n to : ℕ) (ds : List (Drawn I)) (a b : List BareColumn)
+      (rest : List (List (Drawn I))) →
       a ≡ record { owner = n; drawn = map (held_of ci) ds } ∷ [] → b ≡ bare_columns_of ci k rest → n ≡ to → k ≡ to + 1 →
       a ++ b ≡ bare_columns_of ci to (ds ∷ rest)
   bare_column_step ci k n to ds a b rest p q e f =

@@ -11,7 +11,7 @@ use Rattle.lb_ticket.specs.declared.view.Held.{Held}
 use Rattle.lb_ticket.specs.declared.view.Fact.{Fact}
 use Rattle.lb_ticket.specs.declared.view.BareColumn.{BareColumn}
 use Rattle.lb_ticket.specs.declared.view.Bare.{Bare}
-use Rattle.lb_ticket.specs.Tickets.{Meaning, pair, quoted_by}
+use Rattle.lb_ticket.specs.Tickets.{Meaning, pair, quoted_by, AllBelow}
 use Rattle.lb_ticket.specs.Facts.{only_facts, IsOnlyFact, without_fact, FactsBelow, fact_of, QuoteIsKnown, HeldBelow, held_of}
 use Rattle.lb_ticket.specs.Kept.{Kept}
 
@@ -80,6 +80,11 @@ bare_marked v n = record v { seen = n }
 
 abbrev pub BareMarks : Bare → ℕ → Bare → Type 0
 BareMarks v n w = (w ≡ bare_marked v n) × (v.seen ≤ n) × FactsBelow n v.known × HeldBelow n v.read
+
+-- what a seat drew, holds and has read is below its next ticket
+abbrev pub IsBareBelow : {I : Type 0} → List (Drawn I) → Bare → Type 0
+IsBareBelow ds v =
+    AllBelow v.seen ds × FactsBelow v.seen v.fresh × FactsBelow v.seen v.known × HeldBelow v.seen v.read
 
 module _ {I : Type 0} (code : Coded I) where
   abbrev pub column_of : Column I → BareColumn

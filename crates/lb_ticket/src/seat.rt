@@ -25,8 +25,7 @@ pub struct Seat<I: Coding> {
 impl<I: Coding> Model for Seat<I> {
     ghost use Rattle.std.specs.Prelude.{◌≡◌, ◌+◌, ◌^◌, ◌≤◌, ◌<◌, vec_len, vec_capacity, length};
     ghost use Rattle.lb_ticket.specs.Seats.{SeatIs};
-    ghost use Rattle.lb_ticket.specs.Facts.{HeldBelow};
-    ghost use Rattle.lb_ticket.specs.Bare.{HasBareList};
+    ghost use Rattle.lb_ticket.specs.Bare.{HasBareList, IsBareBelow};
 
     ghost Value = { SeatIs I };
 
@@ -45,7 +44,7 @@ impl<I: Coding> Model for Seat<I> {
         HasBareList I.coding s.number s.list.items s.token.me
         × (vec_len s.list + s.spare ≤ vec_capacity s.list)
         × (length s.list.items + s.spare < 2 ^ 40)
-        × HeldBelow s.token.me.0.seen s.token.me.0.read };
+        × IsBareBelow s.list.items s.token.me.0 };
 }
 
 impl<I: Item> Seat<I> {
@@ -63,13 +62,15 @@ impl<I: Item> Seat<I> {
         self.list.len() as u64
     }
 
-    /// Makes room for at least `k` more draws. A refusal, for want of memory alone, leaves all as it was. A list and
-    /// its room stay below 2^40 items, so no ticket comes to the end of its type.
+    /// Makes room for at least `k` more draws, and gives none up. A refusal, for want of memory alone, leaves all as
+    /// it was. A list and its room stay below 2^40 items, so no ticket comes to the end of its type.
     pub fn reserve(&mut self, k: usize) -> Result<(), NoMemory>
         requires { length self.old.list + k < 2 ^ 40 }
-        ensures same { (self.new.table ≡ self.old.table) × (self.new.number ≡ self.old.number) × (self.new.list ≡ self.old.list) }
+        ensures same { (self.new.table ≡ self.old.table) × (self.new.number ≡ self.old.number) }
+        ensures list { self.new.list ≡ self.old.list }
         ensures view { KeepsView self.old self.new }
         ensures ok { OnOk result (k ≤ self.new.spare) }
+        ensures spare { self.old.spare ≤ self.new.spare }
         ensures refused { OnErr result (self.new.spare ≡ self.old.spare) }
     {
         if k <= self.spare {
@@ -82,9 +83,9 @@ impl<I: Item> Seat<I> {
         Ok(())
     }
 
-    /// Draws the next ticket for an item, and answers it; the first ticket of a book is 1. The item has to fit what
-    /// this seat drew before, and what it quotes has to be known here: the quote is then used up. There has to be
-    /// room for it, so it takes no memory.
+    /// Draws the next ticket for an item, and answers it; the first ticket of a book is 1. It is above the one that
+    /// the item quotes and above all that this seat drew before. The item has to fit those, and what it quotes has
+    /// to be known here: the quote is then used up. There has to be room for it, so it takes no memory.
     pub fn draw(&mut self, book: &Book<I>, item: I) -> u64
         requires book { self.old.table ≡ book.now.table }
         requires spare { 0 < self.old.spare }
@@ -99,6 +100,7 @@ impl<I: Item> Seat<I> {
         ensures known { self.new.known ≡ without_fact (quoted_by (I.means.quote item)) self.old.known }
         ensures read { (self.new.read ≡ self.old.read) × HeldBelow result self.old.read }
         ensures later { (self.old.next ≤ result) × (self.new.next ≡ result + 1) × (0 < result) }
+        ensures above { (quoted_by (I.means.quote item) < result) × AllBelow result self.old.list }
     {
         let ticket = draw_as::<I, Brand>(&book.table.shared, &mut self.token, &item);
         self.list.push_reserved(Drawn { ticket, item });

@@ -1,7 +1,8 @@
 //! The steps on the ticket word, by the token of a seat.
-ghost use Rattle.std.specs.Prelude.{◌≡◌, ℕ, ◌<◌, ◌≤◌, [], ◌∷◌};
+ghost use Rattle.std.specs.Prelude.{◌≡◌, ℕ, ◌<◌, ◌≤◌, List, [], ◌∷◌, ◌++◌};
+ghost use Rattle.lb_ticket.specs.declared.item.Drawn.{Drawn};
 ghost use Rattle.lb_ticket.specs.Facts.{fact_at, IsOnlyFact};
-ghost use Rattle.lb_ticket.specs.Bare.{BareMayDraw, bare_drew, bare_note_left, bare_note_right, BareMarks, bare_told, bare_learnt};
+ghost use Rattle.lb_ticket.specs.Bare.{BareMayDraw, bare_drew, bare_note_left, bare_note_right, BareMarks, bare_told, bare_learnt, IsBareBelow};
 
 use crate::item::Item;
 use crate::rule::{CutNote, Draw, Learn, Load, PicksItem, PicksTicket, Tell, Tickets};
@@ -21,6 +22,8 @@ pub(crate) fn draw_as<I: Item, J: PicksItem<I>>(
     ensures drew { token.new.me.0 ≡ bare_drew I.means I.row.coded I.Left.row.coded token.old.me.0 item.now result }
     ensures later { (token.old.me.0.seen ≤ result) × (0 < result) }
     ensures new { IsOnlyFact (fact_at I.means I.Left.row.coded result item.now) token.new.me.0.fresh }
+    ensures below { (ds : List (Drawn I)) → IsBareBelow ds token.old.me.0 →
+        IsBareBelow (ds ++ record { ticket = result; item = item.now } ∷ []) token.new.me.0 }
 {
     shared.fetch_add::<Draw<I, J>>(token, 0, 1)
 }
@@ -36,6 +39,7 @@ pub(crate) fn note_as<I: Item, J: PicksTicket>(
     ensures table { (token.new.table_id ≡ token.old.table_id) × (result.table_id ≡ token.old.table_id) }
     ensures rest { token.new.me ≡ (bare_note_left k token.old.me.0, token.old.me.1) }
     ensures note { result.me ≡ (bare_note_right k token.old.me.0, []) }
+    ensures below { (ds : List (Drawn I)) → IsBareBelow ds token.old.me.0 → IsBareBelow ds token.new.me.0 }
 {
     shared.split_seat::<CutNote<J>>(token)
 }
@@ -60,6 +64,7 @@ pub(crate) fn load<I: Item>(
     requires table { (token.old.table_id ≡ shared.now.table_id) × (shared.now.table_id.words ≡ 1) }
     ensures table { (token.new.table_id ≡ token.old.table_id) × (token.new.me.1 ≡ token.old.me.1) }
     ensures marks { BareMarks token.old.me.0 result token.new.me.0 }
+    ensures below { (ds : List (Drawn I)) → IsBareBelow ds token.old.me.0 → IsBareBelow ds token.new.me.0 }
 {
     shared.load::<Load>(token, 0)
 }
@@ -75,6 +80,7 @@ pub(crate) fn take_in<I: Item>(
     requires other { (other.me.0.vacant ≡ 0) × (other.me.0.columns ≡ []) × (other.me.0.fresh ≡ []) × (other.me.1 ≡ []) }
     ensures table { (token.new.table_id ≡ token.old.table_id) × (token.new.me.1 ≡ token.old.me.1) }
     ensures marks { BareMarks (bare_learnt token.old.me.0 other.me.0) result token.new.me.0 }
+    ensures below { (ds : List (Drawn I)) → IsBareBelow ds token.old.me.0 → IsBareBelow ds token.new.me.0 }
 {
     shared.join_seat::<Learn>(token, other);
     load(shared, token)

@@ -1,8 +1,9 @@
-use Rattle.std.proofs.Common.{rules, refl, sym, subst}
+use Rattle.std.proofs.Common.{rules, [], ◌∷◌, ◌++◌, refl, sym, subst}
 use Rattle.std.specs.Prelude.{slice_index}
-use Rattle.lb_ticket.specs.Bare.{bare_drew, BareDraws}
+use Rattle.lb_ticket.specs.Bare.{bare_drew, BareDraws, IsBareBelow}
 use Rattle.lb_ticket.proofs.BareKeeping.{bare_draws}
 use Rattle.atomic_table.specs.Table.{keeps}
+use Rattle.lb_ticket.proofs.Belows.{draws_below}
 use Rattle.lb_ticket.proofs.steps.draw_as.Goals as goal
 
 pub fetch_add-requires : goal.fetch_add-requires
@@ -25,3 +26,17 @@ fetch_add-requires g c =
             (subst (λ l. BareDraws m ci cl l v n (bare_drew m ci cl v i n)) (sym c.requires.pick) k.1, refl),
           ),
     )
+
+pub returns-clause-below : goal.returns-clause-below
+returns-clause-below g c ds below =
+    let m = g.I.Item.means in
+    let ci = g.row.I.coded in
+    let cl = g.row.I-Left.coded in
+    let v = c.args.token.now.me.0 in
+    let n = c.fetch_add.result in
+    let now = c.fetch_add.new.seat.me.0 in
+    let may = c.requires.may in
+    let drew : BareDraws m ci cl (c.args.item.now ∷ []) v n now =
+    subst (λ l. BareDraws m ci cl l v n now) c.requires.pick c.fetch_add.ensures.2.0 in
+    subst (IsBareBelow (ds ++ record { ticket = n; item = c.args.item.now } ∷ [])) (sym drew.0)
+    (draws_below m ci cl ds v _ c.args.item.now n may.is drew.1 below)

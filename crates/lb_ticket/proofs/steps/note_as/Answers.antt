@@ -1,5 +1,7 @@
-use Rattle.std.proofs.Common.{arith}
+use Rattle.std.proofs.Common.{ap, arith, subst, sym}
+use Rattle.lb_ticket.specs.Bare.{IsBareBelow}
 use Rattle.lb_ticket.proofs.BareKeeping.{bare_notes}
+use Rattle.lb_ticket.proofs.Belows.{notes_below}
 use Rattle.lb_ticket.proofs.steps.note_as.Goals as goal
 
 pub split_seat-requires : goal.split_seat-requires
@@ -13,3 +15,8 @@ split_seat-requires g c =
           bare_notes m ci cl c.args.shared.now.key c.args.token.now.id g.J.PicksTicket.picked c.args.token.now.me.0
           s.words s.views h at,
     )
+
+pub returns-clause-below : goal.returns-clause-below
+returns-clause-below g c ds below =
+    subst (IsBareBelow ds) (sym (ap (λ me. me.0) c.split_seat.ensures.2))
+    (notes_below ds c.args.token.now.me.0 g.J.PicksTicket.picked below)

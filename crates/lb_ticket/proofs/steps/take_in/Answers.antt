@@ -1,5 +1,7 @@
-use Rattle.std.proofs.Common.{arith}
+use Rattle.std.proofs.Common.{ap, arith, subst}
+use Rattle.lb_ticket.specs.Bare.{BareMarks}
 use Rattle.lb_ticket.proofs.BareKeeping.{bare_learns}
+use Rattle.lb_ticket.proofs.Belows.{takes_below}
 use Rattle.lb_ticket.proofs.steps.take_in.Goals as goal
 
 pub join_seat-requires : goal.join_seat-requires
@@ -16,3 +18,10 @@ join_seat-requires g c =
           bare_learns m g.row.I.coded g.row.I-Left.coded c.args.shared.now.key v.id w.id v.me.0 w.me.0 o.0 o.1 o.2
           s.words s.views h at apart there,
     )
+
+pub returns-clause-below : goal.returns-clause-below
+returns-clause-below g c ds below =
+    takes_below ds c.args.token.now.me.0 c.args.other.me.0 c.load.result c.load.new.token.me.0
+    (subst (λ v. BareMarks v c.load.result c.load.new.token.me.0)
+    (ap (λ me. me.0) c.join_seat.ensures.2) c.load.ensures.marks)
+    below

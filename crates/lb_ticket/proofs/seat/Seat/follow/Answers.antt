@@ -1,4 +1,4 @@
-use Rattle.std.proofs.Common.{◌++◌, map, sym, ap, ◌∙◌, subst}
+use Rattle.std.proofs.Common.{rules, ◌++◌, map, sym, ap, ◌∙◌, subst}
 use Rattle.lb_ticket.specs.Facts.{held_of, HeldBelow}
 use Rattle.lb_ticket.specs.Bare.{first_held}
 use Rattle.lb_ticket.proofs.BareKeeping.{read_below, all_read_now}
@@ -25,3 +25,8 @@ pub returns-clause-reads : goal.returns-clause-reads
 returns-clause-reads g c =
     all_read_now g.row.I.coded _ c.args.self.now.read _ c.args.other.now.list (returns-clause-read g c)
     (returns-clause-below g c)
+
+pub invariant_of-self : goal.invariant_of-self
+invariant_of-self g c =
+    let was = c.self.invariant in
+    (search rules, was.1, was.2, c.take_in.ensures.below c.self.inside.list.items was.3)
