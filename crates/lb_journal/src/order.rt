@@ -8,7 +8,7 @@ ghost use Rattle.lb_trace.specs.declared.trace.Header.{Header};
 ghost use Rattle.lb_trace.specs.declared.trace.Trace.{Trace};
 ghost use Rattle.lb_trace.specs.Accepted.{IsHeader, IsTrace};
 ghost use Rattle.lb_core.specs.OfTrace.{IsHistoryOf};
-ghost use Rattle.lb_journal.specs.Owners.{KeptByOwners};
+ghost use Rattle.lb_journal.specs.Owners.{KeptByOwners, lists_of};
 ghost use Rattle.lb_core.specs.Legal.{IsLegalHistory};
 ghost use Rattle.lb_journal.specs.Ordering.{placed, placed_lists, HaveSlots, somes, total_length};
 
@@ -99,15 +99,18 @@ pub fn in_order(alloc: Global, lists: Lists<Journal>) -> Result<Entries, NoMemor
     taken_out(alloc, slots)
 }
 
-/// Closes the book, and answers the entries that were drawn, in the order of their tickets. They are
-/// a legal history wherever the lists of the seats meet the premises of the merge.
+/// Closes the book, and answers the entries that the seats drew, all of them, in the order of their tickets. They
+/// are a legal history wherever the lists of the seats meet the premises of the merge, and one of the trace wherever
+/// the owners kept what is asked of them.
 pub fn close_in_order(
     alloc: Global,
     book: Book<Journal>,
     seats: Vec<Seat<Journal>>,
 ) -> Result<Entries, NoMemory>
     requires seats { Numbered book.table 0 seats.items × (length seats.items ≡ book.owners) }
-    ensures legal { IfOk result (λ es. (h : Header) → IsHeader h → MayMerge h (map (λ s. s.list) seats.items) →
+    ensures entries { IfOk result (λ es. (closed : Closes meaning_of_journal (lists_of seats.items)) ×
+        (es ≡ entries closed.log)) }
+    ensures legal { IfOk result (λ es. (h : Header) → IsHeader h → MayMerge h (lists_of seats.items) →
         IsLegalHistory h es) }
     ensures history { IfOk result (λ es. (t : Trace) (cut : ℕ) → IsTrace t →
         KeptByOwners t ⟦<Journal as Coding>⟧.coding ⟦<Left as Coding>⟧.coding seats.items cut →

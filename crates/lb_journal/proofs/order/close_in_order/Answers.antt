@@ -1,10 +1,21 @@
-use Rattle.std.proofs.Common.{List, sym, subst}
+use Rattle.std.proofs.Common.{◌≡◌, List, sym, subst}
 use Rattle.lb_core.specs.declared.entry.Entry.{Entry}
 use Rattle.lb_core.specs.Legal.{IsLegalHistory}
 use Rattle.lb_core.specs.OfTrace.{IsHistoryOf}
-use Rattle.lb_journal.specs.Merge.{MayMerge}
+use Rattle.lb_journal.specs.Merge.{MayMerge, entries}
+use Rattle.lb_journal.specs.Journal.{meaning_of_journal}
+use Rattle.lb_ticket.specs.Tickets.{Closes}
 use Rattle.lb_journal.proofs.Ordering.{if_ok_more, history_of}
 use Rattle.lb_journal.proofs.order.close_in_order.Goals as goal
+
+pub returns-clause-entries : goal.returns-clause-entries
+returns-clause-entries c =
+    let closed = c.close-lists.ensures in
+    if_ok_more c.in_order.result _ _
+    (λ es is.
+    subst (λ l. (book : Closes meaning_of_journal l) × (es ≡ entries book.log)) closed.lists
+    (closed.tickets, is closed.tickets))
+    c.in_order.ensures
 
 pub returns-clause-legal : goal.returns-clause-legal
 returns-clause-legal c =
