@@ -84,7 +84,8 @@ lists_keep log (ds ∷ lists) slots k s n r =
     lists_keep log lists (placed ds slots) k (λ i. s (suc i)) (placed-length ds slots ∙ n)
     (placed_keeps log ds slots k (s 0) n r)
 
-lists_right : (log : List Journal) (lists : List (List (Drawn Journal))) (slots : List (Option Entry)) (k o q : ℕ) (x : Drawn Journal) →
+lists_right : (log : List Journal) (lists : List (List (Drawn Journal))) (slots : List (Option Entry)) (k o q : ℕ)
+    (x : Drawn Journal) →
     AllListsStand log lists → length slots ≡ length log → q < length (get_or lists o []) →
     (get_or (get_or lists o []) q x).ticket ≡ suc k → RightAt log (placed_lists lists slots) k
 unfolding AllListsStand
@@ -167,7 +168,8 @@ pub if_ok_more : {A E : Type 0} (r : Result A E) (P Q : A → Type 0) → ((x : 
 if_ok_more (Ok x) P Q f h = f x h
 if_ok_more (Err e) P Q f h = tt
 
-pub in_order_at : (lists same : List (List (Drawn Journal))) (book : Closes meaning_of_journal lists) (slots : List (Option Entry)) →
+pub in_order_at : (lists same : List (List (Drawn Journal))) (book : Closes meaning_of_journal lists)
+    (slots : List (Option Entry)) →
     same ≡ lists → length slots ≡ total_length same → somes (placed_lists same slots) ≡ entries book.log
 in_order_at lists same book slots e n =
     ap (λ (l : List (List (Drawn Journal))). somes (placed_lists l slots)) e
@@ -182,7 +184,8 @@ pub history_of : OwnersMerge →
     IsHistoryOf t (record { header = t.header; entries = entries book.log })
 history_of law t code left seats cut lists e =
     subst
-    (λ (l : List (List (Drawn Journal))). (book : Closes meaning_of_journal l) → AllUnquoted meaning_of_journal left (all_facts seats) l →
+    (λ (l : List (List (Drawn Journal))). (book : Closes meaning_of_journal l) →
+    AllUnquoted meaning_of_journal left (all_facts seats) l →
     All (λ s. AllDrawn code s.read l) seats → IsTrace t → KeptByOwners t code left seats cut →
     IsHistoryOf t (record { header = t.header; entries = entries book.log }))
     (sym e)

@@ -84,7 +84,8 @@ module _ (lists : List (List (Drawn Journal))) (book : Closes meaning_of_journal
       at_place h t j v r
       (place_in r.publ (get_or lists 0 []) (subst (λ (k : ℕ). Has r.publ (get_or lists k [])) zero_is p.1))
     where
-      at_place : (h : Header) (t : ℕ) (j : Journal) (v : ℕ) {code : Coded Journal} {read : List Held} (r : ReadsPub code read t j v) →
+      at_place : (h : Header) (t : ℕ) (j : Journal) (v : ℕ) {code : Coded Journal} {read : List Held}
+          (r : ReadsPub code read t j v) →
           (q : ℕ) × (q < length (get_or lists 0 []))
           × (get_or (get_or lists 0 []) q r.publ ≡ r.publ) → ReadsMasks h lists t j v
       at_place h t j v r (q, lt, is) =

@@ -181,7 +181,8 @@ module _ (h : Header) (closing : Journal → Bool) (log : List Journal) (good : 
   out_closing : (w : What) → j.entry.what ≡ w → j.course.form ≡ Rest → is_out_at_rest w Rest ≡ true → closing j ≡ true
   out_closing w ew f o =
       good.out_closes j (out_closes_here h closing log good ok d pre rest j e m a
-      (subst (λ (x : What). is_out_at_rest x j.course.form ≡ true) (sym ew) (subst (λ (x : Form). is_out_at_rest w x ≡ true) (sym f) o)))
+      (subst (λ (x : What). is_out_at_rest x j.course.form ≡ true) (sym ew)
+      (subst (λ (x : Form). is_out_at_rest w x ≡ true) (sym f) o)))
 
   end_closing : (w : What) → j.entry.what ≡ w → is_end w ≡ true → closing j ≡ true
   end_closing w ew o = good.end_closes j (subst (λ (x : What). is_end x ≡ true) (sym ew) o)

@@ -198,4 +198,5 @@ module _ (t : Trace) (lists : List (List (Drawn Journal))) (book : Closes meanin
       each_from lists book (λ d. Each (λ e. both_tick d.1 e.1 ≡ true → d.1.entry.lane ≡ e.1.entry.lane) lists)
       (λ k i a.
       each_from lists book (λ e. both_tick i e.1 ≡ true → i.entry.lane ≡ e.1.entry.lane)
-      (λ s j b one. tick_lanes i.entry.what j.entry.what i.entry.lane j.entry.lane t.rows one (passes k i a) (passes s j b) ok.ticks))
+      (λ s j b one.
+      tick_lanes i.entry.what j.entry.what i.entry.lane j.entry.lane t.rows one (passes k i a) (passes s j b) ok.ticks))

@@ -204,7 +204,8 @@ gone_at p cpu e = absurd (let k : ⊥ = cc in k)
 
 placed_there : (m : MachineState) (p : Place) (t : ℕ) → IsPlaced m → 1 ≤ times m p t → same_place p (place_at m t) ≡ true
 placed_there m p t placed le =
-    (and_parts (ltb t (length m.places)) (same_place p (place_at m t)) (one_is (is_its_place m p t) (times m p t) (placed.once p t) le)).1
+    (and_parts (ltb t (length m.places)) (same_place p (place_at m t))
+    (one_is (is_its_place m p t) (times m p t) (placed.once p t) le)).1
 
 pub knows_place : (m : MachineState) (cpu t : ℕ) → IsPlaced m → Knows (queue_at m.queues cpu) t →
     is_at (place_at m t) (Queue cpu) ≡ true
