@@ -1,5 +1,5 @@
 //! The ticket book. Owners draw tickets for items by one fetch-and-add of one word; each keeps its own list, and
-//! when the book is closed the lists hold every ticket once (docs/rules/lanes.md).
+//! when the book is closed the lists hold every ticket once (docs/rules/threads.md).
 //!
 //! A seat draws for its owner. A note, which can be sent to another seat, tells that an entry was drawn and what
 //! it leaves; whoever learnt it may quote that entry, once. A seat can also follow another, and then knows what
