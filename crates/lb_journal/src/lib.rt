@@ -9,8 +9,6 @@
 mod journal;
 pub mod laws;
 mod order;
-#[cfg(test)]
-mod tests;
 
 pub use journal::{Journal, Left};
 pub use order::{close_in_order, in_order};

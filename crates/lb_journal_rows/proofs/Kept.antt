@@ -1,9 +1,9 @@
 -- The seats of the run of three entries keep all that is asked of owners.
 use Rattle.std.proofs.Common.{◌≡◌, ℕ, zero, suc, ◌<◌, ◌≤◌, false, Some, List, [], ◌∷◌, ◌++◌, refl, subst, arith, inl, inr, All}
-use Rattle.std.specs.Prelude.{replicate, slice_get}
-use Rattle.std.proofs.lemmas.List.Elements.{All-nil, All-cons, All-map}
+use Rattle.std.specs.Prelude.{slice_get}
+use Rattle.std.proofs.lemmas.List.Elements.{All-nil, All-cons, All-append, All-map}
 use Rattle.std.proofs.lemmas.Option.{get_or_from_slice_get}
-use Rattle.std.specs.List.{slice_index_or}
+use Rattle.std.specs.List.{slice_index_or, range_with_len}
 use base.Stored.{Coded}
 use Rattle.atomic_table.specs.Seated.{TableId}
 use Rattle.lb_base.specs.Mask.{has, members_below, members}
@@ -27,15 +27,16 @@ use Rattle.lb_journal.specs.Journal.{Journal, Left, number_of, sight_in}
 use Rattle.lb_journal.specs.Known.{KnowsRest}
 use Rattle.lb_journal.specs.Merge.{ClosesBy, closing_out, is_end, pending_before, unserved_before}
 use Rattle.lb_journal.specs.Owners.{InAll, UsesVersion, ReadsAll, ReadsFigure, ClosesAs, own_rows, lists_of, KeptByOwners}
-use Rattle.lb_journal_rows.specs.Seats.{woken_header, woken_trace, row_item, answer_item, end_item, drawn, seat, last, end_seat, lane_seat, queue_seat, other_seats, seats}
+use Rattle.lb_journal_rows.specs.Seats.{woken_header, woken_trace, row_item, answer_item, end_item, drawn, seat, last, end_seat, lane_seat, queue_seat, idle_seats, other_seats, seats}
 
 module _ (id : TableId) (code : Coded Journal) (left : Coded Left) where
-  empties : (P : SeatIs Journal → Type 0) (n : ℕ) (rest : List (SeatIs Journal)) → P (seat id left 3 [] []) →
+  empties : (P : SeatIs Journal → Type 0) (rest : List (SeatIs Journal)) → ((n : ℕ) → P (seat id left n [] [])) →
       All P rest →
-      All P (replicate n (seat id left 3 [] []) ++ rest)
-  empties P zero rest e all = all
-  empties P (suc n) rest e all =
-      All-cons P (seat id left 3 [] []) (replicate n (seat id left 3 [] []) ++ rest) e (empties P n rest e all)
+      All P (idle_seats id left ++ rest)
+  empties P rest e all =
+      All-append P (idle_seats id left) rest
+      (All-map P (λ (n : ℕ). seat id left n [] []) (range_with_len 3 14) (λ k n lt. e (slice_index_or (range_with_len 3 14) k n)))
+      all
 
   one : (P : Drawn Journal → Type 0) (d : Drawn Journal) → P d → All P (d ∷ [])
   one P d p = All-cons P d [] p (All-nil P)
@@ -49,7 +50,7 @@ module _ (id : TableId) (code : Coded Journal) (left : Coded Left) where
       let queue : All Q ((queue_seat id left) ∷ []) =
       All-cons Q (queue_seat id left) [] (one (P (queue_seat id left)) (drawn 2 answer_item) b) (All-nil Q) in
       let rest : All Q (other_seats id left) =
-      empties Q 14 ((queue_seat id left) ∷ []) (All-nil (P (seat id left 3 [] []))) queue in
+      empties Q ((queue_seat id left) ∷ []) (λ n. All-nil (P (seat id left n [] []))) queue in
       All-cons Q (seat id left 0 [] []) ((end_seat id left) ∷ (lane_seat id left) ∷ (other_seats id left))
       (All-nil (P (seat id left 0 [] [])))
       (All-cons Q (end_seat id left) ((lane_seat id left) ∷ (other_seats id left))

@@ -1,2 +1,4 @@
+mod Premises
 mod Missing
 mod Kept
+mod Drawing

@@ -1,6 +1,5 @@
--- What the lists of three faulty histories miss of what the merge asks for.
-use Rattle.std.proofs.Common.{◌≡◌, ℕ, zero, suc, ◌<◌, ◌≤◌, Bool, true, false, not, ◌||◌, eqb, leb, ltb, List, [], ◌∷◌, map, refl, ap, arith, eq-eqb, All, true≢false}
-use Rattle.std.specs.List.{list_all}
+-- What three worked lists miss of what the merge asks for, and that they meet all else.
+use Rattle.std.proofs.Common.{◌≡◌, ℕ, zero, suc, ◌<◌, ◌≤◌, true, false, not, ◌||◌, eqb, leb, ltb, List, [], ◌∷◌, refl, ap, arith, eq-eqb, All, true≢false}
 use Rattle.std.proofs.lemmas.Bool.{and_parts, both_ways, leb-true}
 use Rattle.std.proofs.lemmas.List.Elements.{All-nil, All-cons}
 use Rattle.lb_base.specs.Mask.{has, members_below, members, first_cpus, only, both, either, without}
@@ -12,53 +11,123 @@ use Rattle.lb_newidle.specs.Budget.{average_after}
 use Rattle.lb_queue.specs.Tasks.{pick_back, somebody_runs, joined, left_by}
 use Rattle.lb_queue.specs.Queue.{away}
 use Rattle.lb_queue.specs.Commands.{wake, sleep, exit, set_mask, renice}
+use Rattle.lb_queue.specs.Hands.{land, take_stop}
+use Rattle.lb_queue.specs.Turns.{close_look}
 use Rattle.lb_queue.specs.Requests.{has_pending, has_owed, next_asked, rotated, tick}
 use Rattle.lb_core.specs.declared.course.Form.TheVariants.{Asked, Rest}
+use Rattle.lb_core.specs.declared.entry.What.TheVariants.{End}
+use Rattle.lb_core.specs.declared.rule.Rule.{Rule}
+use Rattle.lb_core.specs.declared.rule.Rule.TheVariants.{Stage}
 use Rattle.lb_core.specs.Course.{opening_course}
 use Rattle.lb_core.specs.Stage.{draws, stage_allows}
 use Rattle.lb_core.specs.Leaving.{leaving}
+use Rattle.lb_core.specs.Rules.{breaks_here}
 use Rattle.lb_core.specs.QueueAfter.{queue_after}
 use Rattle.lb_core.specs.CourseAfter.{turn_ends, course_after}
 use Rattle.lb_core.specs.Machine.{opening_queue, start, sight}
-use Rattle.lb_core.specs.Step.{after}
-use Rattle.lb_rows.specs.Lines.{cpus, by_lane}
-use Rattle.lb_rows.specs.Lanes.{closing_before_all_rest_history}
-use Rattle.lb_rows.specs.Faults.{undeclared_lane_history, unpublished_figure_history}
-use Rattle.lb_core.specs.declared.entry.What.TheVariants.{End}
-use Rattle.lb_ticket.specs.declared.item.Drawn.{Drawn}
-use Rattle.lb_ticket.specs.Tickets.{pair}
-use Rattle.lb_journal.specs.Journal.{Journal, Fits}
-use Rattle.lb_journal.specs.Merge.{Each, is_closing, CarriesRead, LeavesAtRest}
-use Rattle.lb_journal_rows.specs.Lists.{by_owner}
+use Rattle.lb_core.specs.Step.{first_broken, after}
+use Rattle.lb_core.specs.Legal.{first_fault}
+use Rattle.lb_rows.specs.Lines.{cpus, by_lane, fault_at}
+use Rattle.lb_journal.specs.Journal.{Journal, Fits, sight_in}
+use Rattle.lb_journal.specs.Merge.{Each, is_closing, CarriesRead, LeavesAtRest, MayMerge, pending_before, unserved_before}
+use Rattle.lb_journal_rows.specs.Lists.{by_owner, merged}
+use Rattle.lb_journal_rows.specs.Missing.{MeetsOthers, CarriesFigures, lone_header, stray_row, stray_pub, lone_end, stray_lists, early_look_history, early_closing_history}
+use Rattle.lb_journal_rows.proofs.Premises.{third, each_by, others_pass, rest_pass, figures_pass, headers_are}
 
 -- ---- a lane that is not declared
-pub undeclared : (ds : List (ℕ × Journal)) (j : Journal) → j.header ≡ undeclared_lane_history.header →
-    j.entry.lane ≡ 1 →
-    Fits ds j → ⊥
+pub undeclared : (ds : List (ℕ × Journal)) (j : Journal) → j.header ≡ lone_header 1 → j.entry.lane ≡ 1 → Fits ds j → ⊥
 undeclared ds j h l fits =
     both_ways (ltb j.entry.lane j.header.lanes) (λ i. ltb (l i) (h i).lanes)
     (and_parts (ltb j.entry.lane j.header.lanes) _ fits.declared).0
 
--- ---- a test of each item of lists
-module _ (p : ℕ × Journal → Bool) (P : ℕ × Journal → Type 0) (f : (d : ℕ × Journal) → p d ≡ true → P d) where
-  all_by : (ds : List (Drawn Journal)) → list_all (λ d. p (pair d)) ds ≡ true → All P (map pair ds)
-  all_by [] e = All-nil P
-  all_by (d ∷ ds) e =
-      let s = and_parts (p (pair d)) _ e in
-      All-cons P (pair d) (map pair ds) (f (pair d) s.0) (all_by ds s.1)
+-- with lane 1 declared, all three items fit
+row_allowed : (rule : Rule) → breaks_here rule (sight_in [] (stray_row 2)) (stray_row 2).entry ≡ false
+unfolding draws stage_allows sight_in is_below are_apart members members_below has
+row_allowed Stage = refl
+row_allowed rule = refl
 
-  each_by : (lists : List (List (Drawn Journal))) → list_all (λ ds. list_all (λ d. p (pair d)) ds) lists ≡ true →
-      Each P lists
-  each_by [] e k = All-nil P
-  each_by (ds ∷ lists) e zero = all_by ds (and_parts (list_all (λ d. p (pair d)) ds) _ e).0
-  each_by (ds ∷ lists) e (suc k) = each_by lists (and_parts (list_all (λ d. p (pair d)) ds) _ e).1 k
+pub_allowed : (rule : Rule) → breaks_here rule (sight_in [] (stray_pub 2)) (stray_pub 2).entry ≡ false
+unfolding draws stage_allows sight_in course_after
+pub_allowed Stage = refl
+pub_allowed rule = refl
+
+end_allowed : (rule : Rule) → breaks_here rule (sight_in [] (lone_end 2)) (lone_end 2).entry ≡ false
+unfolding draws stage_allows sight_in
+end_allowed Stage = refl
+end_allowed rule = refl
+
+pub declared_fit : Fits [] (stray_row 2) × Fits [] (stray_pub 2) × Fits [] (lone_end 2)
+unfolding course_after sight_in
+declared_fit = (
+  record {
+    header = All-nil _;
+    declared = refl;
+    allowed = row_allowed;
+    after = refl;
+    first = λ e. record { course = refl; allowed = refl };
+    masks = refl;
+    figs = refl;
+    turn = tt;
+  },
+  record {
+    header = All-nil _;
+    declared = refl;
+    allowed = pub_allowed;
+    after = refl;
+    first = λ e. absurd (let k : ⊥ = cc in k);
+    masks = refl;
+    figs = refl;
+    turn = tt;
+  },
+  record {
+    header = All-nil _;
+    declared = refl;
+    allowed = end_allowed;
+    after = refl;
+    first = λ e. record { course = refl; allowed = refl };
+    masks = refl;
+    figs = refl;
+    turn = tt;
+  },
+)
+
+one : (P : ℕ × Journal → Type 0) (d : ℕ × Journal) → P d → All P (d ∷ [])
+one P d p = All-cons P d [] p (All-nil P)
+
+stray_headers : Each (λ d. d.1.header ≡ lone_header 1) (stray_lists 1)
+stray_headers zero = one (λ d. d.1.header ≡ lone_header 1) _ refl
+stray_headers (suc zero) = one (λ d. d.1.header ≡ lone_header 1) _ refl
+stray_headers (suc (suc zero)) = one (λ d. d.1.header ≡ lone_header 1) _ refl
+stray_headers (suc (suc (suc k))) = All-nil (λ d. d.1.header ≡ lone_header 1)
+
+pub stray_meets : MayMerge (lone_header 1) (stray_lists 1)
+unfolding
+    has members_below members only least mask_where has_pending has_owed next_asked draws stage_allows leaving queue_after
+    turn_ends course_after opening_queue sight_in pending_before unserved_before
+stray_meets =
+    let others = others_pass (lone_header 1) (stray_lists 1) stray_headers refl refl in
+    record {
+      headers = others.headers;
+      ticks = others.ticks;
+      closing_last = others.closing_last;
+      at_rest = rest_pass (lone_header 1) (stray_lists 1) refl;
+      closes = others.closes;
+      begins = others.begins;
+      ends = others.ends;
+      figures = figures_pass (lone_header 1) (stray_lists 1) refl;
+      masks = others.masks;
+    }
+
+pub stray_breaks : first_fault (lone_header 1) (merged (stray_lists 1)) ≡ fault_at 1 Stage
+unfolding draws stage_allows leaving queue_after turn_ends course_after opening_queue start sight first_broken after
+stray_breaks = refl
 
 -- stands for an item that a list lacks
 no_item : ℕ × Journal
 no_item = (
   0,
   record {
-    header = undeclared_lane_history.header;
+    header = lone_header 1;
     entry = by_lane 0 0 (End (cpus 0));
     course = opening_course 1;
     after = opening_course 1;
@@ -68,21 +137,16 @@ no_item = (
 )
 
 -- ---- a figure that its queue has not published: lane 0's third item, the look, names it
-pub unpublished : Each (λ d. CarriesRead unpublished_figure_history.header
-    (by_owner unpublished_figure_history) d.0 d.1 d.1.entry.what) (by_owner unpublished_figure_history) →
+pub unpublished : Each (λ d. CarriesRead early_look_history.header
+    (by_owner early_look_history) d.0 d.1 d.1.entry.what) (by_owner early_look_history) →
     ⊥
 unpublished all =
-    let lt : 2 < 3 = omega arith in
+    let lt : 2 < 4 = omega arith in
     let e : true ≡ false = (all 1 2 no_item lt).earlier in
     true≢false e
 
 -- ---- a lane that is not at rest: lane 1's only item is a row
-third : (a b c : Bool) → a || b || c ≡ true → a ≡ false → b ≡ false → c ≡ true
-third true b c e x y = absurd (true≢false x)
-third false true c e x y = absurd (true≢false y)
-third false false c e x y = e
-
-pub not_at_rest : LeavesAtRest (by_owner closing_before_all_rest_history) → ⊥
+pub not_at_rest : LeavesAtRest (by_owner early_closing_history) → ⊥
 unfolding
     has members_below members first_cpus only both either without least least_above is_below are_apart mask_where
     weights weight_of inverses inverse_at decayed advanced_by advanced signal_value average_after
@@ -90,7 +154,7 @@ unfolding
     has_pending has_owed next_asked rotated tick draws stage_allows leaving queue_after turn_ends course_after
     opening_queue start sight after
 not_at_rest rests =
-    let lists = by_owner closing_before_all_rest_history in
+    let lists = by_owner early_closing_history in
     let lt : 0 < 1 = omega arith in
     let last : Each (λ e. is_closing lists e.1 ≡ false → e.1.entry.lane ≡ 1 → e.0 ≤ 5) lists =
     each_by (λ e. not (eqb e.1.entry.lane 1) || is_closing lists e.1 || leb e.0 5)
@@ -102,3 +166,30 @@ not_at_rest rests =
     lists refl in
     let e : Asked ≡ Rest = rests 2 0 no_item lt refl last in
     let z : ⊥ = cc in z
+
+-- ---- what they meet
+pub look_meets : MeetsOthers early_look_history.header (by_owner early_look_history)
+    × LeavesAtRest (by_owner early_look_history)
+unfolding
+    has members_below members first_cpus only both either without least least_above is_below are_apart mask_where
+    weights weight_of inverses inverse_at decayed advanced_by advanced signal_value average_after
+    pick_back somebody_runs joined left_by away wake sleep exit set_mask renice
+    has_pending has_owed next_asked rotated tick draws stage_allows leaving queue_after turn_ends course_after
+    opening_queue start sight after pending_before unserved_before close_look
+look_meets = (
+  others_pass early_look_history.header (by_owner early_look_history) (headers_are early_look_history) refl refl,
+  rest_pass early_look_history.header (by_owner early_look_history) refl,
+)
+
+pub closing_meets : MeetsOthers early_closing_history.header (by_owner early_closing_history)
+    × CarriesFigures early_closing_history.header (by_owner early_closing_history)
+unfolding
+    has members_below members first_cpus only both either without least least_above is_below are_apart mask_where
+    weights weight_of inverses inverse_at decayed advanced_by advanced signal_value average_after
+    pick_back somebody_runs joined left_by away wake sleep exit set_mask renice
+    has_pending has_owed next_asked rotated tick draws stage_allows leaving queue_after turn_ends course_after
+    opening_queue start sight after pending_before unserved_before land take_stop
+closing_meets = (
+  others_pass early_closing_history.header (by_owner early_closing_history) (headers_are early_closing_history) refl refl,
+  figures_pass early_closing_history.header (by_owner early_closing_history) refl,
+)

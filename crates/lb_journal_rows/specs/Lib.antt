@@ -1,2 +1,4 @@
 pub mod Lists
 pub mod Seats
+pub mod Drawing
+pub mod Missing

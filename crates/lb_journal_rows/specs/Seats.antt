@@ -1,6 +1,7 @@
 -- The seats of a run of three entries: lane 1 takes up its row, a wake; queue 0 answers it; lane 0, which has
 -- no row, draws the end.
-use Rattle.std.specs.Prelude.{ℕ, false, List, [], ◌∷◌, ◌++◌, replicate, pos}
+use Rattle.std.specs.Prelude.{ℕ, List, [], ◌∷◌, ◌++◌, map, pos}
+use Rattle.std.specs.List.{range_with_len}
 use base.Stored.{Coded}
 use Rattle.atomic_table.specs.Seated.{TableId}
 use Rattle.lb_queue.specs.declared.answers.Reply.TheVariants.{Done as DoneReply}
@@ -27,11 +28,14 @@ woken_trace = record {
   rows = record { lane = 1; at = 5; command = Wake 0 } ∷ [];
 }
 
--- the first item of its owner, which quotes an entry that left this course
-abbrev pub first_item : Entry → Course → Journal
-first_item e c =
-    let j : Journal = record { header = woken_header; entry = e; course = c; after = c; masks = []; figs = [] } in
+-- the first item of its owner, on a machine, which quotes an entry that left this course
+abbrev pub item_on : Header → Entry → Course → Journal
+item_on h e c =
+    let j : Journal = record { header = h; entry = e; course = c; after = c; masks = []; figs = [] } in
     record j { after = course_after (sight_in [] j) e }
+
+abbrev pub first_item : Entry → Course → Journal
+first_item e c = item_on woken_header e c
 
 abbrev pub row_item : Journal
 row_item = first_item (by_lane 1 0 (Row 1 5 (Wake 0))) (opening_course 1)
@@ -71,8 +75,12 @@ module _ (id : TableId) (left : Coded Left) where
   abbrev pub queue_seat : SeatIs Journal
   queue_seat = seat 17 (drawn 2 answer_item ∷ []) []
 
+  -- those of lanes 2 to 15, which are not declared
+  abbrev pub idle_seats : List (SeatIs Journal)
+  idle_seats = map (λ n. seat n [] []) (range_with_len 3 14)
+
   abbrev pub other_seats : List (SeatIs Journal)
-  other_seats = replicate 14 (seat 3 [] []) ++ queue_seat ∷ []
+  other_seats = idle_seats ++ queue_seat ∷ []
 
   abbrev pub seats : List (SeatIs Journal)
   seats = seat 0 [] [] ∷ end_seat ∷ lane_seat ∷ other_seats

@@ -1,17 +1,19 @@
 //! Each function's contract is a theorem about worked histories, and its body calls those that it stands on.
-ghost use Rattle.std.specs.Prelude.{◌≡◌, ℕ, List};
+ghost use Rattle.std.specs.Prelude.{◌≡◌, ℕ, List, []};
 ghost use base.Stored.{Coded};
 ghost use Rattle.atomic_table.specs.Seated.{TableId};
+ghost use Rattle.lb_core.specs.declared.history.History.{History};
 ghost use Rattle.lb_core.specs.Legal.{first_fault};
 ghost use Rattle.lb_core.specs.declared.rule.Rule.TheVariants.{Figure, Stage};
 ghost use Rattle.lb_rows.specs.Lines.{fault_at};
 ghost use Rattle.lb_rows.specs.Balancing.{one_task_moves_history};
-ghost use Rattle.lb_rows.specs.Lanes.{commands_round_a_hand_history, closing_before_all_rest_history};
-ghost use Rattle.lb_rows.specs.Faults.{undeclared_lane_history, unpublished_figure_history};
+ghost use Rattle.lb_rows.specs.Commands.{rebuilt_history};
+ghost use Rattle.lb_rows.specs.Lanes.{commands_round_a_hand_history};
 ghost use Rattle.lb_journal.specs.Journal.{Journal, Left, Fits};
-ghost use Rattle.lb_journal.specs.Merge.{Each, CarriesRead, LeavesAtRest};
+ghost use Rattle.lb_journal.specs.Merge.{Each, CarriesVersion, LeavesAtRest, MayMerge};
 ghost use Rattle.lb_journal.specs.Owners.{KeptByOwners};
 ghost use Rattle.lb_journal_rows.specs.Lists.{by_owner, merged};
+ghost use Rattle.lb_journal_rows.specs.Missing.{MeetsOthers, CarriesFigures, lone_header, stray_row, stray_pub, lone_end, stray_lists, early_look_history, early_closing_history};
 ghost use Rattle.lb_journal_rows.specs.Seats.{woken_trace, seats};
 
 use lb_rows::{faults, lanes};
@@ -20,30 +22,47 @@ use lb_rows::{faults, lanes};
 pub fn merged_back()
     ensures one_lane { merged (by_owner one_task_moves_history) ≡ one_task_moves_history.entries }
     ensures two_lanes { merged (by_owner commands_round_a_hand_history) ≡ commands_round_a_hand_history.entries }
+    ensures rebuilt { merged (by_owner rebuilt_history) ≡ rebuilt_history.entries }
 {}
 
-/// No item of a lane that the header does not declare fits any list; its entry breaks the rule `stage`.
-pub fn undeclared_lane()
-    ensures misses { (ds : List (ℕ × Journal)) (j : Journal) → j.header ≡ undeclared_lane_history.header → j.entry.lane ≡ 1 → Fits ds j → ⊥ }
-    ensures breaks { first_fault undeclared_lane_history.header (merged (by_owner undeclared_lane_history)) ≡ fault_at 1 Stage }
-{
-    faults::undeclared_lane();
-}
+/// Each item of the lists of a history carries its header, and each `use` of the worked ones the masks of its
+/// version: those of the header, or of the rebuild that the publisher's entry of that version serves.
+pub fn header_and_masks()
+    ensures header { (history : History) → Each (λ d. d.1.header ≡ history.header) (by_owner history) }
+    ensures one_lane { Each (λ d. CarriesVersion one_task_moves_history.header (by_owner one_task_moves_history)
+        d.0 d.1 d.1.entry.what) (by_owner one_task_moves_history) }
+    ensures rebuilt { Each (λ d. CarriesVersion rebuilt_history.header (by_owner rebuilt_history)
+        d.0 d.1 d.1.entry.what) (by_owner rebuilt_history) }
+{}
 
-/// A look names a figure that its queue has not published: the figures are not those of earlier entries, and the
-/// merge breaks the rule `figure`.
+/// What `declared` of the owner's test is for. A lane that the header does not declare takes up a row, and the
+/// publisher answers it. The lists meet all premises of the merge, and each item would fit where that lane is
+/// declared; as it is not, none of the lane fits any list. The merge breaks the rule `stage`.
+pub fn undeclared_lane()
+    ensures misses { (ds : List (ℕ × Journal)) (j : Journal) → j.header ≡ lone_header 1 → j.entry.lane ≡ 1 → Fits ds j → ⊥ }
+    ensures declared { Fits [] (stray_row 2) × Fits [] (stray_pub 2) × Fits [] (lone_end 2) }
+    ensures others { MayMerge (lone_header 1) (stray_lists 1) }
+    ensures breaks { first_fault (lone_header 1) (merged (stray_lists 1)) ≡ fault_at 1 Stage }
+{}
+
+/// What the premise `figures` is for. A look names a figure that its queue has not published. The lists meet all
+/// other premises, and the merge breaks the rule `figure`.
 pub fn unpublished_figure()
-    ensures misses { Each (λ d. CarriesRead unpublished_figure_history.header (by_owner unpublished_figure_history) d.0 d.1 d.1.entry.what) (by_owner unpublished_figure_history) → ⊥ }
-    ensures breaks { first_fault unpublished_figure_history.header (merged (by_owner unpublished_figure_history)) ≡ fault_at 5 Figure }
+    ensures misses { CarriesFigures early_look_history.header (by_owner early_look_history) → ⊥ }
+    ensures others { MeetsOthers early_look_history.header (by_owner early_look_history)
+        × LeavesAtRest (by_owner early_look_history) }
+    ensures breaks { first_fault early_look_history.header (merged (by_owner early_look_history)) ≡ fault_at 5 Figure }
 {
     faults::unpublished_figure();
 }
 
-/// Lane 0 serves a stop at rest while lane 1's row is not answered: the closing does not find every lane at rest,
-/// and the merge breaks the rule `stage`.
+/// What the premise `at_rest` is for. Lane 0 serves a stop at rest while lane 1's row is not answered: the closing
+/// does not find every lane at rest. The lists meet all other premises, and the merge breaks the rule `stage`.
 pub fn closing_before_all_rest()
-    ensures misses { LeavesAtRest (by_owner closing_before_all_rest_history) → ⊥ }
-    ensures breaks { first_fault closing_before_all_rest_history.header (merged (by_owner closing_before_all_rest_history)) ≡ fault_at 6 Stage }
+    ensures misses { LeavesAtRest (by_owner early_closing_history) → ⊥ }
+    ensures others { MeetsOthers early_closing_history.header (by_owner early_closing_history)
+        × CarriesFigures early_closing_history.header (by_owner early_closing_history) }
+    ensures breaks { first_fault early_closing_history.header (merged (by_owner early_closing_history)) ≡ fault_at 6 Stage }
 {
     lanes::closing_before_all_rest();
 }

@@ -6,3 +6,6 @@ returns-clause-one_lane c = refl
 
 pub returns-clause-two_lanes : goal.returns-clause-two_lanes
 returns-clause-two_lanes c = refl
+
+pub returns-clause-rebuilt : goal.returns-clause-rebuilt
+returns-clause-rebuilt c = refl

@@ -1,14 +1,14 @@
-use Rattle.std.proofs.Common.{◌≡◌, ◌∙◌, ap, refl}
-use Rattle.lb_core.specs.Legal.{first_fault}
-use Rattle.lb_rows.specs.Faults.{undeclared_lane_history}
-use Rattle.lb_journal_rows.specs.Lists.{by_owner, merged}
-use Rattle.lb_journal_rows.proofs.Missing.{undeclared}
+use Rattle.lb_journal_rows.proofs.Missing.{undeclared, declared_fit, stray_meets, stray_breaks}
 use Rattle.lb_journal_rows.proofs.laws.undeclared_lane.Goals as goal
 
 pub returns-clause-misses : goal.returns-clause-misses
 returns-clause-misses c = undeclared
 
+pub returns-clause-declared : goal.returns-clause-declared
+returns-clause-declared c = declared_fit
+
+pub returns-clause-others : goal.returns-clause-others
+returns-clause-others c = stray_meets
+
 pub returns-clause-breaks : goal.returns-clause-breaks
-returns-clause-breaks c =
-    let back : merged (by_owner undeclared_lane_history) ≡ undeclared_lane_history.entries = refl in
-    ap (first_fault undeclared_lane_history.header) back ∙ c.undeclared_lane.ensures
+returns-clause-breaks c = stray_breaks
