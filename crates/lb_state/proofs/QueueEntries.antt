@@ -35,8 +35,8 @@ use Rattle.lb_ready.specs.Calls.{TurnAsks as TurnMeets, IsOnAt, LandedAsks as La
 use Rattle.lb_ready.specs.Lanes.{Suits}
 use Rattle.lb_ready.specs.Laws.{TasksStand}
 use Rattle.lb_ready.specs.Ready.{IsReady, Names}
-use Rattle.lb_parts.specs.Asks.{IsMapped, is_awake_place, HasTurn, IsInWork, PullAsks}
-use Rattle.lb_parts.specs.Takes.{AnswerAsks, LandedAsks, TurnAsks, CloseAsks, OverAsks}
+use Rattle.lb_engine.specs.Asks.{IsMapped, is_awake_place, HasTurn, IsInWork, PullAsks}
+use Rattle.lb_engine.specs.Takes.{AnswerAsks, LandedAsks, TurnAsks, CloseAsks, OverAsks}
 use Rattle.lb_queue.specs.declared.record.TaskRecord.{TaskRecord}
 
 abbrev pub opens_or_shuts : What → Bool

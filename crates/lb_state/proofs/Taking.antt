@@ -1,4 +1,4 @@
--- An entry that may be added to a ready machine meets what its step asks of the parts.
+-- An entry that may be added to a ready machine meets what its step asks of the engine.
 use Rattle.std.proofs.Common.{arith, ◌≡◌, ℕ, ◌<◌, Bool, true, false, length, Option, refl, sym, ◌∙◌, not}
 use Rattle.std.proofs.lemmas.Bool.{or_parts, not-false}
 use Rattle.lb_domain.specs.Laws.{LieInside}
@@ -23,7 +23,7 @@ use Rattle.lb_ready.specs.Calls.{QueueAsks as QueueMeets}
 use Rattle.lb_ready.specs.Lanes.{Suits, LanesSuit}
 use Rattle.lb_ready.specs.Laws.{StaysReady, CallsMayBeMade, TasksStand}
 use Rattle.lb_ready.specs.Ready.{IsReady, is_in_range}
-use Rattle.lb_parts.specs.Takes.{QueueAsks, OfQueueAsks, OwnerAsks, is_landing}
+use Rattle.lb_engine.specs.Takes.{QueueAsks, OfQueueAsks, OwnerAsks, is_landing}
 use Rattle.lb_state.specs.Laws.{StepsMayBeTaken}
 use Rattle.lb_state.proofs.LaneEntries.{lane_asks}
 use Rattle.lb_state.proofs.QueueEntries.{did_asks, turn_asks, close_asks, over_asks, landed_asks, some_not_none}

@@ -11,8 +11,8 @@ use crate::laws::{hands_may_land, steps_may_be_taken};
 use lb_base::NoMemory;
 use lb_core::{Entry, MAX_TICKET, Rule};
 use lb_draw::next_entry;
+use lb_engine::Engine;
 use lb_judge::first_broken;
-use lb_parts::Parts;
 use lb_ready::laws::{entries_fit, ready};
 use lb_trace::{Header, Row};
 use std::alloc::Global;
@@ -20,12 +20,12 @@ use std::marker::Model;
 
 mod readers;
 
-/// The machine after some legal entries of an accepted trace (docs/rules/lanes.md). Its parts change in
+/// The machine after some legal entries of an accepted trace (docs/rules/lanes.md). Its engine changes in
 /// place: no step copies a queue, a topology or the history.
 ///
 /// Contracts see the machine itself.
 pub struct State {
-    parts: Parts,
+    engine: Engine,
 }
 
 impl Model for State {
@@ -34,9 +34,9 @@ impl Model for State {
 
     ghost Value = { MachineState };
 
-    ghost view = { λ s. s.parts.machine };
+    ghost view = { λ s. s.engine.machine };
 
-    ghost invariant = { λ s. IsInside s.parts };
+    ghost invariant = { λ s. IsInside s.engine };
 }
 
 impl State {
@@ -47,8 +47,8 @@ impl State {
     {
         // the opening machine is ready
         ready();
-        let parts = Parts::start(alloc, header)?;
-        Ok(State { parts })
+        let engine = Engine::start(alloc, header)?;
+        Ok(State { engine })
     }
 
     /// Judges an entry, and takes it where it may be added. The answer is the first rule that it breaks
@@ -63,9 +63,9 @@ impl State {
     {
         ready();
         steps_may_be_taken();
-        let broken = first_broken(alloc, &self.parts, entry)?;
+        let broken = first_broken(alloc, &self.engine, entry)?;
         if broken.is_none() {
-            self.parts.take(alloc, entry)?;
+            self.engine.take(alloc, entry)?;
         }
         Ok(broken)
     }
@@ -95,12 +95,12 @@ impl State {
         ready();
         entries_fit();
         steps_may_be_taken();
-        if self.parts.ticket() >= MAX_TICKET {
+        if self.engine.ticket() >= MAX_TICKET {
             return Err(NoMemory);
         }
-        let drawn = next_entry(alloc, &self.parts, lane, row)?;
+        let drawn = next_entry(alloc, &self.engine, lane, row)?;
         if let Some(entry) = &drawn {
-            self.parts.take(alloc, entry)?;
+            self.engine.take(alloc, entry)?;
         }
         Ok(drawn)
     }
@@ -110,7 +110,7 @@ impl Drop for State {
     fn drop(self) {
         // the hands go to queues where they may land
         hands_may_land();
-        let State { parts } = self;
-        parts.end();
+        let State { engine } = self;
+        engine.end();
     }
 }

@@ -11,7 +11,7 @@ use Rattle.lb_state.proofs.state.State.draw.Goals as goal
 
 pub take-requires-clause-asks : goal.take-requires-clause-asks
 take-requires-clause-asks c =
-    let m = c.self.inside.parts.machine in
+    let m = c.self.inside.engine.machine in
     let e = c.in-Some.entry in
     let ready : IsReady m = c.self.invariant.ready in
     let next : IsSerialNext m c.args.lane (option_copied c.args.row) e =
@@ -26,7 +26,7 @@ take-requires-clause-asks c =
 
 pub invariant_of-self : goal.invariant_of-self
 invariant_of-self c =
-    let m = c.self.inside.parts.machine in
+    let m = c.self.inside.engine.machine in
     let e = c.in-Some.entry in
     let ready : IsReady m = c.self.invariant.ready in
     let next : IsSerialNext m c.args.lane (option_copied c.args.row) e =
