@@ -1,4 +1,4 @@
--- The work and its report make the answer, and the answer completes.
+-- For `once`: what its work says and what its report tells give the clauses `answers` and `completes`.
 use Rattle.std.proofs.Common.{◌≡◌, ℕ, List, Some, refl, sym, ◌∙◌, subst, inl, inr}
 use Rattle.lb_words.specs.declared.work.Work.{Work}
 use Rattle.lb_words.specs.Words.{work_of}

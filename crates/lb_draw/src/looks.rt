@@ -2,7 +2,8 @@
 ghost use Rattle.std.specs.Prelude.{◌≡◌, ◌<◌, IfOk, length};
 ghost use Rattle.lb_core.specs.declared.course.Form.TheVariants as form;
 ghost use Rattle.lb_core.specs.Machine.{queue_at};
-ghost use Rattle.lb_due.specs.Turns.{HasPosition, HasTurn, named_sight};
+ghost use Rattle.lb_engine.specs.Asks.{HasPosition, HasTurn};
+ghost use Rattle.lb_due.specs.Turns.{named_sight};
 ghost use Rattle.lb_ready.specs.Calls.{DecideAsks};
 ghost use Rattle.lb_ready.specs.Next.{look_over, newest_due, scan_over, what_by};
 ghost use Rattle.lb_ready.specs.Ready.{IsReady};

@@ -48,7 +48,7 @@ pub fn next_entry(
     next_of(alloc, engine, lane, row)
 }
 
-// By the definition.
+// What comes next.
 fn next_of(
     alloc: Global,
     engine: &Engine,

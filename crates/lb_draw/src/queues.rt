@@ -5,7 +5,7 @@ ghost use Rattle.lb_core.specs.declared.history.TheConstants.{MAX_TICKET};
 ghost use Rattle.lb_core.specs.Leaving.{out_by};
 ghost use Rattle.lb_core.specs.Machine.{queue_at};
 ghost use Rattle.lb_due.specs.Replies.{AnswersAt};
-ghost use Rattle.lb_due.specs.Turns.{HasPosition, HasTurn, PullsAt};
+ghost use Rattle.lb_engine.specs.Asks.{HasPosition, HasTurn, PullAsks};
 ghost use Rattle.lb_ready.specs.Calls.{TurnAsks};
 ghost use Rattle.lb_ready.specs.Next.{bare, close_of, out_of, what_by};
 ghost use Rattle.lb_ready.specs.Ready.{IsReady, Names};
@@ -23,7 +23,7 @@ use std::alloc::Global;
 
 // The tasks that are to leave the queue of a CPU.
 fn out(alloc: Global, engine: &Engine, course: &Course, cpu: u32) -> Result<What, NoMemory>
-    requires turn { PullsAt course.now.form engine.now.machine course.now }
+    requires turn { PullAsks course.now.form engine.now.machine course.now }
     requires there { cpu < length engine.now.machine.queues }
     ensures { IfOk result (λ what.
         what ≡ out_of (out_by course.now.form engine.now.machine.header course.now (queue_at engine.now.machine.queues cpu))) }

@@ -11,7 +11,8 @@ ghost use Rattle.lb_core.specs.Machine.{entries_at, figures_at, figures_named};
 ghost use Rattle.lb_ready.specs.Ready.{IsReady};
 ghost use Rattle.lb_ready.specs.Calls.{DecideAsks};
 ghost use Rattle.lb_ready.specs.Next.{newest};
-ghost use Rattle.lb_due.specs.Turns.{HasPosition, named_sight};
+ghost use Rattle.lb_engine.specs.Asks.{HasPosition};
+ghost use Rattle.lb_due.specs.Turns.{named_sight};
 
 use crate::turns::decision_by;
 use lb_base::{Fig, Items, MAX_CPUS, Mask, NoMemory};

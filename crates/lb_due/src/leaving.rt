@@ -5,7 +5,7 @@ ghost use Rattle.lb_queue.specs.Requests.{next_stop};
 ghost use Rattle.lb_queue.specs.Values.{views};
 ghost use Rattle.lb_core.specs.Leaving.{out_by, stop_out, push_out, pull_out, wake_out};
 ghost use Rattle.lb_due.specs.Outs.{out_due};
-ghost use Rattle.lb_due.specs.Turns.{PullsAt};
+ghost use Rattle.lb_engine.specs.Asks.{PullAsks};
 
 use crate::turns::env_due;
 use lb_active::active_pick;
@@ -36,7 +36,7 @@ pub fn out_of_queue(
     course: &Course,
     queue: &Queue,
 ) -> Result<Option<Out>, NoMemory>
-    requires { PullsAt course.now.form engine.now.machine course.now }
+    requires { PullAsks course.now.form engine.now.machine course.now }
     ensures { IfOk result (λ due. due ≡ out_due (out_by course.now.form engine.now.machine.header course.now queue.now.state)) }
 {
     match course.form {

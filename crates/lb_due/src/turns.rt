@@ -8,7 +8,7 @@ ghost use Rattle.lb_core.specs.Sight.{Sight};
 ghost use Rattle.lb_ready.specs.Calls.{TurnAsks};
 ghost use Rattle.lb_ready.specs.Next.{bare};
 ghost use Rattle.lb_turn.specs.Turns.{HasDue, MayDecide};
-ghost use Rattle.lb_due.specs.Turns.{HasTurn, HasPosition};
+ghost use Rattle.lb_engine.specs.Asks.{HasTurn, HasPosition};
 
 use lb_base::{Fig, Kind, Mask};
 use lb_core::{Course, OutcomeWord, What};

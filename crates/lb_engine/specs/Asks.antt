@@ -42,12 +42,12 @@ pub record HasTurn (m : MachineState) (c : Course) : Type 0 where
   pub turned : c.cpu < length m.header.cpus
 
 -- where a pull is due, the position in work is one of the turn's domains
-pub record IsInWork (m : MachineState) (c : Course) : Type 0 where
+pub record HasPosition (m : MachineState) (c : Course) : Type 0 where
   pub turn : HasTurn m c
   pub inside : c.position < length (turn_domains m.header c)
 
 abbrev pub PullAsks : Form → MachineState → Course → Type 0
-PullAsks Looked m c = IsInWork m c
+PullAsks Looked m c = HasPosition m c
 PullAsks f m c = Unit {0}
 
 -- a figure of that name was published

@@ -17,7 +17,7 @@ use Rattle.lb_core.specs.Leaving.{leaving}
 use Rattle.lb_core.specs.Machine.{MachineState, course_at, queue_at, figures_at, sight}
 use Rattle.lb_core.specs.Placed.{is_flight}
 use Rattle.lb_core.specs.Asks.{CommandAsks, LandingAsks, OpeningAsks}
-use Rattle.lb_engine.specs.Asks.{TicksBelow, IsMapped, RebuildAsks, HasTurn, IsInWork, PullAsks, IsPublished}
+use Rattle.lb_engine.specs.Asks.{TicksBelow, IsMapped, RebuildAsks, HasTurn, HasPosition, PullAsks, IsPublished}
 use Rattle.lb_engine.specs.Held.{Held, hand_at}
 use Rattle.lb_engine.specs.Leaves.{IsDue, HasTakenOff, HasLanded}
 use Rattle.lb_engine.specs.Steps.{of_queue}
@@ -32,14 +32,14 @@ pub record UseAsks (m : MachineState) (version : ℕ) : Type 0 where
   pub some : 1 ≤ version
   pub published : version ≤ length m.versions
 
-pub record LookAsks (m : MachineState) (c : Course) (figures : List FigName) : Type 0 where
+pub record LookStepAsks (m : MachineState) (c : Course) (figures : List FigName) : Type 0 where
   pub names : NamesAsks m c figures
   pub turned : c.cpu < MAX_CPUS
 
 abbrev pub LaneAsks : What → MachineState → Course → Type 0
 LaneAsks (Row n at command) m c = TicksBelow (length m.ticked) command
 LaneAsks (Adopt v k cpu) m c = UseAsks m v
-LaneAsks (Look p x names d) m c = LookAsks m c names
+LaneAsks (Look p x names d) m c = LookStepAsks m c names
 LaneAsks (Scan names t) m c = NamesAsks m c names
 LaneAsks (End unserved) m c = Unit {0}
 LaneAsks (Pub v) m c = RebuildAsks (length m.header.cpus) c.command
@@ -58,19 +58,19 @@ pub record OutAsks (m : MachineState) (cpu lane : ℕ) (cause : OutCause) (targe
   pub places : All (λ t. t < length m.places) tasks
 
 -- the tasks of the hand come to this queue, and are declared
-pub record LandedAsks (m : MachineState) (q : QueueState) (cpu : ℕ) (c : Course) (tasks : List ℕ) : Type 0 where
+pub record LandedStepAsks (m : MachineState) (q : QueueState) (cpu : ℕ) (c : Course) (tasks : List ℕ) : Type 0 where
   pub hand : LandingAsks c q
   pub here : c.to ≡ cpu
   pub source : source_of c.decision < MAX_CPUS
   pub places : All (λ t. t < length m.places) tasks
 
-pub record TurnAsks (m : MachineState) (q : QueueState) (c : Course) (is_open : Bool) : Type 0 where
+pub record TurnStepAsks (m : MachineState) (q : QueueState) (c : Course) (is_open : Bool) : Type 0 where
   pub turn : HasTurn m c
   pub opening : OpeningAsks m.header q c
   pub open_is : is_some q.open_turn ≡ is_open
 
 pub record CloseAsks (m : MachineState) (q : QueueState) (c : Course) : Type 0 where
-  pub work : IsInWork m c
+  pub work : HasPosition m c
   pub position : c.position < MAX_CPUS
   pub open_is : IsOpenAt q.open_turn (turn_domain m.header c).shape.position
 
@@ -78,21 +78,21 @@ pub record OverAsks (m : MachineState) (q : QueueState) (c : Course) : Type 0 wh
   pub turn : HasTurn m c
   pub open_is : IsSome q.open_turn
 
-abbrev pub QueueAsks : What → MachineState → ℕ → ℕ → QueueState → Course → Type 0
-QueueAsks (Did r) m cpu lane q c = AnswerAsks m q c
-QueueAsks (Out cause to tasks) m cpu lane q c = OutAsks m cpu lane cause to tasks
-QueueAsks (Landed tasks) m cpu lane q c = LandedAsks m q cpu c tasks
-QueueAsks (Turn ps) m cpu lane q c = TurnAsks m q c false
-QueueAsks Shut m cpu lane q c = TurnAsks m q c true
-QueueAsks (Close p w i f) m cpu lane q c = CloseAsks m q c
-QueueAsks (Ask r) m cpu lane q c = c.position < MAX_CPUS
-QueueAsks (Kick r) m cpu lane q c = Unit {0}
-QueueAsks Over m cpu lane q c = OverAsks m q c
-QueueAsks w m cpu lane q c = ⊥
+abbrev pub QueueStepAsks : What → MachineState → ℕ → ℕ → QueueState → Course → Type 0
+QueueStepAsks (Did r) m cpu lane q c = AnswerAsks m q c
+QueueStepAsks (Out cause to tasks) m cpu lane q c = OutAsks m cpu lane cause to tasks
+QueueStepAsks (Landed tasks) m cpu lane q c = LandedStepAsks m q cpu c tasks
+QueueStepAsks (Turn ps) m cpu lane q c = TurnStepAsks m q c false
+QueueStepAsks Shut m cpu lane q c = TurnStepAsks m q c true
+QueueStepAsks (Close p w i f) m cpu lane q c = CloseAsks m q c
+QueueStepAsks (Ask r) m cpu lane q c = c.position < MAX_CPUS
+QueueStepAsks (Kick r) m cpu lane q c = Unit {0}
+QueueStepAsks Over m cpu lane q c = OverAsks m q c
+QueueStepAsks w m cpu lane q c = ⊥
 
 -- by the kind of the entry
 abbrev pub ServeAsks : What → MachineState → ℕ → ℕ → Type 0
-ServeAsks w m cpu lane = QueueAsks w m cpu lane (queue_at m.queues cpu) (course_at m.courses lane)
+ServeAsks w m cpu lane = QueueStepAsks w m cpu lane (queue_at m.queues cpu) (course_at m.courses lane)
 
 -- a queue with figures draws the entry, and its lane keeps a number for the CPU
 pub record OfQueueAsks (w : What) (m : MachineState) (cpu lane : ℕ) : Type 0 where

@@ -11,7 +11,7 @@ ghost use Rattle.lb_core.specs.Machine.{entries_at};
 ghost use Rattle.lb_core.specs.Step.{breaks};
 ghost use Rattle.lb_ready.specs.Ready.{IsReady};
 ghost use Rattle.lb_turn.specs.Turns.{HasDue};
-ghost use Rattle.lb_due.specs.Turns.{HasTurn};
+ghost use Rattle.lb_engine.specs.Asks.{HasTurn};
 
 use lb_base::Mask;
 use lb_core::{Course, Entry, FigName, What};

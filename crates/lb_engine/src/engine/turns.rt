@@ -107,7 +107,7 @@ fn refuse_turn(
 
 impl Engine {
     ghost use Rattle.lb_core.specs.Asks.{OpeningAsks};
-    ghost use Rattle.lb_engine.specs.Asks.{HasTurn, IsInWork};
+    ghost use Rattle.lb_engine.specs.Asks.{HasTurn, HasPosition};
     ghost use Rattle.lb_engine.specs.Steps.{becomes, of_queue, served};
 
     // The turn of a lane, over the version that it took up.
@@ -167,7 +167,7 @@ impl Engine {
     pub(super) fn take_close(&mut self, lane: u32, cpu: u32, word: OutcomeWord)
         requires lane { lane < length self.old.machine.courses }
         requires cpu { cpu < length self.old.machine.queues }
-        requires work { IsInWork self.old.machine (course_at self.old.machine.courses lane) }
+        requires work { HasPosition self.old.machine (course_at self.old.machine.courses lane) }
         requires position { (course_at self.old.machine.courses lane).position < MAX_CPUS }
         requires open { IsOpenAt (queue_at self.old.machine.queues cpu).open_turn
             (turn_domain self.old.machine.header (course_at self.old.machine.courses lane)).shape.position }
