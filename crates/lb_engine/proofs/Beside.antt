@@ -1,6 +1,6 @@
 -- The step of an entry of a lane or of the publisher: it is the same whichever of them owns it, and no task
 -- leaves or lands.
-use Rattle.std.proofs.Common.{ℕ, ◌≡◌, ◌<◌, true, false, None, List, length, slice_set, refl, ap, sym, ◌∙◌}
+use Rattle.std.proofs.Common.{ℕ, ◌≡◌, ◌<◌, false, None, List, length, slice_set, refl, ap, sym, ◌∙◌}
 use Rattle.lb_base.specs.declared.mask.Mask.{Mask}
 use Rattle.lb_base.specs.declared.shape.Kind.{Kind}
 use Rattle.lb_imbalance.specs.declared.decision.Decision.{Decision}
@@ -13,7 +13,7 @@ use Rattle.lb_core.specs.declared.entry.What.{What}
 use Rattle.lb_core.specs.declared.entry.What.TheVariants.{Row, Adopt, Look, Scan, End, Did, Out, Landed, Turn, Shut, Close, Ask, Kick, Over, Pub}
 use Rattle.std.specs.Prelude.{Option, Result, Ok, Err, OnOk, OnErr}
 use Rattle.lb_core.specs.declared.entry.Entry.{Entry}
-use Rattle.lb_core.specs.CourseAfter.{course_after, course_by, cpu_of}
+use Rattle.lb_core.specs.CourseAfter.{course_after}
 use Rattle.lb_core.specs.QueueAfter.{queue_after}
 use Rattle.lb_core.specs.Machine.{MachineState, course_at, sight}
 use Rattle.lb_core.specs.Placed.{is_flight}

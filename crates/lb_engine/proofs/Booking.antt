@@ -1,5 +1,5 @@
 -- Landings that are booked at a queue, and used there.
-use Rattle.std.proofs.Common.{ℕ, ◌≡◌, ◌+◌, ◌-◌, ◌<◌, List, map, length, slice_set, slice_index_or, sym, ap, subst, ◌∙◌}
+use Rattle.std.proofs.Common.{ℕ, ◌≡◌, ◌+◌, ◌<◌, List, length, slice_set, slice_index_or, sym, ap, subst, ◌∙◌}
 use Rattle.std.proofs.Math.Seq.{map-set_same}
 use Rattle.std.proofs.lemmas.List.{length-map, get_or-map}
 use Rattle.lb_queue.specs.Queue.{QueueState, BookedQueue}

@@ -1,5 +1,5 @@
 -- Hands that land one after the other, before the queues are let go.
-use Rattle.std.proofs.Common.{ℕ, ◌≡◌, ◌≢◌, ◌<◌, ◌≤◌, ◌+◌, ◌-◌, ◌==◌, Bool, true, false, cond, Option, Some, None, IfSome, is_some, find, All, List, [], ◌∷◌, ◌++◌, length, map, slice_set, slice_index_or, sum_by, inl, inr, refl, ap, sym, ◌∙◌, subst, arith}
+use Rattle.std.proofs.Common.{ℕ, ◌≡◌, ◌≢◌, ◌<◌, ◌≤◌, ◌+◌, ◌-◌, ◌==◌, Bool, true, false, cond, Option, Some, None, IfSome, is_some, find, All, List, [], ◌∷◌, ◌++◌, length, map, slice_set, slice_index_or, inl, inr, refl, ap, sym, ◌∙◌, subst, arith}
 use Rattle.std.proofs.Math.ListN.{length-set, get_or-append}
 use Rattle.std.proofs.lemmas.Bool.{cases_eq}
 use Rattle.std.proofs.lemmas.List.{get_or-set_same, get_or-set_other, get_or_default, length-map, length-append}
@@ -12,11 +12,11 @@ use Rattle.lb_queue.specs.Hands.{HandState, land}
 use Rattle.lb_queue.specs.Laws.{CallsMove, CallsKeepRest}
 use Rattle.lb_queue.specs.Moves.{OnAwake, OnAsleep, OnGone, AreDistinct}
 use Rattle.lb_queue.specs.Queue.{QueueState, BookedQueue, knows}
-use Rattle.lb_queue.specs.Tasks.{ids, awake_ids, occurs}
+use Rattle.lb_queue.specs.Tasks.{ids, occurs}
 use Rattle.lb_queue.proofs.Search.{there_at}
 use Rattle.lb_core.specs.Machine.{queue_at, no_queue}
-use Rattle.lb_engine.specs.Ending.{CanLand, times_in, times_held, times_queued}
-use Rattle.lb_engine.specs.Held.{held_for, tasks_for, booked_at}
+use Rattle.lb_engine.specs.Ending.{CanLand, times_in, times_queued}
+use Rattle.lb_engine.specs.Held.{tasks_for, booked_at}
 use Rattle.lb_engine.proofs.Booking.{bookings_at}
 use Rattle.lb_engine.proofs.Fitting.{for_it, for_another}
 use Rattle.lb_engine.proofs.Queues.{states, bookings, states_set, bookings_set}

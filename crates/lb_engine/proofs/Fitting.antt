@@ -1,18 +1,17 @@
 -- Hands and bookings go with the machine after each step: where tasks left, where they landed, and where
 -- neither did.
-use Rattle.std.proofs.Common.{ℕ, ◌≡◌, ◌≢◌, ◌<◌, ◌≤◌, ◌+◌, ◌-◌, ◌==◌, ◌⊎◌, Bool, true, false, cond, Option, Some, None, IsSomeAnd, List, length, slice_set, sum_by, inl, inr, refl, ap, sym, ◌∙◌, subst, arith}
+use Rattle.std.proofs.Common.{ℕ, ◌≡◌, ◌≢◌, ◌<◌, ◌≤◌, ◌+◌, ◌-◌, Bool, true, false, cond, Option, Some, None, IsSomeAnd, List, length, slice_set, inl, inr, refl, ap, sym, ◌∙◌, subst, arith}
 use Rattle.std.proofs.Math.ListN.{length-set}
 use Rattle.std.proofs.lemmas.Bool.{eq-eqb, ne_eqb, cases_eq}
 use Rattle.std.proofs.lemmas.List.{get_or-set_same, get_or-set_other, set-get_or}
 use Rattle.std.proofs.lemmas.List.Sums.{sum_by-set}
 use Rattle.lb_queue.specs.Hands.{HandState}
 use Rattle.lb_core.specs.declared.course.Course.{Course}
-use Rattle.lb_core.specs.Machine.{MachineState, course_at, no_course}
+use Rattle.lb_core.specs.Machine.{course_at, no_course}
 use Rattle.lb_core.specs.Placed.{is_flight}
 use Rattle.lb_engine.specs.Held.{Held, HandsFit, Holds, IsLoaded, hand_at, booked_at, held_for, tasks_for}
-use Rattle.lb_engine.specs.Leaves.{HasLoaded, HasTakenOff, HasLanded}
+use Rattle.lb_engine.specs.Leaves.{HasTakenOff, HasLanded}
 use Rattle.lb_engine.specs.Takes.{StillHeld}
-use Rattle.lb_queue.specs.Queue.{QueueState}
 
 -- what a step leaves of a lane: another course, as many lanes and queues
 pub record HasStepped (p p2 : Held) (lane : ℕ) (c2 : Course) : Type 0 where

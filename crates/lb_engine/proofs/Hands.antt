@@ -9,9 +9,9 @@ use Rattle.lb_core.specs.declared.course.Course.{Course}
 use Rattle.lb_core.specs.declared.course.Form.{Form}
 use Rattle.lb_core.specs.declared.course.Form.TheVariants.{Rest, Asked, Flight, Serving, Due, Used, Position, Looked, Landed, Closed, Done, ScanDue, Kicking, Ended}
 use Rattle.lb_core.specs.declared.entry.What.{What}
-use Rattle.lb_core.specs.Leaving.{Leaving, out_by, pull_out, leaving}
+use Rattle.lb_core.specs.Leaving.{out_by, pull_out, leaving}
 use Rattle.lb_core.specs.Sight.{Sight}
-use Rattle.lb_core.specs.Machine.{MachineState, course_at, sight}
+use Rattle.lb_core.specs.Machine.{course_at, sight}
 use Rattle.lb_engine.specs.Held.{Held, hand_at, booked_at}
 use Rattle.lb_engine.specs.Leaves.{out_with, IsEnvDue, HasLanded}
 use Rattle.lb_engine.specs.Steps.{of_queue}

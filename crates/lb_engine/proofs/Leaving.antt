@@ -8,7 +8,7 @@ use Rattle.lb_queue.specs.declared.answers.OutCause.TheVariants.{Wake as WakeOut
 use Rattle.lb_queue.specs.declared.answers.Stop.{Stop}
 use Rattle.lb_queue.specs.declared.answers.Taken.{Taken}
 use Rattle.lb_queue.specs.Tasks.{task_with, awake_with}
-use Rattle.lb_queue.specs.Queue.{QueueState, away, clock_at}
+use Rattle.lb_queue.specs.Queue.{QueueState, clock_at}
 use Rattle.lb_queue.specs.Hands.{HandState, loaded, leave, leaves_asleep, leaves_awake, take_stop, take_push, pushed, take_pull, taken_by}
 use Rattle.lb_core.specs.declared.course.Course.{Course}
 use Rattle.lb_core.specs.CourseAfter.{takes_off}
@@ -16,7 +16,7 @@ use Rattle.lb_core.specs.Leaving.{Leaving, leaving_by, wake_to, stop_out, push_o
 use Rattle.lb_core.specs.Placed.{is_flight}
 use Rattle.lb_core.specs.QueueAfter.{rest_of}
 use Rattle.lb_engine.specs.Held.{IsLoaded}
-use Rattle.lb_engine.specs.Leaves.{GoesTo, HasLeft, HaveLeft, IsDue}
+use Rattle.lb_engine.specs.Leaves.{GoesTo, HaveLeft, IsDue}
 
 -- ---- where they go
 pub wake_goes : (o : Option ℕ) (x at id : ℕ) (q : QueueState) (to : ℕ) → o ≡ Some x → GoesTo (wake_to o at id q) to → o ≡ Some to

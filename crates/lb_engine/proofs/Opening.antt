@@ -1,7 +1,6 @@
 -- The opening queue of a CPU, as its tasks are declared one after the other; and what an accepted header
 -- says of each of them.
-use Rattle.std.proofs.Common.{◌≡◌, ℕ, ℤ, pos, negsuc, suc, ◌+◌, ◌<◌, ◌≤◌, ◌≤ℤ◌, ◌≢◌, Bool, true, false, cond, ◌==◌, ◌&&◌, not, eqb, List, [], ◌∷◌, ◌++◌, length, take, get_or, is_some, All, refl, ◌∙◌, ap, arith}
-use Rattle.std.specs.Prelude.{nat_lt}
+use Rattle.std.proofs.Common.{◌≡◌, ℕ, pos, negsuc, suc, ◌+◌, ◌<◌, ◌≤◌, ◌≤ℤ◌, ◌≢◌, Bool, true, false, cond, ◌==◌, eqb, List, [], ◌∷◌, ◌++◌, length, take, get_or, is_some, refl, ◌∙◌, ap, arith}
 use Rattle.std.proofs.Math.Seq.{take-suc}
 use Rattle.std.proofs.lemmas.Bool.{eq-eqb, ne_eqb, and_parts, not-true, ltb-true}
 use Rattle.std.proofs.lemmas.List.{length-take, append-nil}
@@ -11,7 +10,7 @@ use Rattle.lb_queue.specs.Tasks.{task_with}
 use Rattle.lb_queue.specs.Queue.{BookedQueue, empty_queue, new_task, knows}
 use Rattle.lb_trace.specs.declared.trace.TaskRow.{TaskRow}
 use Rattle.lb_trace.specs.declared.trace.Header.{Header}
-use Rattle.lb_trace.specs.Accepted.{is_task, is_nice_value, is_mask, IsHeader}
+use Rattle.lb_trace.specs.Accepted.{is_task, IsHeader}
 use Rattle.lb_trace.proofs.RangeFacts.{nice_range}
 use Rattle.lb_core.specs.Machine.{tasks_at}
 use Rattle.lb_core.proofs.Headers.{all_index}

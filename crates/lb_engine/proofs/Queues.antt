@@ -1,6 +1,6 @@
 -- The states and the bookings of a list of queues, as contracts see them.
-use Rattle.std.proofs.Common.{ℕ, ◌≡◌, ◌<◌, List, map, length, slice_set, slice_index_or, ap, sym, ◌∙◌, refl}
-use Rattle.std.proofs.lemmas.List.{map-set, get_or-map, set-get_or}
+use Rattle.std.proofs.Common.{ℕ, ◌≡◌, ◌<◌, List, map, length, slice_set, slice_index_or}
+use Rattle.std.proofs.lemmas.List.{map-set, get_or-map}
 use Rattle.lb_queue.specs.Queue.{QueueState, BookedQueue}
 use Rattle.lb_core.specs.Machine.{queue_at, no_queue}
 

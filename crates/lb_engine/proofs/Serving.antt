@@ -1,6 +1,6 @@
 -- The step of a queue's entry, from what the code changed: the queue of its CPU, the course of its lane,
 -- and the places of tasks.
-use Rattle.std.proofs.Common.{ℕ, ◌≡◌, ◌<◌, Bool, List, map, length, slice_set, slice_index_or, ap, sym, refl, subst, ◌∙◌}
+use Rattle.std.proofs.Common.{ℕ, ◌≡◌, ◌<◌, Bool, List, length, slice_set, slice_index_or, ap, sym, refl, subst, ◌∙◌}
 use Rattle.std.proofs.Math.Seq.{map-set_same}
 use Rattle.std.proofs.lemmas.List.{get_or_default, length-map}
 use Rattle.lb_queue.specs.Queue.{QueueState, BookedQueue}
@@ -12,9 +12,9 @@ use Rattle.lb_core.specs.declared.place.Place.{Place}
 use Rattle.lb_core.specs.declared.entry.Owner.TheVariants.{Queue}
 use Rattle.lb_core.specs.Step.{after, places_after, closing_after}
 use Rattle.lb_core.specs.Sight.{Sight}
-use Rattle.lb_core.specs.Machine.{MachineState, queue_at, course_at, no_queue, no_course, entries_at, masks_for, figs_for, sight}
+use Rattle.lb_core.specs.Machine.{MachineState, queue_at, course_at, no_course, entries_at, masks_for, figs_for, sight}
 use Rattle.lb_engine.specs.Held.{Held}
-use Rattle.lb_engine.specs.Steps.{becomes, of_queue, stepped, served}
+use Rattle.lb_engine.specs.Steps.{becomes, of_queue, served}
 use Rattle.lb_engine.proofs.Queues.{states, bookings, states_set, state_at}
 
 -- what the step of a queue's entry reads

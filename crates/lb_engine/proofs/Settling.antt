@@ -1,6 +1,6 @@
 -- What an entry leaves of the course of its lane: it is in flight after an `out` alone, and as many numbers
 -- are kept as before.
-use Rattle.std.proofs.Common.{ℕ, ◌≡◌, nat_lt, Bool, true, false, cond, ◌&&◌, Option, Some, None, List, [], ◌∷◌, length, slice_set, refl, ap, sym, ◌∙◌}
+use Rattle.std.proofs.Common.{ℕ, ◌≡◌, nat_lt, Bool, true, false, cond, ◌&&◌, Option, Some, None, List, [], ◌∷◌, length, slice_set, refl, ap, ◌∙◌}
 use Rattle.std.proofs.Math.ListN.{length-set}
 use Rattle.lb_base.specs.declared.shape.Kind.{Kind}
 use Rattle.lb_base.specs.declared.shape.Kind.TheVariants.{Tick as TickTurn, Idle, Nohz}
@@ -14,14 +14,14 @@ use Rattle.lb_trace.specs.declared.trace.Command.{Command}
 use Rattle.lb_trace.specs.declared.trace.Command.TheVariants.{Wake, Sleep, Exit, SetMask, Nice, Tick, Rebuild}
 use Rattle.lb_trace.specs.declared.trace.Header.{Header}
 use Rattle.lb_core.specs.declared.course.Course.{Course}
-use Rattle.lb_core.specs.declared.course.Form.TheVariants.{ScanDue, Serving}
+use Rattle.lb_core.specs.declared.course.Form.TheVariants.{Serving}
 use Rattle.lb_core.specs.declared.entry.FigName.{FigName}
 use Rattle.lb_core.specs.declared.entry.OutcomeWord.{OutcomeWord}
 use Rattle.lb_core.specs.declared.entry.OutcomeWord.TheVariants.{NotMine as NotMineWord, Balanced as BalancedWord, Moved as MovedWord, Pinned as PinnedWord, Failed as FailedWord, Asking as AskingWord}
 use Rattle.lb_core.specs.declared.entry.What.{What}
 use Rattle.lb_core.specs.declared.entry.What.TheVariants.{Row, Adopt, Look, Scan, End, Did, Out, Landed, Turn, Shut, Close, Ask, Kick, Over, Pub}
-use Rattle.lb_core.specs.Course.{is_tick, is_newly, turn_kind, turn_domains, shapes_of}
-use Rattle.lb_core.specs.CourseAfter.{begins_anew, lets_go, comes_to_rest, is_due_at, goes_to, goes_on, kicks_next, turn_ends_by, turn_ends, after_sleep, answered, left_idle, takes_off, lands, scanned, kicked, closes, raised_numbers, course_by, drew}
+use Rattle.lb_core.specs.Course.{is_tick, is_newly, turn_kind, turn_domains}
+use Rattle.lb_core.specs.CourseAfter.{lets_go, comes_to_rest, goes_to, goes_on, kicks_next, turn_ends_by, turn_ends, after_sleep, answered, left_idle, takes_off, lands, scanned, kicked, closes, raised_numbers, course_by}
 use Rattle.lb_core.specs.Leaving.{Leaving, leaving}
 use Rattle.lb_core.specs.QueueAfter.{cause_of}
 use Rattle.lb_core.specs.Sight.{Sight, tickless_in}

@@ -1,7 +1,7 @@
 -- The engine before any entry: the machine of the header, and no lane with a hand.
-use Rattle.std.proofs.Common.{ℕ, ◌≡◌, ◌≤◌, ◌*◌, zero, suc, false, Option, None, List, [], ◌∷◌, length, map, replicate, sum_by, refl, ap, sym, ◌∙◌, subst, arith}
+use Rattle.std.proofs.Common.{ℕ, ◌≡◌, ◌*◌, zero, suc, false, Option, None, List, [], ◌∷◌, length, map, replicate, refl, ap, sym, ◌∙◌, subst, arith}
 use Rattle.std.specs.List.{range_with_len}
-use Rattle.std.proofs.lemmas.List.{length-map, length-replicate}
+use Rattle.std.proofs.lemmas.List.{length-replicate}
 use Rattle.std.proofs.lemmas.List.Folds.{sum_by-replicate}
 use Rattle.lb_base.specs.declared.figure.Fig.{Fig}
 use Rattle.lb_queue.specs.Hands.{HandState}

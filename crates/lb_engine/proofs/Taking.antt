@@ -1,10 +1,9 @@
 -- The step of an entry of a queue, for hands and bookings: what the engine keeps where its figure is
 -- published, and that hands still go with the machine.
-use Rattle.std.proofs.Common.{ℕ, ◌≡◌, ◌<◌, ◌≤◌, Bool, true, false, Option, Some, None, IsSomeAnd, List, length, slice_set, refl, ap, sym, ◌∙◌, subst, arith}
+use Rattle.std.proofs.Common.{ℕ, ◌≡◌, ◌<◌, false, Option, Some, None, IsSomeAnd, List, length, refl, ap, sym, ◌∙◌, subst, arith}
 use Rattle.std.proofs.Math.ListN.{length-set}
 use Rattle.std.proofs.lemmas.List.{get_or-set_same}
 use Rattle.lb_queue.specs.Hands.{HandState}
-use Rattle.lb_queue.specs.Queue.{QueueState}
 use Rattle.lb_core.specs.declared.course.Course.{Course}
 use Rattle.lb_core.specs.declared.entry.Owner.TheVariants.{Queue}
 use Rattle.lb_core.specs.declared.entry.What.{What}
@@ -15,7 +14,7 @@ use Rattle.lb_core.specs.Machine.{MachineState, course_at, figures_at, no_course
 use Rattle.lb_core.specs.Placed.{is_flight}
 use Rattle.lb_core.specs.Step.{after}
 use Rattle.lb_engine.specs.Held.{Held, HandsFit, Holds, IsLoaded, hand_at, held_for, booked_at}
-use Rattle.lb_engine.specs.Leaves.{HasLoaded, HasTakenOff, HasLanded}
+use Rattle.lb_engine.specs.Leaves.{HasLanded}
 use Rattle.lb_engine.specs.Steps.{of_queue, stepped, served, published}
 use Rattle.lb_engine.specs.Takes.{ServeAsks, OfQueueAsks, HandsAfter, StillHeld, is_landing}
 use Rattle.lb_engine.proofs.Fitting.{HasStepped, fit_still, fit_left, fit_landed}

@@ -1,5 +1,5 @@
 -- The shapes of a lane's turn, as the engine shows them, and what is asked of them.
-use Rattle.std.proofs.Common.{◌≡◌, ◌<◌, ◌≤◌, ℕ, List, length, ap, sym, subst, ◌∙◌}
+use Rattle.std.proofs.Common.{◌≡◌, ◌≤◌, ℕ, List, length, ap, sym, subst, ◌∙◌}
 use Rattle.lb_base.specs.declared.shape.Shape.{Shape}
 use Rattle.lb_queue.specs.declared.queue.TheConstants.{MAX_SHAPES}
 use Rattle.lb_queue.specs.Queue.{QueueState}

@@ -1,6 +1,5 @@
 -- What is asked of hands and queues so that each hand can land before they are let go.
-use Rattle.std.specs.Prelude.{◌≡◌, ℕ, ◌+◌, ◌<◌, ◌≤◌, Option, Some, None, IfSome, All, List, [], length, sum_by}
-use Rattle.lb_queue.specs.declared.record.TaskRecord.{TaskRecord}
+use Rattle.std.specs.Prelude.{◌≡◌, ℕ, ◌+◌, ◌<◌, ◌≤◌, Option, Some, None, IfSome, All, List, length, sum_by}
 use Rattle.lb_queue.specs.Hands.{HandState}
 use Rattle.lb_queue.specs.Queue.{QueueState}
 use Rattle.lb_queue.specs.Tasks.{ids, awake_ids, occurs}

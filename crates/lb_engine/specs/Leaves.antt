@@ -1,6 +1,6 @@
 -- Tasks that leave a queue in a hand, by the `out` that is due; and what the engine is after they left, and
 -- after they landed.
-use Rattle.std.specs.Prelude.{◌≡◌, ℕ, ◌+◌, ◌-◌, ◌<◌, Option, Some, None, IfSome, IsSomeAnd, List, [], length, slice_set, true, false}
+use Rattle.std.specs.Prelude.{◌≡◌, ℕ, ◌+◌, ◌-◌, Option, Some, None, IfSome, IsSomeAnd, length, slice_set, true, false}
 use Rattle.lb_queue.specs.declared.answers.Taken.{Taken}
 use Rattle.lb_queue.specs.Hands.{HandState}
 use Rattle.lb_queue.specs.Queue.{QueueState}

@@ -1,6 +1,4 @@
-use Rattle.std.proofs.Common.{◌≡◌, ℕ, ◌+◌, ◌<◌, List, slice_set, slice_index_or, refl, sym, ap, ◌∙◌}
-use Rattle.lb_queue.specs.Queue.{QueueState, BookedQueue}
-use Rattle.lb_engine.specs.Held.{Held, booked_at}
+use Rattle.std.proofs.Common.{refl}
 use Rattle.lb_engine.specs.contracts.engine.Engine.{the_view}
 use Rattle.lb_engine.proofs.Booking.{booked_more}
 use Rattle.lb_engine.proofs.engine.Engine.book.Goals as goal

@@ -1,6 +1,5 @@
-use Rattle.std.proofs.Common.{◌≡◌, ◌≤◌, ℕ, List, length, slice_set, refl, sym, ap, subst, ◌∙◌}
+use Rattle.std.proofs.Common.{◌≤◌, ℕ, List, refl, sym, ap, subst, ◌∙◌}
 use Rattle.lb_base.specs.declared.figure.Fig.{Fig}
-use Rattle.lb_core.specs.Machine.{MachineState}
 use Rattle.lb_engine.specs.Held.{Held}
 use Rattle.lb_engine.specs.contracts.engine.Engine.{the_view}
 use Rattle.lb_engine.proofs.Figures.{items_same, room_there, figures_within}

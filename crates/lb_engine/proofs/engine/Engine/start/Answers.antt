@@ -1,4 +1,4 @@
-use Rattle.std.proofs.Common.{◌≡◌, ℕ, List, [], ◌∷◌, length, map, replicate, None, refl, sym, ap, ◌∙◌}
+use Rattle.std.proofs.Common.{ℕ, List, [], ◌∷◌, length, map, replicate, None, refl, sym, ap, ◌∙◌}
 use Rattle.std.proofs.lemmas.List.{length-map}
 use Rattle.lb_domain.specs.Topologies.{DomainsWithin}
 use Rattle.lb_queue.specs.Figures.{figure}
@@ -7,7 +7,7 @@ use Rattle.lb_trace.specs.declared.trace.Header.{Header}
 use Rattle.lb_core.specs.Course.{opening_course}
 use Rattle.lb_engine.specs.Held.{booked_at}
 use Rattle.lb_engine.proofs.Queues.{states, bookings}
-use Rattle.lb_engine.proofs.Starting.{opened, opening_states, opening_figs, fit_start, start_is, none_booked}
+use Rattle.lb_engine.proofs.Starting.{opening_states, opening_figs, fit_start, start_is, none_booked}
 use Rattle.lb_engine.proofs.engine.Engine.start.Goals as goal
 
 pub returns-clause-machine : goal.returns-clause-machine

@@ -4,7 +4,7 @@ use Rattle.lb_core.specs.declared.entry.Owner.TheVariants as owner
 use Rattle.lb_core.specs.Machine.{MachineState}
 use Rattle.lb_core.specs.Stage.{is_queue}
 use Rattle.lb_engine.specs.Held.{Held, HandsFit}
-use Rattle.lb_engine.specs.Steps.{becomes, entry_of, of_queue, stepped}
+use Rattle.lb_engine.specs.Steps.{becomes, entry_of, stepped}
 use Rattle.lb_engine.specs.Takes.{OwnerAsks}
 use Rattle.lb_engine.proofs.Beside.{same_step, on_ok, either_end, fit_beside}
 use Rattle.lb_engine.proofs.engine.Engine.step.Goals as goal

@@ -1,10 +1,10 @@
-use Rattle.std.proofs.Common.{◌≡◌, ℕ, Option, Some, None, IfSome, List, length, slice_index_or, ap, refl, sym, subst, ◌∙◌}
-use Rattle.lb_queue.specs.Queue.{QueueState, is_awake}
+use Rattle.std.proofs.Common.{◌≡◌, length, ap, refl, sym, subst}
+use Rattle.lb_queue.specs.Queue.{QueueState}
 use Rattle.lb_core.specs.declared.course.Course.{Course}
 use Rattle.lb_core.specs.declared.entry.What.TheVariants as what
 use Rattle.lb_core.specs.declared.place.Place.TheVariants.{Hand as HandOf}
 use Rattle.lb_core.specs.Course.{task_of}
-use Rattle.lb_core.specs.Machine.{MachineState, course_at, queue_at}
+use Rattle.lb_core.specs.Machine.{course_at, queue_at}
 use Rattle.lb_core.specs.Step.{after}
 use Rattle.lb_course.specs.Answers.{WasAwake}
 use Rattle.lb_engine.specs.Asks.{IsMapped}

@@ -4,7 +4,7 @@ use Rattle.lb_interval.specs.declared.Outcome.{Outcome}
 use Rattle.lb_queue.specs.Turns.{close_look}
 use Rattle.lb_core.specs.declared.course.Course.{Course}
 use Rattle.lb_core.specs.declared.entry.What.TheVariants as what
-use Rattle.lb_core.specs.Course.{turn_domain, outcome_of, flag_of}
+use Rattle.lb_core.specs.Course.{turn_domain, outcome_of}
 use Rattle.lb_core.specs.Machine.{course_at}
 use Rattle.lb_core.specs.Step.{after}
 use Rattle.lb_turn.specs.Turns.{TurnState}

@@ -1,4 +1,4 @@
-use Rattle.std.proofs.Common.{List, ap, refl, ◌∙◌}
+use Rattle.std.proofs.Common.{refl}
 use Rattle.lb_core.specs.declared.entry.What.TheVariants as what
 use Rattle.lb_core.specs.Step.{after}
 use Rattle.lb_engine.specs.contracts.engine.Engine.{the_view}

@@ -1,7 +1,6 @@
 use Rattle.std.proofs.Common.{◌≡◌, ◌<◌, length, ap, sym, subst, ◌∙◌, arith}
 use Rattle.lb_core.specs.Machine.{MachineState, course_at}
 use Rattle.lb_core.specs.Placed.{is_flight}
-use Rattle.lb_engine.specs.Held.{HandsFit}
 use Rattle.lb_engine.specs.Steps.{stepped, of_queue}
 use Rattle.lb_engine.specs.Takes.{OfQueueAsks, is_landing}
 use Rattle.lb_engine.proofs.Taking.{fit_same, named_there, served_queues, taken}

@@ -1,5 +1,4 @@
-use Rattle.std.proofs.Common.{◌≡◌, ℕ, List, Option, length, ap, refl, sym, subst, ◌∙◌}
-use Rattle.lb_core.specs.declared.course.Course.{Course}
+use Rattle.std.proofs.Common.{◌≡◌, Option, length, ap, refl, sym, subst, ◌∙◌}
 use Rattle.lb_core.specs.declared.entry.What.TheVariants as what
 use Rattle.lb_core.specs.CourseAfter.{takes_off}
 use Rattle.lb_core.specs.Leaving.{Leaving, leaving}

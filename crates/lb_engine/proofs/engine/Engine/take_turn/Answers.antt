@@ -1,18 +1,15 @@
-use Rattle.std.proofs.Common.{◌≡◌, ◌<◌, ◌≤◌, nat_lt, length, List, ap, refl, sym, subst, ◌∙◌, arith}
+use Rattle.std.proofs.Common.{◌≡◌, List, ap, refl, ◌∙◌}
 use Rattle.lb_base.specs.declared.shape.Shape.{Shape}
-use Rattle.lb_core.specs.declared.course.Course.{Course}
 use Rattle.lb_core.specs.declared.entry.What.TheVariants as what
 use Rattle.lb_core.specs.Course.{turn_kind, turn_domains, shapes_of}
-use Rattle.lb_core.specs.Machine.{course_at, queue_at}
+use Rattle.lb_core.specs.Machine.{course_at}
 use Rattle.lb_base.specs.Sets.{least}
 use Rattle.lb_queue.specs.Turns.{opened, counters_found}
 use Rattle.lb_core.specs.CourseAfter.{goes_to}
 use Rattle.lb_core.specs.Step.{after}
-use Rattle.lb_turn.specs.Turns.{TurnState}
-use Rattle.lb_engine.specs.Held.{Held}
 use Rattle.lb_engine.specs.contracts.engine.Engine.{the_view}
-use Rattle.lb_engine.proofs.Serving.{served_by, course_now, queue_now}
-use Rattle.lb_engine.proofs.Turning.{turn_is, shapes_are, opening_asks}
+use Rattle.lb_engine.proofs.Serving.{served_by, course_now}
+use Rattle.lb_engine.proofs.Turning.{turn_is, shapes_are}
 use Rattle.lb_engine.proofs.engine.Engine.take_turn.Goals as goal
 
 pub returns-clause-ok : goal.returns-clause-ok

@@ -1,9 +1,7 @@
-use Rattle.std.proofs.Common.{◌≡◌, ◌<◌, ◌≤◌, ℕ, Some, None, length, slice_index_or, slice_set, map, ap, sym, subst, ◌∙◌, arith}
-use Rattle.std.proofs.lemmas.List.{get_or_default, length-map}
+use Rattle.std.proofs.Common.{ℕ, slice_index_or, slice_set, sym, subst}
 use Rattle.lb_queue.specs.declared.answers.OutCause.TheVariants.{Stop}
-use Rattle.lb_queue.specs.Queue.{BookedQueue}
 use Rattle.lb_engine.specs.Ending.{CanLand}
-use Rattle.lb_engine.proofs.Ending.{Landing, landing, unknown_there, landed_one}
+use Rattle.lb_engine.proofs.Ending.{landing, landed_one}
 use Rattle.lb_engine.proofs.Queues.{states, bookings}
 use Rattle.lb_engine.proofs.engine.ending.land_last.Goals as goal
 

@@ -1,7 +1,4 @@
-use Rattle.std.proofs.Common.{Option, None, sym, subst}
-use Rattle.lb_queue.specs.declared.answers.Taken.{Taken}
-use Rattle.lb_queue.specs.Queue.{QueueState}
-use Rattle.lb_queue.specs.Hands.{HandState}
+use Rattle.std.proofs.Common.{None, sym, subst}
 use Rattle.lb_core.specs.declared.course.Form.{Form}
 use Rattle.lb_engine.specs.Leaves.{GoesTo, HaveLeft, out_with}
 use Rattle.lb_engine.proofs.engine.hands.leave.Goals as goal

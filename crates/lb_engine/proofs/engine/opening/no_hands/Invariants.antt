@@ -1,4 +1,4 @@
-use Rattle.std.proofs.Common.{◌≡◌, ◌≤◌, None, length, replicate, vec_capacity}
+use Rattle.std.proofs.Common.{◌≡◌, ◌≤◌, None, replicate, vec_capacity}
 use Rattle.lb_engine.proofs.engine.opening.no_hands.Given as goal
 
 abbrev pub invariant-loop-lane : goal.invariant-loop-lane

@@ -1,11 +1,10 @@
-use Rattle.std.proofs.Common.{◌≡◌, ◌<◌, ◌≤◌, ◌+◌, ℕ, ℤ, pos, false, true, List, take, get_or, length, sym, ap, ◌∙◌, arith, subst}
+use Rattle.std.proofs.Common.{◌≡◌, ◌<◌, ℕ, ℤ, pos, false, true, List, take, get_or, length, sym, ap, ◌∙◌, arith, subst}
 use Rattle.std.specs.Int.{w32}
 use Rattle.std.proofs.Math.Seq.{take-length}
 use Rattle.std.proofs.lemmas.Int.{ints, to_z-of_z}
 use Rattle.std.proofs.lemmas.List.{length-take}
 use Rattle.lb_base.specs.Sets.{is_below}
-use Rattle.lb_queue.specs.declared.record.TaskRecord.{TaskRecord}
-use Rattle.lb_queue.specs.Queue.{QueueState, BookedQueue, new_task, declared, knows}
+use Rattle.lb_queue.specs.Queue.{BookedQueue, new_task, declared, knows}
 use Rattle.lb_trace.specs.declared.trace.TaskRow.{TaskRow}
 use Rattle.lb_core.specs.Machine.{opening_queue}
 use Rattle.lb_engine.proofs.Opening.{sleeping, unknown, sleeps_here, sleeps_elsewhere, IsTaskRow, task_row}

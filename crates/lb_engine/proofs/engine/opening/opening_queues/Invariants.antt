@@ -1,6 +1,5 @@
 use Rattle.std.proofs.Common.{◌≡◌, map}
 use Rattle.std.specs.List.{range_with_len}
-use Rattle.lb_queue.specs.Queue.{BookedQueue}
 use Rattle.lb_core.specs.Machine.{opening_queue}
 use Rattle.lb_engine.proofs.engine.opening.opening_queues.Given as goal
 
