@@ -63,3 +63,10 @@ pub drawn_nice : ReadsInRange → EntryFits → (m : MachineState) (lane : ℕ) 
     → IsSerialNext m lane (option_copied row) e → nice_fits e.what ≡ true
 drawn_nice reads fits m lane row e k few accepted n =
     reads e.what (what_of (m.ticket + 1) e (drawn_fits fits m lane row e k few accepted n))
+
+-- and so is the one that was drawn, if one was
+pub each_drawn_fits : EntryFits → (m : MachineState) (lane : ℕ) (row : Option (Bor Row)) (drawn : Option Entry)
+    → IsReady m → m.ticket < MAX_TICKET → IfSome row (λ r. is_row m.header r.now ≡ true)
+    → IfSome drawn (λ e. IsSerialNext m lane (option_copied row) e) → IfSome drawn (λ e. entry_fits (m.ticket + 1) e ≡ true)
+each_drawn_fits fits m lane row None k few accepted n = tt
+each_drawn_fits fits m lane row (Some e) k few accepted n = drawn_fits fits m lane row e k few accepted n
