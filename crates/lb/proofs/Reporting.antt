@@ -1,4 +1,4 @@
--- The work and its report make the answer, and the answer completes.
+-- For `once`: what its work says and what its report tells give the clauses `answers` and `completes`.
 use Rattle.std.proofs.Common.{◌≡◌, ℕ, List, Some, refl, sym, ◌∙◌, subst, inl, inr}
 use Rattle.lb_words.specs.declared.work.Work.{Work}
 use Rattle.lb_words.specs.Words.{work_of}
@@ -11,7 +11,8 @@ use Rattle.lb.proofs.Ending.{Reading, of_input, of_each, one_end}
 
 -- ---- before the report
 -- the work stopped before anything was written
-pub failed : (end : Status) (c : Invocation) (work : Work) → work_of c.words ≡ Some work → Fails work c.source end → IsUntouched c.out → Says end c
+pub failed : (end : Status) (c : Invocation) (work : Work) → work_of c.words ≡ Some work → Fails work c.source end
+    → IsUntouched c.out → Says end c
 failed status.Done c work is s u = absurd s.0
 failed status.ReadFault c work is s u = ((work, is, s), u)
 failed status.Usage c work is s u = absurd s.0
@@ -64,20 +65,27 @@ of_work words source work input P is told h =
     of_input work source input (P work) told (subst (λ (w : Work). OfInput w source (P w)) same h.2)
 
 -- a work that is done ended so
-done_there : (work : Work) (source : Stream) (output : List ℕ) → OfInput work source (λ i. IsDone work i output) → OfInput work source (λ i. IsStatusOf work i status.Done)
-done_there work source output h = of_each work source (λ i. IsDone work i output) (λ i. IsStatusOf work i status.Done) (λ i d. d.0) h
+done_there : (work : Work) (source : Stream) (output : List ℕ) → OfInput work source (λ i. IsDone work i output)
+    → OfInput work source (λ i. IsStatusOf work i status.Done)
+done_there work source output h = of_each work source (λ i. IsDone work i output) (λ i. IsStatusOf work i status.Done)
+    (λ i d. d.0) h
 
 pub completes : Reading → (s : Status) (c : Invocation) (error : Stream) → Answers s c error → Completes s c error
 completes law status.Done c error w work input end is told e r1 r2 r3 =
-    let done : OfWork c.words (λ x. OfInput x c.source (λ i. IsStatusOf x i status.Done)) = (w.0.1.0, w.0.1.1, done_there w.0.1.0 c.source w.0.0 w.0.1.2.1) in
-    inl (one_end law work input status.Done end (of_work c.words c.source work input (λ x i. IsStatusOf x i status.Done) is told done) e)
+    let done : OfWork c.words (λ x. OfInput x c.source (λ i. IsStatusOf x i status.Done)) =
+    (w.0.1.0, w.0.1.1, done_there w.0.1.0 c.source w.0.0 w.0.1.2.1) in
+    inl (one_end law work input status.Done end
+    (of_work c.words c.source work input (λ x i. IsStatusOf x i status.Done) is told done) e)
 completes law status.ReadFault c error w work input end is told e r1 r2 r3 = absurd (r1 w.0.0.2.1)
 completes law status.Usage c error w work input end is told e r1 r2 r3 = absurd (cc)
 completes law (status.Refused line code) c error w work input end is told e r1 r2 r3 =
     inl (one_end law work input (status.Refused line code) end
-    (of_work c.words c.source work input (λ x i. IsStatusOf x i (status.Refused line code)) is told (w.0.0.0, w.0.0.1, w.0.0.2.1)) e)
-completes law status.WriteFault c error w work input end is told e r1 r2 r3 = absurd (elim w [ inl p ↦ r2 p.0.0 | inr p ↦ r3 p.2.2 ])
+    (of_work c.words c.source work input (λ x i. IsStatusOf x i (status.Refused line code)) is told
+    (w.0.0.0, w.0.0.1, w.0.0.2.1)) e)
+completes law status.WriteFault c error w work input end is told e r1 r2 r3 = absurd
+    (elim w [ inl p ↦ r2 p.0.0 | inr p ↦ r3 p.2.2 ])
 completes law status.NoMemory c error w work input end is told e r1 r2 r3 = inr refl
 completes law (status.Illegal ticket rule) c error w work input end is told e r1 r2 r3 =
     inl (one_end law work input (status.Illegal ticket rule) end
-    (of_work c.words c.source work input (λ x i. IsStatusOf x i (status.Illegal ticket rule)) is told (w.0.0.0, w.0.0.1, w.0.0.2.1)) e)
+    (of_work c.words c.source work input (λ x i. IsStatusOf x i (status.Illegal ticket rule)) is told
+    (w.0.0.0, w.0.0.1, w.0.0.2.1)) e)

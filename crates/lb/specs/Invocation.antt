@@ -1,5 +1,6 @@
--- What a call of the program found and left: its words, and of its source and its sinks the bytes that
--- they hold, where they tell them, and their counts of faults, before and after the call.
+-- What a call of the program found and left: its words, and of its source and its `out` sink the bytes that they
+-- hold, where they tell them, and their counts of faults, before and after the call. Clauses name the `err` sink
+-- beside it.
 use Rattle.std.specs.Prelude.{◌≡◌, ℕ, List}
 use Rattle.std.specs.declared.option.Option.{Option}
 use Rattle.std.specs.Io.KnownBytes.{Appends}

@@ -1,3 +1,4 @@
+//! What one call does: the work that its words ask for, and the status that is reported.
 ghost use Rattle.std.specs.Prelude.{◌≡◌, ◌≤◌, length, map, true, false, Some, None, IfSome, IfOk, IfErr, string_bytes};
 ghost use Rattle.lb_words.specs.declared.work.Work.TheVariants.{Step};
 ghost use Rattle.lb_words.specs.Words.{work_of, IsInRange};

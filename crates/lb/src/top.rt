@@ -1,3 +1,4 @@
+//! The whole program but for its real ends: `main` makes these, and calls `top`.
 ghost use Rattle.std.specs.Prelude.{◌≡◌, map, false, Some, string_bytes};
 ghost use Rattle.lb_words.specs.declared.work.Work.TheVariants.{Step};
 ghost use Rattle.lb_words.specs.Words.{work_of};

@@ -1,4 +1,4 @@
--- The last that passes a test is the first that passes from the back.
+-- For `active_pick`: the last that passes a test is the first that passes from the back.
 use Rattle.std.proofs.Common.{◌≡◌, Bool, cond, Option, Some, None, List, [], ◌∷◌, reverse, filter, find, refl, sym, ◌∙◌, ap, inl, inr}
 use Rattle.std.specs.List.{last_or}
 use Rattle.std.specs.Option.{option_or}

@@ -1,4 +1,5 @@
--- What an entry in range says is in range.
+-- For `judge`, which calls `State::step`: an entry that was read in range (`written_fits`) says what is in range
+-- (`what_fits`).
 use Rattle.std.proofs.Common.{◌≡◌, true}
 use Rattle.std.proofs.lemmas.Bool.{and_parts}
 use Rattle.lb_core.specs.Ranges.{entry_fits, what_fits}

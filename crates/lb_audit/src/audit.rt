@@ -16,12 +16,7 @@ use std::alloc::Global;
 // The first rule that the entry at this place breaks, where the entries before it leave this state. An entry
 // that breaks none is taken.
 #[tactic(auto, using(crate::proofs::Ranges::says_what_fits))]
-fn judge(
-    alloc: Global,
-    state: &mut State,
-    place: u64,
-    written: &WrittenEntry,
-) -> Result<Option<Rule>, NoMemory>
+fn judge(state: &mut State, place: u64, written: &WrittenEntry) -> Result<Option<Rule>, NoMemory>
     requires { written_fits written.now ≡ true }
     ensures broken { IfOk result (λ rule. rule ≡ broken_at state.old place written.now) }
     ensures taken { IfOk result (λ rule. rule ≡ None → state.new ≡ after state.old written.now.entry) }
@@ -29,7 +24,7 @@ fn judge(
     if written.ticket != place {
         return Ok(Some(Rule::Ticket));
     }
-    state.step(alloc, &written.entry)
+    state.step(&written.entry)
 }
 
 /// Whether a history that was read from a text is legal, or its first fault (docs/rules/legality.md).
@@ -44,7 +39,7 @@ pub fn check(alloc: Global, read: &Read) -> Result<Verdict, NoMemory>
     let mut state = State::start(alloc, &read.header)?;
     let mut ticket = 1;
     for written in read.entries.as_slice() {
-        if let Some(rule) = judge(alloc, &mut state, ticket, written)? {
+        if let Some(rule) = judge(&mut state, ticket, written)? {
             return Ok(Verdict::Illegal { ticket, rule });
         }
         ticket += 1;

@@ -1,3 +1,4 @@
+//! A list whose room is kept: what is pushed into room takes no memory.
 ghost use Rattle.std.specs.Prelude.{◌≡◌, [], ◌∷◌, ◌++◌, ◌-◌, ◌<◌, ◌≤◌, length, set, OnOk, OnErr};
 
 use crate::memory::NoMemory;

@@ -1,3 +1,5 @@
+//! The figure of a CPU: what its run queue shows to balancing.
+
 /// What a CPU's run queue published after one of its entries (docs/rules/queue.md).
 #[derive(Clone, Copy, Debug, PartialEq, Eq)]
 pub struct Fig {

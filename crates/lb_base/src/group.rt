@@ -1,3 +1,5 @@
+//! What is known of a group of CPUs: its type and its statistics.
+
 /// How busy a group of CPUs is, in rising order (docs/rules/decision.md).
 #[derive(Clone, Copy, Debug, PartialEq, Eq)]
 pub enum GroupType {

@@ -1,3 +1,4 @@
+//! The list that crates pass to one another, and that contracts see as a list.
 ghost use Rattle.std.specs.Prelude.{◌≡◌, [], ◌∷◌, ◌++◌, ◌<◌, ◌↔◌, length, slice_get, set, IsTrue, IfOk, OnOk, OnErr, Some};
 
 use crate::memory::NoMemory;

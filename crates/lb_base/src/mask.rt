@@ -1,3 +1,4 @@
+//! A set of CPUs, as a number of 64 bits.
 ghost use Rattle.std.specs.Prelude.{◌≡◌, ◌==◌, ℕ, ◌+◌, ◌<◌, ◌≤◌, ◌↔◌, ◌&&◌, ◌||◌, not, false, nat_lt, IsTrue, MatchOption, length};
 
 /// CPUs are numbered below this.

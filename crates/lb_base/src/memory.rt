@@ -1,3 +1,4 @@
+//! Want of memory, the one refusal that any call may have.
 use std::alloc::AllocError;
 
 /// Memory ran out. The one answer that no rule decides: any call that allocates may give it.

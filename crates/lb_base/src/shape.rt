@@ -1,3 +1,4 @@
+//! The kinds of turns, the levels of domains, and what balancing needs to know of a domain.
 use crate::mask::Mask;
 
 /// Why a CPU's domains are balanced (docs/rules/lanes.md).

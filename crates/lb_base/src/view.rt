@@ -1,3 +1,4 @@
+//! What a pull moves, and what its examination sees of a task.
 use crate::mask::Mask;
 
 /// What a pull is to even out (docs/rules/decision.md).

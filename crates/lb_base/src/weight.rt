@@ -1,3 +1,4 @@
+//! The weight of a nice value.
 ghost use Rattle.std.specs.Prelude.{◌≡◌, negsuc, pos, ◌≤ℤ◌};
 ghost use Rattle.lb_base.specs.Weight.{weight_of};
 

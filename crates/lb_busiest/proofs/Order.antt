@@ -1,3 +1,5 @@
+-- Ends `busiest_group` and `source_queue`: busier groups and greater values are orders, so there is a first of the
+-- greatest.
 use Rattle.std.proofs.Common.{◌≡◌, ℕ, Bool, true, false, Option, eqb, ltb, ◌&&◌, List, length, subst, refl, sym, arith, inl, inr}
 use Rattle.std.proofs.lemmas.Bool.{or_parts, or_cases, and_parts, and_cases, ltb-true, ltb-false, eqb-true, both_ways, cases_eq, or_from, and_left, and_right, le-ltb, ne_eqb, eq-eqb}
 use Rattle.std.proofs.lemmas.Bool.Decides.{nat_tests}

@@ -1,5 +1,5 @@
--- A walk over the CPUs of a mask that keeps the first of the greatest so far: between two CPUs of
--- the mask nobody passes.
+-- For the loops of `busiest` and `source`: a walk over the CPUs of a mask that keeps the first of the greatest so
+-- far. Between two CPUs of the mask nobody passes.
 use Rattle.std.proofs.Common.{◌≡◌, ℕ, zero, suc, ◌+◌, ◌-◌, ◌<◌, ◌≤◌, Bool, true, false, Option, Some, None, MatchOption, subst, arith}
 use Rattle.lb_base.specs.declared.mask.Mask.{Mask}
 use Rattle.lb_base.specs.declared.mask.TheConstants.{MAX_CPUS}

@@ -1,3 +1,4 @@
+//! The busiest group of a domain (docs/rules/decision.md).
 ghost use Rattle.std.specs.Prelude.{◌≡◌, ◌+◌, ◌<◌, length};
 ghost use Rattle.lb_base.specs.Greatest.{Picks};
 ghost use Rattle.lb_busiest.specs.Ranking.{busiest_of, is_busier, is_busier_at, may_be_busiest, rank, AnswersBusiest};

@@ -1,3 +1,4 @@
+//! The source queue of a group (docs/rules/decision.md).
 ghost use Rattle.std.specs.Prelude.{◌≡◌, ◌+◌, ◌<◌};
 ghost use Rattle.lb_base.specs.Figures.{AllHaveFigures};
 ghost use Rattle.lb_base.specs.Greatest.{Picks};

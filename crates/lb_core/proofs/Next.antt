@@ -1,5 +1,6 @@
--- The entries before and after one of a front, and the next entry of its lane, up to which the lane's
--- course stays. For callers too: the machine after some entries and some more.
+-- For the laws `permitted`, `replies` and `turns_fit`: a front cut at one entry (`parts`), and the next entry of its
+-- lane, up to which the lane's course stays. For callers too: the machine after some entries and some more
+-- (`run-append`).
 use Rattle.std.proofs.Common.{◌≡◌, ℕ, Bool, true, false, cond, ◌==◌, List, [], ◌∷◌, ◌++◌, Some, refl, sym, ◌∙◌, ap, subst, get_or-set_other, append_assoc, append-nil}
 use Rattle.std.proofs.lemmas.Bool.{not-false, eqb-true, eqb-false}
 use Rattle.lb_queue.specs.Queue.{QueueState}

@@ -1,5 +1,5 @@
--- In the opening state each task sleeps at home, and the law Placed. For callers too: the opening queue of
--- a CPU.
+-- The opening state: each task sleeps at home. Ends the laws `placed` and `placed_stays`. For callers too: the
+-- opening queue of a CPU (`opening_at`).
 use Rattle.std.proofs.Common.{◌≡◌, ℕ, zero, suc, ◌⊎◌, ◌+◌, ◌-◌, ◌<◌, ◌≤◌, Bool, true, false, cond, ◌==◌, ◌&&◌, eqb, ltb, leb, List, [], ◌∷◌, length, map, get_or, replicate, All, refl, sym, ◌∙◌, ap, arith, inl, inr}
 use Rattle.std.proofs.lemmas.Bool.{eq-eqb, ne_eqb, lt-ltb, le-ltb, cases_lt, cases_order, and_left, le-leb, lt-leb, and_right, cond-true, cond-false}
 use Rattle.std.proofs.lemmas.List.{length-map, get_or-replicate, length-replicate}

@@ -1,3 +1,4 @@
+//! The course of a lane: what it has in work, and what it remembers (docs/rules/lanes.md).
 use crate::lists::{CounterRows, Figs, Numbers, TaskRecords};
 use lb_base::{Kind, Mask};
 use lb_imbalance::Decision;

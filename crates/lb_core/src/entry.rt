@@ -1,3 +1,4 @@
+//! What an entry of a history says, and whose it is (docs/rules/history-text.md).
 use crate::lists::{FigNames, Ids};
 use lb_base::{Fig, Kind, Mask};
 use lb_imbalance::Decision;

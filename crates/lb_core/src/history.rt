@@ -1,3 +1,4 @@
+//! A history: the header of a trace, and entries whose tickets are their places.
 use crate::lists::Entries;
 use lb_trace::Header;
 

@@ -1,3 +1,4 @@
+//! The lists that entries and courses are made of.
 use crate::entry::{CpuFig, Entry, FigName};
 use lb_base::Items;
 use lb_interval::Counters;

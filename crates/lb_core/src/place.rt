@@ -1,3 +1,5 @@
+//! Where a task stands.
+
 /// Where a declared task is (docs/rules/lanes.md).
 #[derive(Clone, Copy, Debug, PartialEq, Eq)]
 pub enum Place {

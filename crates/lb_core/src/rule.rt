@@ -1,3 +1,4 @@
+//! The rules of a legal history, in the order in which they are asked (docs/rules/legality.md).
 ghost use Rattle.std.specs.Prelude.{◌≡◌};
 ghost use Rattle.lb_core.specs.Names.{name_of};
 

@@ -1,3 +1,4 @@
+//! The course of a lane before any entry.
 ghost use Rattle.std.specs.Prelude.{◌≡◌, replicate, IfOk};
 ghost use Rattle.lb_core.specs.Course.{opening_course};
 

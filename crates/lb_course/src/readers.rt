@@ -1,3 +1,4 @@
+//! What a command and a course say, in the words of the rules.
 ghost use Rattle.std.specs.Prelude.{◌≡◌};
 ghost use Rattle.lb_core.specs.Course.{
   turn_kind,

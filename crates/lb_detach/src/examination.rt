@@ -1,3 +1,4 @@
+//! The examination of a source, from the back of its list (docs/rules/picked-list.md).
 ghost use Rattle.std.specs.Prelude.{◌+◌, ◌-◌, ◌^◌, ◌∷◌, ◌++◌, [], if◌then◌else◌, ◌≡◌, ◌<◌, ◌≤◌, ◌==◌, ◌&&◌, ◌||◌, nat_le, nat_lt, length, map, vec_len, vec_capacity};
 ghost use Rattle.lb_detach.specs.Rules.{amount_of, fails_mask, refuses};
 ghost use Rattle.lb_detach.specs.Picks.{left_before, examined, picked_ids, kept_ids, some_pinned, all_pinned};

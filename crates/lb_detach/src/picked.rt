@@ -1,3 +1,4 @@
+//! The picked list, in rooms that are kept from one pull to the next.
 ghost use Rattle.std.specs.Prelude.{◌≡◌, ◌≤◌, [], false, IfOk, vec_capacity};
 
 use lb_base::NoMemory;

@@ -1,3 +1,4 @@
+//! Which tasks a pull leaves where they are (docs/rules/picked-list.md).
 ghost use Rattle.std.specs.Prelude.{◌≡◌};
 ghost use Rattle.lb_base.specs.Mask.{has};
 ghost use Rattle.lb_detach.specs.Rules.{amount_of, refuses};

@@ -1,3 +1,4 @@
+//! A scheduling domain of a CPU: its shape, and its groups in ring order.
 use lb_base::{Items, Mask, Shape};
 
 /// One kept scheduling domain of a CPU (docs/rules/domains.md).

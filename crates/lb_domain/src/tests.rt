@@ -1,3 +1,4 @@
+//! Masks that a topology is built of, and masks that are refused with their first fault.
 ghost use Rattle.std.specs.Prelude.{◌≡◌, ◌+◌, nat_lt};
 ghost use Rattle.std.specs.List.{list_all};
 ghost use Rattle.lb_levels.specs.Rows.{nodes_in_range, distances_in_range};

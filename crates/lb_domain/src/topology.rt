@@ -1,3 +1,4 @@
+//! A topology: the domains of every CPU over some partition masks (docs/rules/domains.md).
 ghost use Rattle.std.specs.Prelude.{◌≡◌, ◌<◌, ◌≤◌, ◌⊎◌, length, None, IfOk, IfErr, OnOk};
 ghost use Rattle.std.specs.Option.{option_map};
 ghost use Rattle.lb_levels.specs.Faults.{parts_fault_of};

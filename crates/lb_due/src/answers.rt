@@ -12,7 +12,7 @@ ghost use Rattle.lb_due.specs.Replies.{AnswersAt, done_unless_gone};
 use crate::rows::is_in;
 use lb_base::Mask;
 use lb_core::{Place, What};
-use lb_parts::Parts;
+use lb_engine::Engine;
 use lb_queue::{AskReply, Queue, Reply};
 use lb_ready::laws::calls_may_be_made;
 use lb_trace::Command;
@@ -46,31 +46,31 @@ pub fn leaves_instead(command: &Option<Command>, queue: &Queue) -> bool
 }
 
 /// What the queue where the task is answers to the command in service.
-pub fn reply_due(parts: &Parts, command: &Option<Command>) -> Reply
-    requires ready { IsReady parts.now.machine }
-    requires names { Names parts.now.machine.header command.now }
-    ensures { (cpu at : ℕ) → AnswersAt command.now parts.now.machine cpu
-        → result ≡ (answer_to command.now at (queue_at parts.now.machine.queues cpu)).0 }
+pub fn reply_due(engine: &Engine, command: &Option<Command>) -> Reply
+    requires ready { IsReady engine.now.machine }
+    requires names { Names engine.now.machine.header command.now }
+    ensures { (cpu at : ℕ) → AnswersAt command.now engine.now.machine cpu
+        → result ≡ (answer_to command.now at (queue_at engine.now.machine.queues cpu)).0 }
 {
     // a task stands in the list of its place
     calls_may_be_made();
     match command {
-        Some(Command::Wake { task }) => match parts.place(*task) {
+        Some(Command::Wake { task }) => match engine.place(*task) {
             Place::Awake(_) => Reply::Already,
             Place::Asleep(_) => Reply::Done,
             Place::Gone(_) => Reply::Gone,
             Place::Hand(_) => Reply::NotHere,
         },
-        Some(Command::Sleep { task }) => match parts.place(*task) {
+        Some(Command::Sleep { task }) => match engine.place(*task) {
             Place::Awake(_) => Reply::Done,
             Place::Asleep(_) => Reply::Already,
             Place::Gone(_) => Reply::Gone,
             Place::Hand(_) => Reply::NotHere,
         },
-        Some(Command::Exit { task }) => done_unless_gone(parts.place(*task), false),
-        Some(Command::Nice { task, nice: _ }) => done_unless_gone(parts.place(*task), false),
+        Some(Command::Exit { task }) => done_unless_gone(engine.place(*task), false),
+        Some(Command::Nice { task, nice: _ }) => done_unless_gone(engine.place(*task), false),
         Some(Command::SetMask { task, mask }) => {
-            done_unless_gone(parts.place(*task), is_bad_mask(parts, *mask))
+            done_unless_gone(engine.place(*task), is_bad_mask(engine, *mask))
         }
         Some(Command::Tick { .. } | Command::Rebuild { .. }) | None => Reply::Done,
     }
@@ -89,11 +89,11 @@ fn done_unless_gone(place: Place, is_bad: bool) -> Reply
 }
 
 // Whether a mask is empty, or has a CPU past the machine.
-fn is_bad_mask(parts: &Parts, mask: Mask) -> bool
-    requires { IsReady parts.now.machine }
-    ensures { result ≡ (is_empty mask || not (is_below mask (length parts.now.machine.header.cpus))) }
+fn is_bad_mask(engine: &Engine, mask: Mask) -> bool
+    requires { IsReady engine.now.machine }
+    ensures { result ≡ (is_empty mask || not (is_below mask (length engine.now.machine.header.cpus))) }
 {
-    mask.first().is_none() || !is_in(mask, parts.cpus())
+    mask.first().is_none() || !is_in(mask, engine.cpus())
 }
 
 /// What a queue answers to an active request.

@@ -11,39 +11,40 @@ ghost use Rattle.lb_core.specs.Machine.{entries_at, figures_at, figures_named};
 ghost use Rattle.lb_ready.specs.Ready.{IsReady};
 ghost use Rattle.lb_ready.specs.Calls.{DecideAsks};
 ghost use Rattle.lb_ready.specs.Next.{newest};
-ghost use Rattle.lb_due.specs.Turns.{HasPosition, named_sight};
+ghost use Rattle.lb_engine.specs.Asks.{HasPosition};
+ghost use Rattle.lb_due.specs.Turns.{named_sight};
 
 use crate::turns::decision_by;
 use lb_base::{Fig, Items, MAX_CPUS, Mask, NoMemory};
 use lb_core::{Course, FigName, FigNames, What};
 use lb_course::NO_FIG;
+use lb_engine::Engine;
 use lb_imbalance::Decision;
 use lb_nohz::kick_target;
-use lb_parts::Parts;
 use std::alloc::Global;
 
 /// How many entries a queue drew: the number of its last figure. A CPU past the machine has none.
-pub fn entries_at(parts: &Parts, cpu: u32) -> u64
-    requires { IsReady parts.now.machine }
-    ensures { result ≡ entries_at parts.now.machine cpu }
+pub fn entries_at(engine: &Engine, cpu: u32) -> u64
+    requires { IsReady engine.now.machine }
+    ensures { result ≡ entries_at engine.now.machine cpu }
 {
-    if cpu >= parts.cpus() {
+    if cpu >= engine.cpus() {
         return 0;
     }
-    (parts.figures(cpu).len() as u64).saturating_sub(1)
+    (engine.figures(cpu).len() as u64).saturating_sub(1)
 }
 
 /// The names of the last figures that are due.
-pub fn newest(alloc: Global, parts: &Parts, mask: Mask) -> Result<FigNames, NoMemory>
-    requires { IsReady parts.now.machine }
-    ensures { IfOk result (λ names. names ≡ newest parts.now.machine (members mask)) }
+pub fn newest(alloc: Global, engine: &Engine, mask: Mask) -> Result<FigNames, NoMemory>
+    requires { IsReady engine.now.machine }
+    ensures { IfOk result (λ names. names ≡ newest engine.now.machine (members mask)) }
 {
     let mut names = Items::new(alloc);
     let mut next = mask.first();
     while let Some(cpu) = next {
         names.push(FigName {
             cpu,
-            n: entries_at(parts, cpu),
+            n: entries_at(engine, cpu),
         })?;
         next = mask.next_after(cpu);
     }
@@ -51,63 +52,63 @@ pub fn newest(alloc: Global, parts: &Parts, mask: Mask) -> Result<FigNames, NoMe
 }
 
 // The figure of a CPU among those that are named.
-fn fig_of(parts: &Parts, names: &[FigName], cpu: u32) -> Fig
-    requires { IsReady parts.now.machine }
-    ensures { result ≡ fig_or_none (find (λ f. f.cpu == cpu) (figures_named parts.now.machine.figures names.now)) }
+fn fig_of(engine: &Engine, names: &[FigName], cpu: u32) -> Fig
+    requires { IsReady engine.now.machine }
+    ensures { result ≡ fig_or_none (find (λ f. f.cpu == cpu) (figures_named engine.now.machine.figures names.now)) }
 {
     for name in names {
         if name.cpu == cpu {
-            return figure_at(parts, cpu, name.n);
+            return figure_at(engine, cpu, name.n);
         }
     }
     NO_FIG
 }
 
 // A figure of a CPU by its number, or none.
-fn figure_at(parts: &Parts, cpu: u32, number: u64) -> Fig
-    requires { IsReady parts.now.machine }
-    ensures { result ≡ slice_index_or (figures_at parts.now.machine.figures cpu) number no_fig }
+fn figure_at(engine: &Engine, cpu: u32, number: u64) -> Fig
+    requires { IsReady engine.now.machine }
+    ensures { result ≡ slice_index_or (figures_at engine.now.machine.figures cpu) number no_fig }
 {
-    if cpu >= parts.cpus() {
+    if cpu >= engine.cpus() {
         return NO_FIG;
     }
-    match parts.figures(cpu).get(number as usize) {
+    match engine.figures(cpu).get(number as usize) {
         None => NO_FIG,
         Some(fig) => *fig,
     }
 }
 
 /// The named figures, one for each CPU, from CPU 0. A CPU that is not named has none.
-pub fn figs_named(parts: &Parts, names: &[FigName]) -> [Fig; MAX_CPUS as usize]
-    requires { IsReady parts.now.machine }
-    ensures { result ≡ by_cpu (figures_named parts.now.machine.figures names.now) }
+pub fn figs_named(engine: &Engine, names: &[FigName]) -> [Fig; MAX_CPUS as usize]
+    requires { IsReady engine.now.machine }
+    ensures { result ≡ by_cpu (figures_named engine.now.machine.figures names.now) }
 {
     let mut figs = [NO_FIG; MAX_CPUS as usize];
     for cpu in 0..MAX_CPUS {
-        figs[cpu as usize] = fig_of(parts, names, cpu);
+        figs[cpu as usize] = fig_of(engine, names, cpu);
     }
     figs
 }
 
 /// The least CPU that the named figures show tickless.
 #[tactic(auto, unfolding(lb_core::specs::Sight::tickless_in))]
-pub fn target_among(parts: &Parts, names: &[FigName]) -> Option<u32>
-    requires { IsReady parts.now.machine }
-    ensures { result ≡ least (tickless_in (figures_named parts.now.machine.figures names.now)) }
+pub fn target_among(engine: &Engine, names: &[FigName]) -> Option<u32>
+    requires { IsReady engine.now.machine }
+    ensures { result ≡ least (tickless_in (figures_named engine.now.machine.figures names.now)) }
 {
-    kick_target(&figs_named(parts, names), Mask::all(MAX_CPUS))
+    kick_target(&figs_named(engine, names), Mask::all(MAX_CPUS))
 }
 
 /// What the named figures decide about the position in work.
-pub fn decision_among(parts: &Parts, course: &Course, names: &[FigName]) -> Decision
-    requires ready { IsReady parts.now.machine }
-    requires position { HasPosition parts.now.machine course.now }
-    requires asks { DecideAsks (named_sight parts.now.machine course.now names.now) }
+pub fn decision_among(engine: &Engine, course: &Course, names: &[FigName]) -> Decision
+    requires ready { IsReady engine.now.machine }
+    requires position { HasPosition engine.now.machine course.now }
+    requires asks { DecideAsks (named_sight engine.now.machine course.now names.now) }
     ensures { result ≡ decision
-        (turn_domain parts.now.machine.header course.now).shape
-        (turn_domain parts.now.machine.header course.now).groups
-        (by_cpu (figures_named parts.now.machine.figures names.now))
+        (turn_domain engine.now.machine.header course.now).shape
+        (turn_domain engine.now.machine.header course.now).groups
+        (by_cpu (figures_named engine.now.machine.figures names.now))
         course.now.cpu (turn_kind course.now) course.now.excluded }
 {
-    decision_by(parts, course, &figs_named(parts, names))
+    decision_by(engine, course, &figs_named(engine, names))
 }

@@ -5,14 +5,14 @@ ghost use Rattle.lb_queue.specs.Requests.{next_stop};
 ghost use Rattle.lb_queue.specs.Values.{views};
 ghost use Rattle.lb_core.specs.Leaving.{out_by, stop_out, push_out, pull_out, wake_out};
 ghost use Rattle.lb_due.specs.Outs.{out_due};
-ghost use Rattle.lb_due.specs.Turns.{PullsAt};
+ghost use Rattle.lb_engine.specs.Asks.{PullAsks};
 
 use crate::turns::env_due;
 use lb_active::active_pick;
 use lb_base::{Items, NoMemory, TaskView};
 use lb_core::{Course, Form, Ids, What};
 use lb_detach::{Env, Picked, picks};
-use lb_parts::Parts;
+use lb_engine::Engine;
 use lb_queue::laws::pulls_follow_picks;
 use lb_queue::{OutCause, Queue};
 use lb_trace::Command;
@@ -32,12 +32,12 @@ pub struct Out {
 /// What is to leave the queue, if anything is due there.
 pub fn out_of_queue(
     alloc: Global,
-    parts: &Parts,
+    engine: &Engine,
     course: &Course,
     queue: &Queue,
 ) -> Result<Option<Out>, NoMemory>
-    requires { PullsAt course.now.form parts.now.machine course.now }
-    ensures { IfOk result (λ due. due ≡ out_due (out_by course.now.form parts.now.machine.header course.now queue.now.state)) }
+    requires { PullAsks course.now.form engine.now.machine course.now }
+    ensures { IfOk result (λ due. due ≡ out_due (out_by course.now.form engine.now.machine.header course.now queue.now.state)) }
 {
     match course.form {
         Form::Rest => stop_due(alloc, queue, false),
@@ -46,7 +46,7 @@ pub fn out_of_queue(
             Some(_) => stop_due(alloc, queue, true),
             None => push_due(alloc, queue, course.at),
         },
-        Form::Looked => match env_due(parts, course) {
+        Form::Looked => match env_due(engine, course) {
             None => Ok(None),
             Some(env) => pull_due(alloc, queue, course.at, &env),
         },

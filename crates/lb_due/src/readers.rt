@@ -1,4 +1,4 @@
-//! What the values read of the parts.
+//! What the values read of the engine.
 ghost use Rattle.std.specs.Prelude.{◌≡◌, ◌<◌, is_some};
 ghost use Rattle.lb_queue.specs.Requests.{has_owed, has_pending};
 ghost use Rattle.lb_core.specs.Stage.{push_is_due};
@@ -8,17 +8,17 @@ ghost use Rattle.lb_ready.specs.Ready.{IsReady};
 ghost use Rattle.lb_due.specs.Owners.{HasQueue};
 
 use lb_core::{Course, Form, Owner};
-use lb_parts::Parts;
+use lb_engine::Engine;
 use lb_queue::Queue;
 use lb_queue::laws::next_stops;
 
 /// The queue that owns an entry.
-pub fn queue_of(parts: &Parts, owner: Owner) -> &Queue
-    requires { HasQueue parts.now.machine owner }
-    ensures { result.now.state ≡ owned_queue owner parts.now.machine }
+pub fn queue_of(engine: &Engine, owner: Owner) -> &Queue
+    requires { HasQueue engine.now.machine owner }
+    ensures { result.now.state ≡ owned_queue owner engine.now.machine }
 {
     match owner {
-        Owner::Queue(cpu) => parts.queue(cpu),
+        Owner::Queue(cpu) => engine.queue(cpu),
         Owner::Lane(_) | Owner::Publisher => unreachable!(),
     }
 }
@@ -59,12 +59,12 @@ pub fn is_rest(form: Form) -> bool
 }
 
 /// Whether every lane is at rest.
-pub fn all_rest(parts: &Parts) -> bool
-    requires { IsReady parts.now.machine }
-    ensures { result ≡ all_rest parts.now.machine }
+pub fn all_rest(engine: &Engine) -> bool
+    requires { IsReady engine.now.machine }
+    ensures { result ≡ all_rest engine.now.machine }
 {
-    for lane in 0..parts.lanes() {
-        if !is_rest(parts.course(lane).form) {
+    for lane in 0..engine.lanes() {
+        if !is_rest(engine.course(lane).form) {
             return false;
         }
     }
@@ -72,12 +72,12 @@ pub fn all_rest(parts: &Parts) -> bool
 }
 
 /// The least CPU with a pending stop request.
-pub fn first_pending(parts: &Parts) -> Option<u32>
-    requires { IsReady parts.now.machine }
-    ensures { result ≡ first_pending parts.now.machine }
+pub fn first_pending(engine: &Engine) -> Option<u32>
+    requires { IsReady engine.now.machine }
+    ensures { result ≡ first_pending engine.now.machine }
 {
-    for cpu in 0..parts.cpus() {
-        if has_pending(parts.queue(cpu)) {
+    for cpu in 0..engine.cpus() {
+        if has_pending(engine.queue(cpu)) {
             return Some(cpu);
         }
     }

@@ -9,23 +9,23 @@ ghost use Rattle.lb_core.specs.Elsewhere.{ticked_elsewhere};
 ghost use Rattle.lb_ready.specs.Ready.{IsReady};
 
 use lb_base::Mask;
-use lb_parts::Parts;
+use lb_engine::Engine;
 use lb_trace::Command;
 
 /// Whether a command names a task or a CPU that is not declared, or masks that are no partition.
-pub fn is_undeclared(parts: &Parts, command: &Command) -> bool
-    requires { IsReady parts.now.machine }
-    ensures { result ≡ is_undeclared parts.now.machine.header command.now }
+pub fn is_undeclared(engine: &Engine, command: &Command) -> bool
+    requires { IsReady engine.now.machine }
+    ensures { result ≡ is_undeclared engine.now.machine.header command.now }
 {
     match command {
         Command::Wake { task }
         | Command::Sleep { task }
         | Command::Exit { task }
         | Command::SetMask { task, mask: _ }
-        | Command::Nice { task, nice: _ } => *task as usize >= parts.header().tasks.len(),
-        Command::Tick { cpu } => *cpu >= parts.cpus(),
+        | Command::Nice { task, nice: _ } => *task as usize >= engine.header().tasks.len(),
+        Command::Tick { cpu } => *cpu >= engine.cpus(),
         Command::Rebuild { parts: masks } => {
-            !are_in(masks.as_slice(), parts.cpus()) || !are_disjoint(masks.as_slice())
+            !are_in(masks.as_slice(), engine.cpus()) || !are_disjoint(masks.as_slice())
         }
     }
 }
@@ -73,13 +73,13 @@ fn is_apart(mask: Mask, other: Mask) -> bool
 }
 
 /// Whether the command ticks a CPU that another lane ticks.
-pub fn ticked_elsewhere(parts: &Parts, lane: u32, command: &Command) -> bool
-    requires ready { IsReady parts.now.machine }
-    requires declared { is_undeclared parts.now.machine.header command.now ≡ false }
-    ensures { result ≡ ticked_elsewhere parts.now.machine lane (what.Row 0 0 command.now) }
+pub fn ticked_elsewhere(engine: &Engine, lane: u32, command: &Command) -> bool
+    requires ready { IsReady engine.now.machine }
+    requires declared { is_undeclared engine.now.machine.header command.now ≡ false }
+    ensures { result ≡ ticked_elsewhere engine.now.machine lane (what.Row 0 0 command.now) }
 {
     match command {
-        Command::Tick { cpu } => match parts.ticked(*cpu) {
+        Command::Tick { cpu } => match engine.ticked(*cpu) {
             None => false,
             Some(other) => other != lane,
         },

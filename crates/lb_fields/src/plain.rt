@@ -1,3 +1,4 @@
+//! Lines in which `csv` sees nothing but commas.
 ghost use Rattle.std.specs.Prelude.{◌≡◌};
 ghost use Rattle.lb_fields.specs.Pieces.{is_plain};
 

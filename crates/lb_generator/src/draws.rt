@@ -1,3 +1,4 @@
+//! The numbers that are drawn, one from the other (docs/rules/generator.md).
 ghost use Rattle.std.specs.Prelude.{◌≡◌, ◌<◌};
 
 /// Numbers that are drawn one after the other (docs/rules/generator.md).

@@ -1,3 +1,4 @@
+//! The lines of a drawn trace.
 ghost use Rattle.std.specs.Prelude.{◌≡◌, ◌∷◌, ◌++◌, [], OnOk, map, codes, decimal};
 ghost use Rattle.std.specs.Fmt.{signed_decimal};
 ghost use Rattle.lb_text.specs.Runs.{list_text};

@@ -1,3 +1,4 @@
+//! The rows of a drawn trace (docs/rules/generator.md).
 ghost use Rattle.std.specs.Prelude.{◌≡◌, ◌<◌, ◌≤◌, ◌∷◌, [], IfOk};
 ghost use Rattle.lb_trace.specs.declared.trace.Command.TheVariants as commands;
 ghost use Rattle.lb_generator.specs.Generator.{lower_cpus, upper_cpus, all_cpus, lane_of};

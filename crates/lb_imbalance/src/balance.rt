@@ -1,3 +1,4 @@
+//! Whether a domain is balanced as it is (docs/rules/decision.md).
 ghost use Rattle.std.specs.Prelude.{◌≡◌, ◌<◌, ◌^◌, ◌&&◌, not};
 ghost use Rattle.lb_imbalance.specs.Balance.{is_level, is_level_as, is_level_by_idle, is_level_by_load, prefers_sibling};
 ghost use Rattle.lb_imbalance.specs.Conditions.{IsInRange};

@@ -1,3 +1,4 @@
+//! The whole decision of a CPU about a domain (docs/rules/decision.md).
 ghost use Rattle.std.specs.Prelude.{◌≡◌, ◌<◌, ◌≤◌, ◌^◌, ℕ, true, false, length, sum_by, All, take};
 ghost use Rattle.lb_base.specs.Mask.{has, without};
 ghost use Rattle.lb_base.specs.Figures.{AllHaveFigures};

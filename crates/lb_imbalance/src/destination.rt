@@ -1,3 +1,4 @@
+//! Whether a CPU is the one that balances for its group (docs/rules/decision.md).
 ghost use Rattle.std.specs.Prelude.{◌≡◌, ◌<◌, length, true};
 ghost use Rattle.lb_base.specs.Mask.{has};
 ghost use Rattle.lb_base.specs.Figures.{AllHaveFigures};

@@ -1,3 +1,4 @@
+//! How much is to move, and of what (docs/rules/decision.md).
 ghost use Rattle.std.specs.Prelude.{◌≡◌, ◌<◌, ◌^◌};
 ghost use Rattle.lb_imbalance.specs.Amount.{half_of_difference, imbalance_of, imbalance_as, is_pressed, load_to_average, one_task, spare_room};
 ghost use Rattle.lb_imbalance.specs.Conditions.{IsInRange};

@@ -1,3 +1,4 @@
+//! What differs from level to level (docs/rules/decision.md).
 ghost use Rattle.std.specs.Prelude.{◌≡◌};
 ghost use Rattle.lb_imbalance.specs.Levels.{has_siblings, is_above_cache, percent_of};
 

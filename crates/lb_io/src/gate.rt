@@ -1,3 +1,5 @@
+//! The gate that lanes pass: by it a test can hold a lane at a point.
+
 /// Where a lane stands when it passes a gate. It holds no lock there.
 #[derive(Clone, Copy, Debug, PartialEq, Eq)]
 pub enum Point {

@@ -1,3 +1,4 @@
+//! A source and a sink in memory, whose calls fail where they are told to.
 ghost use Rattle.std.specs.Prelude.{◌≡◌, ◌↔◌, ℕ, ◌≤◌, [], List, Some, Contains, IfOk, IsErr, drop, is_err, length, min, take, vec_len, if◌then◌else◌};
 ghost use Rattle.std.specs.declared.option.Option.{Option};
 ghost use Rattle.std.specs.Io.{ReadsAtMost};

@@ -1,3 +1,4 @@
+//! Sources and sinks over the streams of std, which tell no bytes.
 ghost use Rattle.std.specs.Prelude.{◌≡◌, ℕ, None};
 
 use crate::stream::{Failed, Sink, Source};

@@ -1,3 +1,4 @@
+//! What a source and a sink promise: bytes that are told, and a count of faults.
 ghost use Rattle.std.specs.Prelude.{List, ℕ};
 ghost use Rattle.std.specs.declared.option.Option.{Option};
 ghost use Rattle.std.specs.Io.{ReadsAtMost};

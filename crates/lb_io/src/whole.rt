@@ -1,3 +1,4 @@
+//! Reading a whole input, and writing a whole text.
 ghost use Rattle.std.specs.Prelude.{◌≡◌, ℕ, ◌<◌, ◌≤◌, ◌^◌, List, length, IfOk, OnErr, OnOk, IfSome, IsErrOf};
 ghost use Rattle.std.specs.Io.KnownBytes.{Appends, Consumes, IsAtEnd};
 ghost use Rattle.lb_io.specs.Faults.{CountsFaults, Rose};

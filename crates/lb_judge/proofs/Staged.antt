@@ -35,7 +35,7 @@ use Rattle.lb_ready.specs.Next.{bare}
 use Rattle.lb_ready.proofs.Staging.{staged}
 use Rattle.lb_due.specs.Owners.{HasQueue}
 use Rattle.lb_turn.specs.Turns.{HasDue}
-use Rattle.lb_due.specs.Turns.{HasTurn, HasPosition, PullsAt}
+use Rattle.lb_engine.specs.Asks.{HasTurn, HasPosition, PullAsks}
 
 -- ---- owners
 abbrev pub is_of_queue : What → Bool
@@ -169,11 +169,11 @@ pub_breaks m e v r h i =
 
 -- a lane that has looked stands at a position
 pulls_at : (f : Form) (m : MachineState) (lane : ℕ) → IsReady m → TurnIn f m lane (course_at m.courses lane)
-    → PullsAt f m (course_at m.courses lane)
+    → PullAsks f m (course_at m.courses lane)
 pulls_at Looked m lane r t = has_position m lane r t
 pulls_at f m lane r t = tt
 
-pub pulls : (m : MachineState) (lane : ℕ) → IsReady m → PullsAt (course_at m.courses lane).form m (course_at m.courses lane)
+pub pulls : (m : MachineState) (lane : ℕ) → IsReady m → PullAsks (course_at m.courses lane).form m (course_at m.courses lane)
 pulls m lane r = pulls_at (course_at m.courses lane).form m lane r (r.turns lane)
 
 -- ---- figures

@@ -6,18 +6,18 @@ ghost use Rattle.lb_ready.specs.Ready.{IsReady};
 
 use lb_core::{Entry, What};
 use lb_due::unserved;
-use lb_parts::Parts;
+use lb_engine::Engine;
 
 /// Whether the entry breaks the rule `end`.
-pub(crate) fn breaks_end(parts: &Parts, entry: &Entry) -> bool
-    requires { IsReady parts.now.machine }
-    ensures { result ≡ breaks parts.now.machine entry.now rule.End }
+pub(crate) fn breaks_end(engine: &Engine, entry: &Entry) -> bool
+    requires { IsReady engine.now.machine }
+    ensures { result ≡ breaks engine.now.machine entry.now rule.End }
 {
-    if parts.has_ended() {
+    if engine.has_ended() {
         return true;
     }
     match &entry.what {
-        What::End { unserved: cpus } => *cpus != unserved(parts),
+        What::End { unserved: cpus } => *cpus != unserved(engine),
         _ => false,
     }
 }

@@ -11,46 +11,46 @@ ghost use Rattle.lb_core.specs.Machine.{entries_at};
 ghost use Rattle.lb_core.specs.Step.{breaks};
 ghost use Rattle.lb_ready.specs.Ready.{IsReady};
 ghost use Rattle.lb_turn.specs.Turns.{HasDue};
-ghost use Rattle.lb_due.specs.Turns.{HasTurn};
+ghost use Rattle.lb_engine.specs.Asks.{HasTurn};
 
 use lb_base::Mask;
 use lb_core::{Course, Entry, FigName, What};
 use lb_due::{decision_among, entries_at, figures_due, target_among};
-use lb_parts::Parts;
+use lb_engine::Engine;
 use lb_ready::laws::calls_may_be_made;
 
 /// Whether the entry breaks the rule `figure`.
 #[tactic(auto, unfolding(lb_core::specs::Machine::sight))]
-pub(crate) fn breaks_figure(parts: &Parts, entry: &Entry) -> bool
-    requires ready { IsReady parts.now.machine }
-    requires stage { breaks parts.now.machine entry.now rule.Stage ≡ false }
-    ensures { result ≡ breaks parts.now.machine entry.now rule.Figure }
+pub(crate) fn breaks_figure(engine: &Engine, entry: &Entry) -> bool
+    requires ready { IsReady engine.now.machine }
+    requires stage { breaks engine.now.machine entry.now rule.Stage ≡ false }
+    ensures { result ≡ breaks engine.now.machine entry.now rule.Figure }
 {
-    let course = parts.course(entry.lane);
+    let course = engine.course(entry.lane);
     match &entry.what {
         What::Look {
             position: _,
             excluded: _,
             figures,
             decision: _,
-        } => are_wrong(parts, course, figures.as_slice()),
-        What::Scan { figures, target: _ } => are_wrong(parts, course, figures.as_slice()),
+        } => are_wrong(engine, course, figures.as_slice()),
+        What::Scan { figures, target: _ } => are_wrong(engine, course, figures.as_slice()),
         _ => false,
     }
 }
 
 // Whether the figures are not those that are due, or one is older than the lane named, or not published.
-fn are_wrong(parts: &Parts, course: &Course, names: &[FigName]) -> bool
-    requires ready { IsReady parts.now.machine }
-    requires turn { HasTurn parts.now.machine course.now }
-    requires due { HasDue course.now.form parts.now.machine.header course.now }
-    ensures { (s : Sight) → s.header ≡ parts.now.machine.header → s.course ≡ course.now
-        → result ≡ (are_wrong s names.now || list_any (λ f. nat_lt (entries_at parts.now.machine f.cpu) f.n) names.now) }
+fn are_wrong(engine: &Engine, course: &Course, names: &[FigName]) -> bool
+    requires ready { IsReady engine.now.machine }
+    requires turn { HasTurn engine.now.machine course.now }
+    requires due { HasDue course.now.form engine.now.machine.header course.now }
+    ensures { (s : Sight) → s.header ≡ engine.now.machine.header → s.course ≡ course.now
+        → result ≡ (are_wrong s names.now || list_any (λ f. nat_lt (entries_at engine.now.machine f.cpu) f.n) names.now) }
 {
-    if !are_of(names, figures_due(parts, course)) {
+    if !are_of(names, figures_due(engine, course)) {
         return true;
     }
-    are_old(names, course) || are_unpublished(parts, names)
+    are_old(names, course) || are_unpublished(engine, names)
 }
 
 // Whether there is one name for each CPU of the mask, in their order.
@@ -85,26 +85,26 @@ fn named_at(course: &Course, cpu: u32) -> u64
 }
 
 // Whether one of the figures is not published.
-fn are_unpublished(parts: &Parts, names: &[FigName]) -> bool
-    requires { IsReady parts.now.machine }
-    ensures { result ≡ list_any (λ f. nat_lt (entries_at parts.now.machine f.cpu) f.n) names.now }
+fn are_unpublished(engine: &Engine, names: &[FigName]) -> bool
+    requires { IsReady engine.now.machine }
+    ensures { result ≡ list_any (λ f. nat_lt (entries_at engine.now.machine f.cpu) f.n) names.now }
 {
     names
         .iter()
-        .any(|name| name.n > entries_at(parts, name.cpu))
+        .any(|name| name.n > entries_at(engine, name.cpu))
 }
 
 /// Whether the entry breaks the rule `decision`.
 #[tactic(auto, unfolding(lb_core::specs::Machine::sight))]
-pub(crate) fn breaks_decision(parts: &Parts, entry: &Entry) -> bool
-    requires ready { IsReady parts.now.machine }
-    requires stage { breaks parts.now.machine entry.now rule.Stage ≡ false }
-    requires figure { breaks parts.now.machine entry.now rule.Figure ≡ false }
-    ensures { result ≡ breaks parts.now.machine entry.now rule.Decision }
+pub(crate) fn breaks_decision(engine: &Engine, entry: &Entry) -> bool
+    requires ready { IsReady engine.now.machine }
+    requires stage { breaks engine.now.machine entry.now rule.Stage ≡ false }
+    requires figure { breaks engine.now.machine entry.now rule.Figure ≡ false }
+    ensures { result ≡ breaks engine.now.machine entry.now rule.Decision }
 {
     // a look at the figures that are due meets what a decision asks
     calls_may_be_made();
-    let course = parts.course(entry.lane);
+    let course = engine.course(entry.lane);
     match &entry.what {
         What::Look {
             position,
@@ -114,9 +114,9 @@ pub(crate) fn breaks_decision(parts: &Parts, entry: &Entry) -> bool
         } => {
             *position != course.position
                 || *excluded != course.excluded
-                || *decision != decision_among(parts, course, figures.as_slice())
+                || *decision != decision_among(engine, course, figures.as_slice())
         }
-        What::Scan { figures, target } => *target != target_among(parts, figures.as_slice()),
+        What::Scan { figures, target } => *target != target_among(engine, figures.as_slice()),
         What::Close {
             position,
             outcome: _,

@@ -15,65 +15,65 @@ use crate::turns::breaks_counters;
 use crate::versions::breaks_version;
 use lb_base::NoMemory;
 use lb_core::{Entry, Rule};
-use lb_parts::Parts;
+use lb_engine::Engine;
 use std::alloc::Global;
 
 /// The first rule that an entry at the next ticket breaks, or None where it may be added
 /// (docs/rules/legality.md). It changes nothing.
 #[tactic(auto, unfolding(lb_core::specs::Step::first_broken))]
-pub fn first_broken(alloc: Global, parts: &Parts, entry: &Entry) -> Result<Option<Rule>, NoMemory>
-    requires { IsReady parts.now.machine }
-    ensures { IfOk result (λ rule. rule ≡ first_broken parts.now.machine entry.now) }
+pub fn first_broken(alloc: Global, engine: &Engine, entry: &Entry) -> Result<Option<Rule>, NoMemory>
+    requires { IsReady engine.now.machine }
+    ensures { IfOk result (λ rule. rule ≡ first_broken engine.now.machine entry.now) }
 {
-    if breaks_prev(parts, entry) {
+    if breaks_prev(engine, entry) {
         return Ok(Some(Rule::Prev));
     }
-    if breaks_stage(parts, entry) {
+    if breaks_stage(engine, entry) {
         return Ok(Some(Rule::Stage));
     }
-    if breaks_row(parts, entry) {
+    if breaks_row(engine, entry) {
         return Ok(Some(Rule::Row));
     }
-    if breaks_place(parts, entry) {
+    if breaks_place(engine, entry) {
         return Ok(Some(Rule::Place));
     }
-    if breaks_reply(parts, entry) {
+    if breaks_reply(engine, entry) {
         return Ok(Some(Rule::Reply));
     }
-    if breaks_version(parts, entry) {
+    if breaks_version(engine, entry) {
         return Ok(Some(Rule::Version));
     }
-    if breaks_figure(parts, entry) {
+    if breaks_figure(engine, entry) {
         return Ok(Some(Rule::Figure));
     }
-    if breaks_decision(parts, entry) {
+    if breaks_decision(engine, entry) {
         return Ok(Some(Rule::Decision));
     }
-    if breaks_pick(alloc, parts, entry)? {
+    if breaks_pick(alloc, engine, entry)? {
         return Ok(Some(Rule::Pick));
     }
-    if breaks_flight(parts, entry) {
+    if breaks_flight(engine, entry) {
         return Ok(Some(Rule::Flight));
     }
-    if breaks_counters(parts, entry) {
+    if breaks_counters(engine, entry) {
         return Ok(Some(Rule::Counters));
     }
-    if breaks_owed(parts, entry) {
+    if breaks_owed(engine, entry) {
         return Ok(Some(Rule::Owed));
     }
-    if breaks_end(parts, entry) {
+    if breaks_end(engine, entry) {
         return Ok(Some(Rule::End));
     }
     Ok(None)
 }
 
 // Whether the entry does not name its lane's last ticket, which is 0 for an undeclared lane.
-fn breaks_prev(parts: &Parts, entry: &Entry) -> bool
-    requires { IsReady parts.now.machine }
-    ensures { result ≡ breaks parts.now.machine entry.now rule.Prev }
+fn breaks_prev(engine: &Engine, entry: &Entry) -> bool
+    requires { IsReady engine.now.machine }
+    ensures { result ≡ breaks engine.now.machine entry.now rule.Prev }
 {
-    let last = if entry.lane < parts.lanes() {
-        parts.last(entry.lane)
+    let last = if entry.lane < engine.lanes() {
+        engine.last(entry.lane)
     } else {
         0
     };

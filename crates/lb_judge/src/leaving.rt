@@ -9,21 +9,21 @@ ghost use Rattle.lb_ready.specs.Ready.{IsReady};
 use lb_base::NoMemory;
 use lb_core::{Course, Entry, What};
 use lb_due::{Out, out_of_queue, queue_of};
-use lb_parts::Parts;
+use lb_engine::Engine;
 use lb_queue::OutCause;
 use std::alloc::Global;
 
 /// Whether the entry breaks the rule `pick`.
 #[tactic(auto, unfolding(lb_core::specs::Machine::sight, lb_core::specs::Leaving::leaving))]
-pub(crate) fn breaks_pick(alloc: Global, parts: &Parts, entry: &Entry) -> Result<bool, NoMemory>
-    requires ready { IsReady parts.now.machine }
-    requires stage { breaks parts.now.machine entry.now rule.Stage ≡ false }
-    ensures { IfOk result (λ broken. broken ≡ breaks parts.now.machine entry.now rule.Pick) }
+pub(crate) fn breaks_pick(alloc: Global, engine: &Engine, entry: &Entry) -> Result<bool, NoMemory>
+    requires ready { IsReady engine.now.machine }
+    requires stage { breaks engine.now.machine entry.now rule.Stage ≡ false }
+    ensures { IfOk result (λ broken. broken ≡ breaks engine.now.machine entry.now rule.Pick) }
 {
     match &entry.what {
         What::Out { cause, to, ids } => {
-            let course = parts.course(entry.lane);
-            match out_of_queue(alloc, parts, course, queue_of(parts, entry.owner))? {
+            let course = engine.course(entry.lane);
+            match out_of_queue(alloc, engine, course, queue_of(engine, entry.owner))? {
                 None => Ok(true),
                 Some(due) => Ok(is_other(&due, *cause, *to, ids.as_slice())),
             }
@@ -59,13 +59,13 @@ fn are_same(one: &[u32], other: &[u32]) -> bool
 
 /// Whether the entry breaks the rule `flight`.
 #[tactic(auto, unfolding(lb_core::specs::Machine::sight))]
-pub(crate) fn breaks_flight(parts: &Parts, entry: &Entry) -> bool
-    requires ready { IsReady parts.now.machine }
-    requires stage { breaks parts.now.machine entry.now rule.Stage ≡ false }
-    ensures { result ≡ breaks parts.now.machine entry.now rule.Flight }
+pub(crate) fn breaks_flight(engine: &Engine, entry: &Entry) -> bool
+    requires ready { IsReady engine.now.machine }
+    requires stage { breaks engine.now.machine entry.now rule.Stage ≡ false }
+    ensures { result ≡ breaks engine.now.machine entry.now rule.Flight }
 {
     match &entry.what {
-        What::Landed { ids } => !is_hand(parts.course(entry.lane), ids.as_slice()),
+        What::Landed { ids } => !is_hand(engine.course(entry.lane), ids.as_slice()),
         _ => false,
     }
 }

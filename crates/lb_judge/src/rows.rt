@@ -6,14 +6,14 @@ ghost use Rattle.lb_ready.specs.Ready.{IsReady};
 
 use lb_core::{Entry, What};
 use lb_due::{is_undeclared, ticked_elsewhere};
-use lb_parts::Parts;
+use lb_engine::Engine;
 
 /// Whether the entry breaks the rule `row`.
 #[tactic(auto, unfolding(lb_core::specs::Machine::sight))]
-pub(crate) fn breaks_row(parts: &Parts, entry: &Entry) -> bool
-    requires ready { IsReady parts.now.machine }
-    requires stage { breaks parts.now.machine entry.now rule.Stage ≡ false }
-    ensures { result ≡ breaks parts.now.machine entry.now rule.Row }
+pub(crate) fn breaks_row(engine: &Engine, entry: &Entry) -> bool
+    requires ready { IsReady engine.now.machine }
+    requires stage { breaks engine.now.machine entry.now rule.Stage ≡ false }
+    ensures { result ≡ breaks engine.now.machine entry.now rule.Row }
 {
     match &entry.what {
         What::Row {
@@ -21,9 +21,9 @@ pub(crate) fn breaks_row(parts: &Parts, entry: &Entry) -> bool
             at: _,
             command,
         } => {
-            !is_next(*number, parts.course(entry.lane).rows)
-                || is_undeclared(parts, command)
-                || ticked_elsewhere(parts, entry.lane, command)
+            !is_next(*number, engine.course(entry.lane).rows)
+                || is_undeclared(engine, command)
+                || ticked_elsewhere(engine, entry.lane, command)
         }
         _ => false,
     }

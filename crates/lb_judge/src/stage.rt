@@ -36,35 +36,35 @@ use lb_course::{
     is_pull, is_rebuild, is_settled, is_tick, is_wake, queue_due, target_of, ticked_cpu, turn_kind,
 };
 use lb_due::{all_rest, first_pending, has_owed, is_rest, looks_again, push_is_due};
-use lb_parts::Parts;
+use lb_engine::Engine;
 
 /// Whether the entry breaks the rule `stage`.
 #[tactic(auto, unfolding(lb_core::specs::Machine::sight, lb_core::specs::Stage::stage_allows))]
-pub(crate) fn breaks_stage(parts: &Parts, entry: &Entry) -> bool
-    requires { IsReady parts.now.machine }
-    ensures { result ≡ breaks parts.now.machine entry.now rule.Stage }
+pub(crate) fn breaks_stage(engine: &Engine, entry: &Entry) -> bool
+    requires { IsReady engine.now.machine }
+    ensures { result ≡ breaks engine.now.machine entry.now rule.Stage }
 {
-    if is_undeclared(parts, entry.lane, entry.owner) {
+    if is_undeclared(engine, entry.lane, entry.owner) {
         return true;
     }
-    let course = parts.course(entry.lane);
+    let course = engine.course(entry.lane);
     if !is_owner(&entry.what, entry.lane, queue_due(course), entry.owner) {
         return true;
     }
-    if !draws(parts, course, entry) {
+    if !draws(engine, course, entry) {
         return true;
     }
-    waits_at_rest(parts, course, entry) || waits_for_push(parts, course, entry)
+    waits_at_rest(engine, course, entry) || waits_for_push(engine, course, entry)
 }
 
 // Whether the lane is not declared, or the owner is the queue of no CPU.
-fn is_undeclared(parts: &Parts, lane: u32, owner: Owner) -> bool
-    requires { IsReady parts.now.machine }
-    ensures { result ≡ (is_undeclared_lane parts.now.machine lane || is_undeclared_owner parts.now.machine owner) }
+fn is_undeclared(engine: &Engine, lane: u32, owner: Owner) -> bool
+    requires { IsReady engine.now.machine }
+    ensures { result ≡ (is_undeclared_lane engine.now.machine lane || is_undeclared_owner engine.now.machine owner) }
 {
-    lane >= parts.lanes()
+    lane >= engine.lanes()
         || match owner {
-            Owner::Queue(cpu) => cpu >= parts.cpus(),
+            Owner::Queue(cpu) => cpu >= engine.cpus(),
             Owner::Lane(_) | Owner::Publisher => false,
         }
 }
@@ -119,12 +119,12 @@ fn is_form(form: Form, one: Form) -> bool
 }
 
 // Whether the form of the lane's course draws such an entry.
-fn draws(parts: &Parts, course: &Course, entry: &Entry) -> bool
-    requires ready { IsReady parts.now.machine }
-    requires course { course.now ≡ course_at parts.now.machine.courses entry.now.lane }
-    requires owner { is_undeclared_owner parts.now.machine entry.now.owner ≡ false }
+fn draws(engine: &Engine, course: &Course, entry: &Entry) -> bool
+    requires ready { IsReady engine.now.machine }
+    requires course { course.now ≡ course_at engine.now.machine.courses entry.now.lane }
+    requires owner { is_undeclared_owner engine.now.machine entry.now.owner ≡ false }
     ensures { result
-        ≡ draws course.now.form parts.now.machine.header course.now (owned_queue entry.now.owner parts.now.machine) entry.now.lane entry.now.what }
+        ≡ draws course.now.form engine.now.machine.header course.now (owned_queue entry.now.owner engine.now.machine) entry.now.lane entry.now.what }
 {
     match &entry.what {
         What::Row { .. } => is_rest(course.form),
@@ -133,15 +133,15 @@ fn draws(parts: &Parts, course: &Course, entry: &Entry) -> bool
             kind,
             cpu,
         } => draws_use(course, *kind, *cpu),
-        What::Look { .. } => draws_look(parts, course),
+        What::Look { .. } => draws_look(engine, course),
         What::Scan { .. } => is_form(course.form, Form::ScanDue),
         What::End { .. } => draws_end(course.form, entry.lane),
         What::Did { .. } => draws_did(course),
-        What::Out { .. } => draws_out(parts, course, entry.lane, entry.owner),
+        What::Out { .. } => draws_out(engine, course, entry.lane, entry.owner),
         What::Landed { .. } => is_form(course.form, Form::Flight),
         What::Turn { .. } => is_form(course.form, Form::Used),
         What::Shut => is_form(course.form, Form::Used),
-        What::Close { .. } => draws_close(parts, course),
+        What::Close { .. } => draws_close(engine, course),
         What::Ask { .. } => is_form(course.form, Form::Closed),
         What::Kick { .. } => draws_kick(course),
         What::Over => is_form(course.form, Form::Done),
@@ -151,28 +151,28 @@ fn draws(parts: &Parts, course: &Course, entry: &Entry) -> bool
 
 // Whether a look is due at the position in work.
 #[tactic(auto, unfolding(lb_core::specs::Stage::draws))]
-fn draws_look(parts: &Parts, course: &Course) -> bool
-    requires { TurnInForm course.now.form parts.now.machine course.now }
+fn draws_look(engine: &Engine, course: &Course) -> bool
+    requires { TurnInForm course.now.form engine.now.machine course.now }
     ensures { (q : QueueState) (lane p : ℕ) (x : Mask) (names : List FigName) (d : Decision) →
-        result ≡ draws course.now.form parts.now.machine.header course.now q lane (what.Look p x names d) }
+        result ≡ draws course.now.form engine.now.machine.header course.now q lane (what.Look p x names d) }
 {
     match course.form {
         Form::Position => true,
-        Form::Landed => looks_again(parts, course),
+        Form::Landed => looks_again(engine, course),
         _ => false,
     }
 }
 
 // Whether the position in work closes.
 #[tactic(auto, unfolding(lb_core::specs::Stage::draws))]
-fn draws_close(parts: &Parts, course: &Course) -> bool
-    requires { TurnInForm course.now.form parts.now.machine course.now }
+fn draws_close(engine: &Engine, course: &Course) -> bool
+    requires { TurnInForm course.now.form engine.now.machine course.now }
     ensures { (q : QueueState) (lane p : ℕ) (w : OutcomeWord) (i f : ℕ) →
-        result ≡ draws course.now.form parts.now.machine.header course.now q lane (what.Close p w i f) }
+        result ≡ draws course.now.form engine.now.machine.header course.now q lane (what.Close p w i f) }
 {
     match course.form {
         Form::Looked => is_settled(course.decision),
-        Form::Landed => !looks_again(parts, course),
+        Form::Landed => !looks_again(engine, course),
         _ => false,
     }
 }
@@ -245,15 +245,15 @@ fn is_ticked(course: &Course, cpu: u32) -> bool
 
 // Whether tasks may leave the owner's queue.
 #[tactic(auto, unfolding(lb_core::specs::Stage::draws))]
-fn draws_out(parts: &Parts, course: &Course, lane: u32, owner: Owner) -> bool
-    requires { is_undeclared_owner parts.now.machine owner ≡ false }
-    ensures { (cause : OutCause) (to : ℕ) (ids : List ℕ) → result ≡ draws course.now.form parts.now.machine.header course.now
-        (owned_queue owner parts.now.machine) lane (what.Out cause to ids) }
+fn draws_out(engine: &Engine, course: &Course, lane: u32, owner: Owner) -> bool
+    requires { is_undeclared_owner engine.now.machine owner ≡ false }
+    ensures { (cause : OutCause) (to : ℕ) (ids : List ℕ) → result ≡ draws course.now.form engine.now.machine.header course.now
+        (owned_queue owner engine.now.machine) lane (what.Out cause to ids) }
 {
     match course.form {
         Form::Rest => lane == 0,
         Form::Asked => is_wake(&course.command),
-        Form::Serving => is_tick(&course.command) && is_served(parts, course, owner),
+        Form::Serving => is_tick(&course.command) && is_served(engine, course, owner),
         Form::Looked => is_pull(course.decision),
         _ => false,
     }
@@ -261,13 +261,13 @@ fn draws_out(parts: &Parts, course: &Course, lane: u32, owner: Owner) -> bool
 
 // Whether a stop or a push is due at the owner's queue.
 #[tactic(auto, unfolding(lb_queue::specs::Requests::has_owed))]
-fn is_served(parts: &Parts, course: &Course, owner: Owner) -> bool
-    requires { is_undeclared_owner parts.now.machine owner ≡ false }
-    ensures { result ≡ (has_owed (owned_queue owner parts.now.machine) || push_is_due course.now (owned_queue owner parts.now.machine)) }
+fn is_served(engine: &Engine, course: &Course, owner: Owner) -> bool
+    requires { is_undeclared_owner engine.now.machine owner ≡ false }
+    ensures { result ≡ (has_owed (owned_queue owner engine.now.machine) || push_is_due course.now (owned_queue owner engine.now.machine)) }
 {
     match owner {
         Owner::Queue(cpu) => {
-            let queue = parts.queue(cpu);
+            let queue = engine.queue(cpu);
             has_owed(queue) || push_is_due(course, queue)
         }
         Owner::Lane(_) | Owner::Publisher => false,
@@ -276,46 +276,46 @@ fn is_served(parts: &Parts, course: &Course, owner: Owner) -> bool
 
 // Whether an entry of a lane at rest has to wait: a row once a stop was served at rest; such a stop, which is
 // the first that is pending, and the end, until all lanes rest.
-fn waits_at_rest(parts: &Parts, course: &Course, entry: &Entry) -> bool
-    requires { IsReady parts.now.machine }
-    ensures { result ≡ stage_at_rest course.now.form parts.now.machine entry.now.owner entry.now.what }
+fn waits_at_rest(engine: &Engine, course: &Course, entry: &Entry) -> bool
+    requires { IsReady engine.now.machine }
+    ensures { result ≡ stage_at_rest course.now.form engine.now.machine entry.now.owner entry.now.what }
 {
     if course.form != Form::Rest {
         return false;
     }
     match &entry.what {
-        What::Row { .. } => parts.is_closing(),
-        What::Out { .. } => !all_rest(parts) || !is_first_pending(parts, entry.owner),
-        What::End { .. } => !all_rest(parts),
+        What::Row { .. } => engine.is_closing(),
+        What::Out { .. } => !all_rest(engine) || !is_first_pending(engine, entry.owner),
+        What::End { .. } => !all_rest(engine),
         _ => false,
     }
 }
 
 // Whether the owner is the first queue with a pending stop.
-fn is_first_pending(parts: &Parts, owner: Owner) -> bool
-    requires { IsReady parts.now.machine }
-    ensures { result ≡ is_first_pending (first_pending parts.now.machine) owner }
+fn is_first_pending(engine: &Engine, owner: Owner) -> bool
+    requires { IsReady engine.now.machine }
+    ensures { result ≡ is_first_pending (first_pending engine.now.machine) owner }
 {
-    match first_pending(parts) {
+    match first_pending(engine) {
         None => false,
         Some(cpu) => owner == Owner::Queue(cpu),
     }
 }
 
 // Whether the `use` of a tick has to wait for a push of its CPU.
-fn waits_for_push(parts: &Parts, course: &Course, entry: &Entry) -> bool
-    requires ready { IsReady parts.now.machine }
-    requires course { course.now ≡ course_at parts.now.machine.courses entry.now.lane }
-    requires drawn { draws course.now.form parts.now.machine.header course.now (owned_queue entry.now.owner parts.now.machine) entry.now.lane entry.now.what
+fn waits_for_push(engine: &Engine, course: &Course, entry: &Entry) -> bool
+    requires ready { IsReady engine.now.machine }
+    requires course { course.now ≡ course_at engine.now.machine.courses entry.now.lane }
+    requires drawn { draws course.now.form engine.now.machine.header course.now (owned_queue entry.now.owner engine.now.machine) entry.now.lane entry.now.what
         ≡ true }
-    ensures { result ≡ stage_of_use parts.now.machine course.now entry.now.what }
+    ensures { result ≡ stage_of_use engine.now.machine course.now entry.now.what }
 {
     match &entry.what {
         What::Adopt {
             version: _,
             kind,
             cpu,
-        } => *kind == Kind::Tick && push_is_due(course, parts.queue(*cpu)),
+        } => *kind == Kind::Tick && push_is_due(course, engine.queue(*cpu)),
         _ => false,
     }
 }

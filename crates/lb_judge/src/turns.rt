@@ -6,23 +6,23 @@ ghost use Rattle.lb_ready.specs.Ready.{IsReady};
 
 use lb_core::{Entry, What};
 use lb_due::{counters_due, positions_due, queue_of, word_due};
-use lb_parts::Parts;
+use lb_engine::Engine;
 use lb_ready::laws::calls_may_be_made;
 
 /// Whether the entry breaks the rule `counters`.
 #[tactic(auto, unfolding(lb_core::specs::Machine::sight, lb_core::specs::Rules::closed_counters))]
-pub(crate) fn breaks_counters(parts: &Parts, entry: &Entry) -> bool
-    requires ready { IsReady parts.now.machine }
-    requires stage { breaks parts.now.machine entry.now rule.Stage ≡ false }
-    requires reply { breaks parts.now.machine entry.now rule.Reply ≡ false }
-    ensures { result ≡ breaks parts.now.machine entry.now rule.Counters }
+pub(crate) fn breaks_counters(engine: &Engine, entry: &Entry) -> bool
+    requires ready { IsReady engine.now.machine }
+    requires stage { breaks engine.now.machine entry.now rule.Stage ≡ false }
+    requires reply { breaks engine.now.machine entry.now rule.Reply ≡ false }
+    ensures { result ≡ breaks engine.now.machine entry.now rule.Counters }
 {
     // a turn that a lane may open meets what the queue asks
     calls_may_be_made();
-    let course = parts.course(entry.lane);
+    let course = engine.course(entry.lane);
     match &entry.what {
         What::Turn { positions } => {
-            *positions != positions_due(parts, course, queue_of(parts, entry.owner))
+            *positions != positions_due(engine, course, queue_of(engine, entry.owner))
         }
         What::Close {
             position: _,
@@ -30,8 +30,8 @@ pub(crate) fn breaks_counters(parts: &Parts, entry: &Entry) -> bool
             interval,
             failures,
         } => {
-            let counters = counters_due(parts, course, queue_of(parts, entry.owner));
-            *word != word_due(parts, course)
+            let counters = counters_due(engine, course, queue_of(engine, entry.owner));
+            *word != word_due(engine, course)
                 || *interval != counters.interval
                 || *failures != counters.failures
         }

@@ -5,14 +5,14 @@ ghost use Rattle.lb_core.specs.Step.{breaks};
 ghost use Rattle.lb_ready.specs.Ready.{IsReady};
 
 use lb_core::{Entry, What};
-use lb_parts::Parts;
+use lb_engine::Engine;
 
 /// Whether the entry breaks the rule `version`.
 #[tactic(auto, unfolding(lb_core::specs::Machine::sight))]
-pub(crate) fn breaks_version(parts: &Parts, entry: &Entry) -> bool
-    requires ready { IsReady parts.now.machine }
-    requires stage { breaks parts.now.machine entry.now rule.Stage ≡ false }
-    ensures { result ≡ breaks parts.now.machine entry.now rule.Version }
+pub(crate) fn breaks_version(engine: &Engine, entry: &Entry) -> bool
+    requires ready { IsReady engine.now.machine }
+    requires stage { breaks engine.now.machine entry.now rule.Stage ≡ false }
+    ensures { result ≡ breaks engine.now.machine entry.now rule.Version }
 {
     match &entry.what {
         What::Adopt {
@@ -20,7 +20,7 @@ pub(crate) fn breaks_version(parts: &Parts, entry: &Entry) -> bool
             kind: _,
             cpu: _,
         } => {
-            *version < parts.course(entry.lane).named_version.max(1) || *version > parts.version()
+            *version < engine.course(entry.lane).named_version.max(1) || *version > engine.version()
         }
         _ => false,
     }

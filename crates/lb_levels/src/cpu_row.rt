@@ -1,3 +1,5 @@
+//! What a machine says of a CPU.
+
 /// What a CPU is part of (docs/rules/domains.md).
 #[derive(Clone, Copy, Debug, PartialEq, Eq)]
 pub struct CpuRow {

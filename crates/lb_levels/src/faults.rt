@@ -1,3 +1,4 @@
+//! Why rows are no machine, and why masks part no machine.
 ghost use Rattle.std.specs.Prelude.{◌≡◌};
 ghost use Rattle.lb_levels.specs.declared.faults.MachineError.TheVariants.{NoMemory as no_memory};
 

@@ -1,3 +1,5 @@
+//! The largest machine.
+
 /// Nodes are numbered below this.
 pub const MAX_NODES: u32 = 16;
 

@@ -1,3 +1,4 @@
+//! A machine: its CPUs and the distances of its nodes (docs/rules/domains.md).
 ghost use Rattle.std.specs.Prelude.{◌≡◌, ◌<◌, ◌≤◌, ◌⊎◌, true, IfOk, IfErr, OnOk, length};
 ghost use Rattle.lb_levels.specs.Rows.{layout_of, nodes_in_range, distances_in_range};
 ghost use Rattle.lb_levels.specs.Faults.{fault_of};

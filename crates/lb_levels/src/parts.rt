@@ -1,3 +1,4 @@
+//! The first fault of partition masks.
 ghost use Rattle.std.specs.Prelude.{◌≡◌, ◌<◌, ◌≤◌, ◌^◌, not, length};
 ghost use Rattle.std.specs.Option.{option_map};
 ghost use Rattle.lb_base.specs.Sets.{is_below, are_apart};

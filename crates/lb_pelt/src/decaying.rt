@@ -1,3 +1,4 @@
+//! How a sum decays with time (docs/rules/signals.md).
 ghost use Rattle.std.specs.Prelude.{◌≡◌};
 ghost use Rattle.lb_pelt.specs.Decay.{decayed};
 

@@ -1,3 +1,4 @@
+//! The load signals of a task: their sums, how they advance, their values (docs/rules/signals.md).
 ghost use Rattle.std.specs.Prelude.{◌≡◌, ◌≤◌, ◌<◌, ◌^◌};
 ghost use Rattle.lb_pelt.specs.Signal.{kept, contribution, awake_share, running_share, zero_signal, advanced, signal_value, IsBounded, IsWithin};
 

@@ -1,4 +1,5 @@
--- Where tasks that leave may go: each may run there, and a stop request that is next may be taken.
+-- Ends `taken_may_run`, `pulls_follow_picks` and `next_stops`: who leaves may run where it goes, a pull takes what is
+-- picked, and a stop request that is next may be taken.
 use Rattle.std.proofs.Common.{◌≡◌, ℕ, zero, suc, ◌≤◌, min, Bool, true, false, not, cond, ◌==◌, ◌&&◌, List, [], ◌∷◌, length, map, take, get_or, find, filter_map, Option, Some, None, is_none, is_some, unwrap_or, refl, sym, ◌∙◌, ap, arith, subst, add-one}
 use Rattle.std.specs.Prelude.{All, IfSome, IsSomeAnd}
 use Rattle.std.specs.List.{list_all, list_any, cons_option}

@@ -1,3 +1,4 @@
+//! What a queue answers to a command, a request, a turn and a take.
 use lb_base::{Kind, Mask};
 
 /// What a queue answers to a command on a task (docs/rules/queue.md).

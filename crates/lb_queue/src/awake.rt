@@ -1,3 +1,4 @@
+//! A task in the list of a queue, with its stop request.
 ghost use Rattle.std.specs.Prelude.{◌≡◌, ◌==◌, ◌<◌, ◌≤ℤ◌, negsuc, pos, false, Some, if◌then◌else◌};
 ghost use Rattle.lb_base.specs.Sets.{is_empty, least};
 ghost use Rattle.lb_queue.specs.Commands.{masked, reniced};

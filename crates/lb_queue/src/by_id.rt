@@ -1,3 +1,4 @@
+//! Tasks of a list, found by their numbers.
 ghost use Rattle.std.specs.Prelude.{◌≡◌, ◌==◌, ◌≤◌, ◌+◌, ℕ, map, position, reverse, vec_len, vec_capacity, MatchOption, IfSome, is_some, false};
 ghost use Rattle.lb_base.specs.Sets.{is_empty};
 ghost use Rattle.lb_queue.specs.Tasks.{occurs, ids, awake_ids, task_with, awake_with, without_task, without_awake};

@@ -1,3 +1,4 @@
+//! A hand: tasks on their way from one queue to another.
 ghost use Rattle.std.specs.Prelude.{◌≡◌, ◌<◌, ◌≤◌, ◌++◌, [], ◌∷◌, None, Some, true, length, slice_get, IfOk};
 ghost use Rattle.std.specs.List.{list_all};
 ghost use Rattle.lb_base.specs.Mask.{has};

@@ -1,3 +1,4 @@
+//! The tasks of a queue: awake, asleep and gone.
 ghost use Rattle.std.specs.Prelude.{◌≡◌, ◌==◌, ◌+◌, ◌-◌, ◌^◌, ◌<◌, ◌≤◌, ◌++◌, [], ◌∷◌, ℕ, is_some, true, length, reverse, IfSome, IfNone, OnOk, OnErr, MatchOption, position, not, Some, slice_get, map, negsuc, pos, ◌≤ℤ◌, false, if◌then◌else◌, sum_by, vec_len, vec_capacity};
 ghost use Rattle.std.specs.List.{list_any, list_all};
 ghost use Rattle.lb_queue.specs.Figures.{awake_value, asleep_value};

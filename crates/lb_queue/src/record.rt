@@ -1,3 +1,4 @@
+//! What contracts see of a task.
 use lb_base::Mask;
 use lb_pelt::Signal;
 

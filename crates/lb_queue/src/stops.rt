@@ -1,3 +1,4 @@
+//! Which stop request of a queue is served next.
 ghost use Rattle.lb_base.specs.Sets.{least};
 ghost use Rattle.std.specs.Prelude.{◌≡◌, ◌≤◌, ℕ, IfSome, Some, min, reverse, unwrap_or, if◌then◌else◌};
 ghost use Rattle.lb_queue.specs.Lists.{IsLeastAsked};

@@ -1,3 +1,4 @@
+//! The sums of load signals over the tasks of a queue.
 ghost use Rattle.std.specs.Prelude.{◌≡◌, ◌+◌, ◌^◌, ◌<◌, ◌≤◌, length};
 ghost use Rattle.lb_pelt.specs.Signal.{IsWithin};
 ghost use Rattle.lb_queue.specs.Figures.{awake_value, asleep_value};

@@ -1,3 +1,4 @@
+//! A task: it can be neither dropped nor copied.
 ghost use Rattle.std.specs.Prelude.{◌≡◌, ◌==◌, if◌then◌else◌, ◌<◌, ◌≤◌, ◌≤ℤ◌, false, pos, negsuc};
 ghost use Rattle.lb_base.specs.Sets.{is_empty};
 ghost use Rattle.lb_pelt.specs.declared.signal.Run.TheVariants.{Running};

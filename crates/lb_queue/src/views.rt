@@ -1,3 +1,4 @@
+//! The list of awake tasks as a pull examines it, and put in the order that it leaves.
 ghost use Rattle.std.specs.Prelude.{◌≡◌, ◌==◌, ◌≤◌, ℕ, length, map, position, reverse, slice_get, unwrap_or, option_and_then, vec_capacity, vec_len, ◌-◌};
 ghost use Rattle.lb_queue.specs.Hands.{in_order};
 ghost use Rattle.lb_queue.specs.Pulls.{IsTurned};

@@ -44,7 +44,7 @@ use Rattle.lb_read.specs.declared.kinds.DecisionKind.TheVariants as decision_kin
 use Rattle.lb_read.specs.declared.written.WrittenEntry.{WrittenEntry}
 use Rattle.lb_read.specs.Exact.{take_field, next_to, ending, if_none_left, whole, each, named, IsExact, TakesExactly}
 use Rattle.lb_read.specs.Words.{turn_words, move_words, reply_words, request_words, cause_words, outcome_words}
-use Rattle.lb_read.specs.KindWords.{decision_word, decision_words, command_word, command_words, what_word, what_words}
+use Rattle.lb_read.specs.KindWords.{decision_words, command_words, what_words}
 use Rattle.lb_core.specs.Ranges.{is_any, is_short, is_long, is_moment, are_figures, is_target, is_told, command_fits, decision_fits, what_fits, entry_fits}
 use Rattle.lb_read.specs.Written.{written_fits}
 use Rattle.lb_read.specs.Fields.{short_in, long_in, moment_in, mask_in, ids_in, figures_in, target_in}
@@ -58,6 +58,38 @@ use Rattle.lb_read.proofs.ExactFacts.{map_pieces, bind_pieces, one_exact, next_t
 use Rattle.lb_read.proofs.FieldsExact.{short_exact, long_exact, moment_exact, nice_exact, mask_exact, ids_exact, figures_exact, target_exact, owner_of_text, owner_is_good, owner_exact, joined_is}
 
 -- ---- words
+-- the word of each kind
+abbrev decision_word : DecisionKind → List ℕ
+decision_word decision_kinds.NotMine = codes "notmine"
+decision_word decision_kinds.Balanced = codes "balanced"
+decision_word decision_kinds.Pull = codes "pull"
+
+abbrev command_word : CommandKind → List ℕ
+command_word command_kinds.Wake = codes "wake"
+command_word command_kinds.Sleep = codes "sleep"
+command_word command_kinds.Exit = codes "exit"
+command_word command_kinds.SetMask = codes "mask"
+command_word command_kinds.Nice = codes "nice"
+command_word command_kinds.Tick = codes "tick"
+command_word command_kinds.Rebuild = codes "rebuild"
+
+abbrev what_word : WhatKind → List ℕ
+what_word kinds.Row = codes "row"
+what_word kinds.Adopt = codes "use"
+what_word kinds.Look = codes "look"
+what_word kinds.Scan = codes "scan"
+what_word kinds.End = codes "end"
+what_word kinds.Did = codes "did"
+what_word kinds.Out = codes "out"
+what_word kinds.Landed = codes "in"
+what_word kinds.Turn = codes "turn"
+what_word kinds.Shut = codes "shut"
+what_word kinds.Close = codes "close"
+what_word kinds.Ask = codes "ask"
+what_word kinds.Kick = codes "kick"
+what_word kinds.Over = codes "over"
+what_word kinds.Pub = codes "pub"
+
 abbrev any_value : {A : Type 0} → A → Bool
 any_value a = true
 

@@ -47,7 +47,7 @@ trace_text bodies = lines_text (codes "lbtrace,1" ∷ bodies)
 abbrev pub version_line : List ℕ
 version_line = codes "lbhist 1"
 
--- the room of a trace behind its first line
+-- the room of a trace behind its first line, which has 10 bytes with its line feed
 abbrev pub room : ℕ
 room = MAX_BYTES - 10
 

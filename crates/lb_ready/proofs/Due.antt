@@ -1,6 +1,6 @@
 -- When an entry that a lane draws keeps every rule: each rule is asked in the form of the lane's course. What
 -- a lane's next entry has to be, so that it may be added; and tasks that leave, by whatever form.
-use Rattle.std.proofs.Common.{cond, ◌≡◌, ℕ, ◌<◌, Bool, true, false, not, ◌==◌, ◌&&◌, ◌||◌, List, [], ◌∷◌, length, map, get_or, Option, Some, None, refl, sym, ◌∙◌, ltb, arith, is_some, ◌-◌}
+use Rattle.std.proofs.Common.{cond, ◌≡◌, ℕ, ◌<◌, Bool, true, false, not, ◌==◌, ◌&&◌, ◌||◌, List, [], ◌∷◌, length, map, get_or, Option, Some, None, refl, sym, ◌∙◌, ltb, arith, is_some}
 use Rattle.std.specs.List.{list_any}
 use Rattle.std.proofs.lemmas.Bool.{and_from, or_parts, eq-eqb, lt-ltb}
 use Rattle.lb_base.specs.declared.view.MoveKind.{MoveKind}
@@ -43,7 +43,7 @@ use Rattle.lb_core.specs.Legal.{MayBeAdded}
 use Rattle.lb_core.specs.OfTrace.{row_of}
 use Rattle.lb_core.specs.Serial.{is_serial}
 use Rattle.lb_core.proofs.Placing.{entry}
-use Rattle.lb_ready.specs.Ready.{is_in_range, Speaks, NamesPublished, HasSizes}
+use Rattle.lb_ready.specs.Ready.{nice_fits, Speaks, NamesPublished, HasSizes}
 use Rattle.lb_ready.specs.Next.{cpu_next, owner_of, out_of, what_next}
 
 -- ---- rules by the form
@@ -217,7 +217,7 @@ pub record IsDue (f : Form) (m : MachineState) (lane : ℕ) (c : Course) (o : Ow
   pub keeps : Keeps f m lane c o w
   pub serial : is_serial m w ≡ true
   pub rowless : (l : ℕ) → row_of w l ≡ []
-  pub ranged : is_in_range w ≡ true
+  pub nice : nice_fits w ≡ true
   pub lives : ended_after w false ≡ false
 
 -- so of its lane, or the queue of this CPU
@@ -265,7 +265,7 @@ pub out_goes : (f : Form) (m : MachineState) (lane : ℕ) (c : Course) (cpu : �
 out_goes f m lane c cpu k lt there w d r p = draws_out f m lane c cpu (out_by f m.header c (queue_at m.queues cpu)) there goes
   where
     goes : (l : Leaving) → out_by f m.header c (queue_at m.queues cpu) ≡ Some l → Draws f m lane c cpu (Out l.cause l.to (ids l.hand))
-    goes l e = record { keeps = keeps; serial = refl; rowless = λ l. refl; ranged = refl; lives = refl }
+    goes l e = record { keeps = keeps; serial = refl; rowless = λ l. refl; nice = refl; lives = refl }
       where
         keeps : Keeps f m lane c (Queue cpu) (Out l.cause l.to (ids l.hand))
         keeps Stage = stage_by _ _ _ _ _ w (d l) (queue_there m cpu k.sizes lt) (r l) refl

@@ -55,7 +55,7 @@ use Rattle.lb_ready.proofs.Steps.{known_answers}
 -- ---- landings, ends of turns and requests
 flight_goes : (m : MachineState) (lane : ℕ) (c : Course) → Knows m c → c.to < length m.header.cpus → Next Flight m lane c
 unfolding draws
-flight_goes m lane c k lt = record { keeps = keeps; serial = refl; rowless = λ l. refl; ranged = refl; lives = refl }
+flight_goes m lane c k lt = record { keeps = keeps; serial = refl; rowless = λ l. refl; nice = refl; lives = refl }
   where
     keeps : Keeps Flight m lane c (Queue c.to) (Landed (ids c.hand))
     keeps Stage = stage_by _ _ _ _ _ (same c.to) refl (queue_there m c.to k.sizes lt) refl refl
@@ -64,7 +64,7 @@ flight_goes m lane c k lt = record { keeps = keeps; serial = refl; rowless = λ 
 
 done_goes : (m : MachineState) (lane : ℕ) (c : Course) → Knows m c → Next Done m lane c
 unfolding draws
-done_goes m lane c k = record { keeps = keeps; serial = refl; rowless = λ l. refl; ranged = refl; lives = refl }
+done_goes m lane c k = record { keeps = keeps; serial = refl; rowless = λ l. refl; nice = refl; lives = refl }
   where
     keeps : Keeps Done m lane c (Queue c.cpu) Over
     keeps Stage = stage_by _ _ _ _ _ (same c.cpu) refl (queue_there m c.cpu k.sizes k.says.turned) refl refl
@@ -72,7 +72,7 @@ done_goes m lane c k = record { keeps = keeps; serial = refl; rowless = λ l. re
 
 closed_goes : (m : MachineState) (lane : ℕ) (c : Course) → Knows m c → Next Closed m lane c
 unfolding draws
-closed_goes m lane c k = record { keeps = keeps; serial = refl; rowless = λ l. refl; ranged = refl; lives = refl }
+closed_goes m lane c k = record { keeps = keeps; serial = refl; rowless = λ l. refl; nice = refl; lives = refl }
   where
     keeps : Keeps Closed m lane c (Queue (source_of c.decision)) (Ask (ask_active (queue_at m.queues (source_of c.decision)) c.at c.cpu).0)
     keeps Stage = stage_by _ _ _ _ _ (same (source_of c.decision)) refl
@@ -83,7 +83,7 @@ closed_goes m lane c k = record { keeps = keeps; serial = refl; rowless = λ l. 
 kicked : (m : MachineState) (lane : ℕ) (c : Course) (t : ℕ) → Knows m c → target_of c ≡ Some t
     → Draws Kicking m lane c t (Kick (kick (queue_at m.queues t) c.at).0)
 unfolding draws
-kicked m lane c t k e = record { keeps = keeps; serial = refl; rowless = λ l. refl; ranged = refl; lives = refl }
+kicked m lane c t k e = record { keeps = keeps; serial = refl; rowless = λ l. refl; nice = refl; lives = refl }
   where
     keeps : Keeps Kicking m lane c (Queue t) (Kick (kick (queue_at m.queues t) c.at).0)
     keeps Stage = stage_by (is_queue (Queue t) (target_of c)) (is_some (target_of c)) _ _ _ (rw e (same t))
@@ -119,7 +119,7 @@ used_goes m lane c k = draws_by Used m lane c c.cpu (is_some (queue_at m.queues 
     (Turn (positions_due (bare m c (queue_at m.queues c.cpu)))) shuts opens
   where
     shuts : is_some (queue_at m.queues c.cpu).open_turn ≡ true → Draws Used m lane c c.cpu Shut
-    shuts e = record { keeps = keeps; serial = refl; rowless = λ l. refl; ranged = refl; lives = refl }
+    shuts e = record { keeps = keeps; serial = refl; rowless = λ l. refl; nice = refl; lives = refl }
       where
         keeps : Keeps Used m lane c (Queue c.cpu) Shut
         keeps Stage = stage_by _ _ _ _ _ (same c.cpu) refl (queue_there m c.cpu k.sizes k.says.turned) refl refl
@@ -128,7 +128,7 @@ used_goes m lane c k = draws_by Used m lane c c.cpu (is_some (queue_at m.queues 
 
     opens : is_some (queue_at m.queues c.cpu).open_turn ≡ false
         → Draws Used m lane c c.cpu (Turn (positions_due (bare m c (queue_at m.queues c.cpu))))
-    opens e = record { keeps = keeps; serial = refl; rowless = λ l. refl; ranged = refl; lives = refl }
+    opens e = record { keeps = keeps; serial = refl; rowless = λ l. refl; nice = refl; lives = refl }
       where
         keeps : Keeps Used m lane c (Queue c.cpu) (Turn (positions_due (bare m c (queue_at m.queues c.cpu))))
         keeps Stage = stage_by _ _ _ _ _ (same c.cpu) refl (queue_there m c.cpu k.sizes k.says.turned) refl refl
@@ -174,7 +174,7 @@ look_goes : (f : Form) (m : MachineState) (lane : ℕ) (c : Course) (cpus : List
     → Draws f m lane c cpu (look_over m c (newest m cpus))
 unfolding decided_by
 look_goes f m lane c cpus cpu k due d r p =
-    record { keeps = keeps; serial = all_newest m cpus; rowless = λ l. refl; ranged = refl; lives = refl }
+    record { keeps = keeps; serial = all_newest m cpus; rowless = λ l. refl; nice = refl; lives = refl }
   where
     keeps : Keeps f m lane c (Lane lane) (look_over m c (newest m cpus))
     keeps Stage = stage_by _ _ _ _ _ (same lane) d refl r refl
@@ -197,7 +197,7 @@ scan_goes m lane c k = record {
   keeps = keeps;
   serial = all_newest m (due_in ScanDue m c);
   rowless = λ l. refl;
-  ranged = refl;
+  nice = refl;
   lives = refl;
 }
   where
@@ -215,7 +215,7 @@ close_goes : (f : Form) (m : MachineState) (lane : ℕ) (c : Course) → Knows m
     answered_elsewhere f c m (Queue c.cpu) (close_of m c (queue_at m.queues c.cpu)) ≡ false
     → Draws f m lane c c.cpu (close_of m c (queue_at m.queues c.cpu))
 unfolding closed_counters
-close_goes f m lane c k w d r p = record { keeps = keeps; serial = refl; rowless = λ l. refl; ranged = refl; lives = refl }
+close_goes f m lane c k w d r p = record { keeps = keeps; serial = refl; rowless = λ l. refl; nice = refl; lives = refl }
   where
     keeps : Keeps f m lane c (Queue c.cpu) (close_of m c (queue_at m.queues c.cpu))
     keeps Stage = stage_by _ _ _ _ _ w d (queue_there m c.cpu k.sizes k.says.turned) r refl
@@ -238,7 +238,7 @@ most a n h k = le-ltb n (max a 1) (max-le h k)
 
 due_goes : (m : MachineState) (lane : ℕ) (c : Course) → Knows m c → same_kind (turn_kind c) TickTurn ≡ false → Next Due m lane c
 unfolding draws
-due_goes m lane c k n = record { keeps = keeps; serial = same (length m.versions); rowless = λ l. refl; ranged = refl; lives = refl }
+due_goes m lane c k n = record { keeps = keeps; serial = same (length m.versions); rowless = λ l. refl; nice = refl; lives = refl }
   where
     keeps : Keeps Due m lane c (Lane lane) (Adopt (length m.versions) (turn_kind c) c.cpu)
     keeps Stage = stage_by _ _ _ _ (same_kind (turn_kind c) TickTurn && push_is_due c (queue_at m.queues c.cpu))
@@ -305,7 +305,7 @@ served m lane c cpu k lt t = draws_by Serving m lane c cpu
 
     adopts : (has_owed (queue_at m.queues cpu) || push_is_due c (queue_at m.queues cpu)) ≡ false
         → Draws Serving m lane c cpu (Adopt (length m.versions) TickTurn cpu)
-    adopts e = record { keeps = keeps; serial = same (length m.versions); rowless = λ l. refl; ranged = refl; lives = refl }
+    adopts e = record { keeps = keeps; serial = same (length m.versions); rowless = λ l. refl; nice = refl; lives = refl }
       where
         keeps : Keeps Serving m lane c (Lane lane) (Adopt (length m.versions) TickTurn cpu)
         keeps Stage =
@@ -438,7 +438,7 @@ did_goes : (m : MachineState) (lane : ℕ) (c : Course) (cpu : ℕ) → Knows m 
     → (is_tick c.command && has_owed (queue_at m.queues cpu)) ≡ false
     → Draws Asked m lane c cpu (Did (answer_to c.command c.at (queue_at m.queues cpu)).0)
 unfolding draws
-did_goes m lane c cpu k lt d w p s n o = record { keeps = keeps; serial = refl; rowless = λ l. refl; ranged = refl; lives = refl }
+did_goes m lane c cpu k lt d w p s n o = record { keeps = keeps; serial = refl; rowless = λ l. refl; nice = refl; lives = refl }
   where
     keeps : Keeps Asked m lane c (Queue cpu) (Did (answer_to c.command c.at (queue_at m.queues cpu)).0)
     keeps Stage = stage_by _ _ _ _ _ w d (queue_there m cpu k.sizes lt) refl refl
@@ -450,7 +450,7 @@ did_goes m lane c cpu k lt d w p s n o = record { keeps = keeps; serial = refl; 
 rebuild_goes : (m : MachineState) (lane : ℕ) (c : Course) (cpu : ℕ) → is_rebuild c.command ≡ true
     → Draws Asked m lane c cpu (Pub (length m.versions - 1 + 2))
 unfolding draws
-rebuild_goes m lane c cpu r = record { keeps = keeps; serial = refl; rowless = λ l. refl; ranged = refl; lives = refl }
+rebuild_goes m lane c cpu r = record { keeps = keeps; serial = refl; rowless = λ l. refl; nice = refl; lives = refl }
   where
     keeps : Keeps Asked m lane c Publisher (Pub (length m.versions - 1 + 2))
     keeps Stage = stage_by true _ _ _ _ refl r refl refl refl

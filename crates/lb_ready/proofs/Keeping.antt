@@ -59,7 +59,7 @@ use Rattle.lb_core.proofs.EmptyHands.{is_out}
 use Rattle.lb_core.proofs.Equality.{decision_is, number_is}
 use Rattle.lb_core.proofs.Placing.{cpu_there, form_lets, leaving_is, entry}
 use Rattle.lb_core.proofs.Next.{run-append}
-use Rattle.lb_ready.specs.Ready.{ScansVersion, IsSmall, is_mask_in, is_task_in, Fits, IsQueueOf, NamesPublished, HasSizes, IsReady, PullsSparing, Spares, is_pulling, is_in_range, Names, Speaks, unnamed, KeepsLocal, IsReached, AreInRange}
+use Rattle.lb_ready.specs.Ready.{ScansVersion, IsSmall, is_mask_in, is_task_in, Fits, IsQueueOf, NamesPublished, HasSizes, IsReady, PullsSparing, Spares, is_pulling, nice_fits, Names, Speaks, unnamed, KeepsLocal, IsReached, AreInRange}
 use Rattle.lb_ready.proofs.Queues.{queue_fits, out_goes}
 use Rattle.lb_ready.proofs.Figures.{figure_small, lens, snoc_small, none_tickless, tickless_inside, source_inside, small_kept}
 use Rattle.lb_ready.proofs.Decisions.{source_found}
@@ -203,7 +203,7 @@ there : (n t : ℕ) → not (ltb t n) ≡ false → t < n
 there n t h = ltb-true t n (not-false _ h)
 
 row_names : (h : Header) (n at : ℕ) (command : Command) → is_undeclared h command ≡ false
-    → is_in_range (Row n at command) ≡ true → Names h (Some command)
+    → nice_fits (Row n at command) ≡ true → Names h (Some command)
 row_names h n at (Wake t) d r = there (length h.tasks) t d
 row_names h n at (Sleep t) d r = there (length h.tasks) t d
 row_names h n at (Exit t) d r = there (length h.tasks) t d
@@ -240,7 +240,7 @@ row_next m o lane prev n at command h less =
     omega arith
 
 brings : (m : MachineState) (o : Owner) (lane prev : ℕ) (w : What) → HasSizes m → 0 < length m.header.cpus
-    → MayBeAdded m (entry o lane prev w) → is_in_range w ≡ true → (course_at m.courses lane).rows ≤ m.ticket
+    → MayBeAdded m (entry o lane prev w) → nice_fits w ≡ true → (course_at m.courses lane).rows ≤ m.ticket
     → Brings m.header (m.ticket + 1) (sight m (entry o lane prev w)) (cpu_of o) w
 unfolding sight
 brings m o lane prev (Row n at command) sizes some h r less =
@@ -307,7 +307,7 @@ out_fits laws m cpu lane prev cause to ids k h =
 
 -- ---- courses
 course_kept : (m : MachineState) (o : Owner) (lane prev : ℕ) (w : What) → IsReady m
-    → MayBeAdded m (entry o lane prev w) → is_in_range w ≡ true → is_out w ≡ false →
+    → MayBeAdded m (entry o lane prev w) → nice_fits w ≡ true → is_out w ≡ false →
     Fits (ended_after w false) m.header (m.ticket + 1) (course_left m (entry o lane prev w))
 unfolding course_after sight
 course_kept m o lane prev w k h r n =
@@ -331,7 +331,7 @@ courses_kept m o lane prev w k h new =
     (subst (λ (b : Bool). Fits b m.header m.ticket (course_at m.courses l)) alive (k.fits l))) new)
 
 new_course : (laws : QueueLaws) → (m : MachineState) (o : Owner) (lane prev : ℕ) (w : What) → IsReady m
-    → MayBeAdded m (entry o lane prev w) → is_in_range w ≡ true
+    → MayBeAdded m (entry o lane prev w) → nice_fits w ≡ true
     → Fits (ended_after w false) m.header (m.ticket + 1) (course_left m (entry o lane prev w))
 new_course laws m (Queue cpu) lane prev (Out cause to ids) k h r = (out_fits laws m cpu lane prev cause to ids k h).course
 new_course laws m o lane prev (Out cause to ids) k h r =
@@ -499,11 +499,11 @@ ready_start laws h accepted =
       spares = λ lane. let c = opening_course_at h lane in rw c.1 tt;
       small = opening_small laws.queues h accepted placed.0;
       counts = facts.counts;
-      in_range = opening_in_range h;
+      counters_in_range = opening_in_range h;
     }
 
 pub ready_kept : (laws : LawsBelow) (m : MachineState) (o : Owner) (lane prev : ℕ) (w : What) → IsReady m
-    → MayBeAdded m (entry o lane prev w) → is_in_range w ≡ true → IsReady (after m (entry o lane prev w))
+    → MayBeAdded m (entry o lane prev w) → nice_fits w ≡ true → IsReady (after m (entry o lane prev w))
 unfolding after
 ready_kept laws m o lane prev w k h r =
     let e = entry o lane prev w in
@@ -533,6 +533,6 @@ ready_kept laws m o lane prev w k h r =
           (k.sizes.queues ∙ sym k.sizes.figures) placed.0 k.accepted.most_tasks
           (λ cpu i. queue_of laws.queues m o lane prev w k h cpu i) k.small;
       counts = facts.counts;
-      in_range = queue_now m o lane prev w h (λ cpu q. AreInRange q.counters) k.in_range
-          (λ cpu i lt. counters_now laws.queues m o lane prev w cpu i (k.in_range cpu));
+      counters_in_range = queue_now m o lane prev w h (λ cpu q. AreInRange q.counters) k.counters_in_range
+          (λ cpu i lt. counters_now laws.queues m o lane prev w cpu i (k.counters_in_range cpu));
     }

@@ -1,20 +1,16 @@
 -- What every lane keeps whatever its form, from entry to entry along the legal front that led there: a number
 -- for each CPU, a position that a mask has room for, and masks that part the CPUs.
-use Rattle.std.proofs.Common.{arith, ◌≡◌, ℕ, ◌+◌, ◌<◌, ◌⊎◌, inl, inr, true, false, List, [], ◌∷◌, length, set, Option, Some, None, refl, sym, ◌∙◌, ap, subst, not, length-set, get_or-set_same, get_or-set_other}
-use Rattle.std.specs.Prelude.{IfSome, ◌↔◌}
+use Rattle.std.proofs.Common.{arith, ◌≡◌, ℕ, ◌+◌, ◌<◌, inl, inr, false, List, [], ◌∷◌, length, set, Option, Some, None, refl, sym, ◌∙◌, ap, subst, length-set, get_or-set_same, get_or-set_other}
+use Rattle.std.specs.Prelude.{IfSome}
 use Rattle.std.proofs.lemmas.Bool.{or_parts, not-false, cases_eq}
 use Rattle.std.proofs.lemmas.List.{get_or-replicate, length-replicate}
-use Rattle.lb_base.specs.declared.mask.Mask.{Mask}
-use Rattle.lb_base.specs.declared.shape.Kind.{Kind}
 use Rattle.lb_base.specs.Sets.{least, least_above}
-use Rattle.lb_levels.specs.Faults.{parts_fault_of, ArePartition}
 use Rattle.lb_trace.specs.declared.trace.Command.{Command}
 use Rattle.lb_trace.specs.declared.trace.Command.TheVariants.{Rebuild}
 use Rattle.lb_trace.specs.declared.trace.Header.{Header}
 use Rattle.lb_queue.specs.Queue.{QueueState}
 use Rattle.lb_queue.specs.Turns.{counters_found}
 use Rattle.lb_core.specs.declared.course.Course.{Course}
-use Rattle.lb_core.specs.declared.course.Form.TheVariants.{Serving, Closed, Kicking}
 use Rattle.lb_core.specs.declared.entry.Entry.{Entry}
 use Rattle.lb_core.specs.declared.entry.FigName.{FigName}
 use Rattle.lb_core.specs.declared.entry.OutcomeWord.{OutcomeWord}
@@ -34,7 +30,6 @@ use Rattle.lb_core.specs.Sight.{Sight}
 use Rattle.lb_core.specs.Step.{after}
 use Rattle.lb_core.proofs.Placing.{entry, lane_there}
 use Rattle.lb_core.proofs.Unbroken.{unbroken_here}
-use Rattle.lb_ready.specs.Ready.{IsReady}
 use Rattle.lb_ready.specs.Lanes.{PartsCpus, Suits, LanesSuit}
 use Rattle.lb_ready.proofs.Counting.{least_found, least_above_found, cond_by}
 use Rattle.lb_ready.proofs.Courses.{drew_by, ends_by, answered_by, lands_by, scanned_by, kicked_by}

@@ -56,7 +56,7 @@ use Rattle.lb_core.specs.OpenTurns.{TurnIn}
 use Rattle.lb_core.proofs.Unbroken.{unbroken, unbroken_here, unbroken_elsewhere}
 use Rattle.lb_core.proofs.Equality.{mask_is, decision_is, numbers_same}
 use Rattle.lb_core.proofs.Placing.{entry, form_lets, lane_there, cpu_there}
-use Rattle.lb_ready.specs.Ready.{Fits, IsReady, is_in_range, IsInRange}
+use Rattle.lb_ready.specs.Ready.{Fits, IsReady, nice_fits, IsInRange}
 use Rattle.lb_ready.specs.Laws.{StaysReady, LooksMayBeDecided}
 use Rattle.lb_ready.proofs.Names.{unpublished}
 use Rattle.lb_ready.proofs.Calls.{look_due, scan_due, few_domains}
@@ -168,12 +168,12 @@ command_in h (Rebuild (m ∷ ms)) a y = (and_parts _ _ (and_parts _ _ y).0).1
 abbrev pub RowFits : Header → What → ℕ → Type 0
 RowFits h w lane = list_all (is_row h) (row_of w lane) ≡ true
 
-pub row_in_range : (h : Header) (w : What) (lane : ℕ) → RowFits h w lane → is_in_range w ≡ true
+pub row_in_range : (h : Header) (w : What) (lane : ℕ) → RowFits h w lane → nice_fits w ≡ true
 row_in_range h (Row n at (Nice t nice)) lane r = (and_parts _ _ (and_parts _ _ (and_parts _ _ r).0).1).1
 row_in_range h (Row n at command) lane r = refl
 row_in_range h w lane r = refl
 
-pub fits_in_range : (w : What) → what_fits w ≡ true → is_in_range w ≡ true
+pub fits_in_range : (w : What) → what_fits w ≡ true → nice_fits w ≡ true
 unfolding what_fits command_fits
 fits_in_range (Row n at (Nice t nice)) f = (and_parts _ _ (and_parts _ _ f).1).1
 fits_in_range (Row n at command) f = refl
@@ -206,7 +206,7 @@ record NextCourse (m : MachineState) (lane : ℕ) (c : Course) : Type 0 where
   hand : list_all is_short (ids c.hand) ≡ true
 
 next_course : ReadyLaws → (m : MachineState) (o : Owner) (lane prev : ℕ) (w : What) → IsReady m
-    → MayBeAdded m (entry o lane prev w) → is_in_range w ≡ true → NextCourse m lane (course_left m (entry o lane prev w))
+    → MayBeAdded m (entry o lane prev w) → nice_fits w ≡ true → NextCourse m lane (course_left m (entry o lane prev w))
 unfolding after
 next_course laws m o lane prev w k h r =
     let e = entry o lane prev w in
@@ -400,7 +400,7 @@ close_in laws m cpu lane prev p w i f k =
     let place : p ≡ c.position = eqb-true p c.position (not-false (p == c.position) (unbroken_here m e k.may DecisionRule)) in
     let rule = or_parts _ _ (unbroken_here m e k.may CountersRule) in
     let counters = closed_in (queue_at m.queues cpu) c.at (turn_domain m.header c).shape (outcome_of m.header c)
-    (flag_of c.taken) (k.ready.in_range cpu) in
+    (flag_of c.taken) (k.ready.counters_in_range cpu) in
     let x : Counters = counters_closed (queue_at m.queues cpu) c.at (turn_domain m.header c).shape
     (outcome_of m.header c) (flag_of c.taken) in
     let interval = eqb-true i x.interval (not-false (i == x.interval) (or_parts _ _ rule.0).1) in

@@ -38,7 +38,7 @@ use Rattle.lb_core.specs.Step.{ended_after, after, closing_after, ticked_after}
 use Rattle.lb_core.specs.OfTrace.{row_of, rows_drawn, of_lane}
 use Rattle.lb_core.specs.Serial.{is_serial, AreSerial}
 use Rattle.lb_core.specs.Placed.{is_flight, IsPlaced}
-use Rattle.lb_ready.specs.Ready.{Names, FitsForm, Fits, ServesIn, IsReady, unnamed, is_in_range}
+use Rattle.lb_ready.specs.Ready.{Names, FitsForm, Fits, ServesIn, IsReady, unnamed, nice_fits}
 use Rattle.lb_ready.specs.Laws.{is_at_rest, OthersRest, GoesOn, ServiceGoesOn, RowsAreTaken, ClosingGoesOn, TracesHaveRuns, OpensReady, StaysReady, EntriesFall}
 use Rattle.lb_ready.specs.Left.{rows_before, entries_left}
 use Rattle.lb_ready.proofs.Counting.{found_in}
@@ -132,7 +132,7 @@ service_goes_on asked m lane k live busy others =
         may = may_be_added m _ (each_kept m lane _ _ (lane_inside m lane busy) live n.keeps);
         serial = n.serial;
         rowless = n.rowless;
-        in_range = n.ranged;
+        nice = n.nice;
       },
       n.lives,
     )
@@ -244,7 +244,7 @@ closing_rowless m true (Some x) l = refl
 closing_rowless m false o l = refl
 
 pub closing_serial : (m : MachineState) → (b : Bool) (o : Option Leaving)
-    → (is_serial m (cond b (out_of o) (End (unserved m))) ≡ true) × (is_in_range (cond b (out_of o) (End (unserved m))) ≡ true)
+    → (is_serial m (cond b (out_of o) (End (unserved m))) ≡ true) × (nice_fits (cond b (out_of o) (End (unserved m))) ≡ true)
 closing_serial m true None = (refl, refl)
 closing_serial m true (Some x) = (refl, refl)
 closing_serial m false o = (refl, refl)
@@ -263,7 +263,7 @@ closing_goes_on asked m k live rest =
       may = at_rest m 0 (owner_of w 0 (cpu_next Rest m c)) w lane_there live (rest 0) (closes asked m k all);
       serial = said.0;
       rowless = closing_rowless m (is_some (first_pending m)) o;
-      in_range = said.1;
+      nice = said.1;
     }
 
 -- ---- laws
@@ -340,10 +340,10 @@ fewer_rows h ticked r n rows k =
     }
 
 -- ---- one entry more
-in_range : (h : Header) (r : Row) (n : ℕ) → is_row h r ≡ true → is_in_range (RowEntry n r.at r.command) ≡ true
-in_range h r n a = by_command r.command ((and_parts _ _ a).1)
+row_nice : (h : Header) (r : Row) (n : ℕ) → is_row h r ≡ true → nice_fits (RowEntry n r.at r.command) ≡ true
+row_nice h r n a = by_command r.command ((and_parts _ _ a).1)
   where
-    by_command : (command : Command) → is_command h command ≡ true → is_in_range (RowEntry n r.at command) ≡ true
+    by_command : (command : Command) → is_command h command ≡ true → nice_fits (RowEntry n r.at command) ≡ true
     by_command (Nice t nice) c = (and_parts _ (is_nice_value nice) c).1
     by_command command c = refl
 
@@ -411,7 +411,7 @@ after_rowless laws k go m lane rows lt ready fit others g live begun =
     let less : entries_left (length rows) (after m e) < entries_left (length rows) m =
     subst (λ (n : ℕ). entries_left (length rows) (after m e) < entries_left n m) as_many fall in
     let rest = go (after m e) lane rows (omega arith) (record {
-      ready = laws.stays m e ready g.may g.in_range;
+      ready = laws.stays m e ready g.may g.nice;
       live = live;
       others = others_rest m e lane g.own others;
       fit = subst (λ (ticked : List (Option ℕ)). RowsFit m.header ticked rows) (sym (same_ticks e.what e.lane m.ticked g.rowless)) fit;
@@ -465,7 +465,7 @@ goes_taking laws k go m r rows lt ready live closing fit rest =
     let fall = laws.falls m e (length rows) ready t.0 in
     let less : entries_left (length rows) (after m e) < entries_left (suc (length rows)) m = rw (← add-one (length rows)) fall in
     let later = go (after m e) r.lane rows (omega arith) (record {
-      ready = laws.stays m e ready t.0 (in_range m.header r n accepted);
+      ready = laws.stays m e ready t.0 (row_nice m.header r n accepted);
       live = live;
       others = others_rest m e r.lane refl (λ l i. rest l);
       fit = fewer_rows m.header m.ticked r n rows fit;

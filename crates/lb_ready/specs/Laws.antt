@@ -19,7 +19,7 @@ use Rattle.lb_core.specs.Step.{breaks, after, ended_after}
 use Rattle.lb_core.specs.Legal.{MayBeAdded}
 use Rattle.lb_core.specs.OfTrace.{row_of, IsHistoryOf}
 use Rattle.lb_core.specs.Serial.{is_serial, IsSerialHistory}
-use Rattle.lb_ready.specs.Ready.{is_in_range, IsReady}
+use Rattle.lb_ready.specs.Ready.{nice_fits, IsReady}
 use Rattle.lb_ready.specs.Calls.{TrialAsks, QueueAsks, LookAsks, StopAsks, IsOnAt}
 use Rattle.lb_ready.specs.Next.{next_entry, IsSerialNext}
 use Rattle.lb_ready.specs.Left.{rows_before, entries_left, row_work}
@@ -31,11 +31,11 @@ OpensReady = (h : Header) → IsHeader h → IsReady (start h)
 
 -- an entry that may be added, and is in range, keeps the machine ready
 abbrev pub StaysReady : Type 0
-StaysReady = (m : MachineState) (e : Entry) → IsReady m → MayBeAdded m e → is_in_range e.what ≡ true → IsReady (after m e)
+StaysReady = (m : MachineState) (e : Entry) → IsReady m → MayBeAdded m e → nice_fits e.what ≡ true → IsReady (after m e)
 
 -- what is in the ranges of its text is in the range that a machine asks for
 abbrev pub ReadsInRange : Type 0
-ReadsInRange = (w : What) → what_fits w ≡ true → is_in_range w ≡ true
+ReadsInRange = (w : What) → what_fits w ≡ true → nice_fits w ≡ true
 
 -- every entry that may be added lowers the number of entries that are left
 abbrev pub EntriesFall : Type 0
@@ -78,7 +78,7 @@ pub record GoesOn (m : MachineState) (lane : ℕ) : Type 0 where
   pub may : MayBeAdded m entry
   pub serial : is_serial m entry.what ≡ true
   pub rowless : (l : ℕ) → row_of entry.what l ≡ []
-  pub in_range : is_in_range entry.what ≡ true
+  pub nice : nice_fits entry.what ≡ true
 
 -- a lane that serves its row, while the others rest, goes on, and does not end the history
 abbrev pub ServiceGoesOn : Type 0

@@ -32,18 +32,19 @@ count_where p n = sum_by (λ k. if p k then 1 else 0) (range_with_len 0 n)
 -- ---- the most that a position, a turn, a scan and a row are worth
 -- a position: from each of 64 CPUs a look, an `out` and an `in`, and then a look, a close and an ask; a
 -- turn: 64 positions, a `use`, the queue's answer and the end; a scan: 64 turns, itself, the kick and one
--- more; a row: itself, its answer and what is in flight, a push of two entries, a turn and a scan
+-- more; a row: a turn, a scan, and seven entries: itself, its answer and what is then in flight, a push of two,
+-- and the two of a stop that it may ask for
 abbrev pub position_work : ℕ
-position_work = 195
+position_work = 3 * 64 + 3
 
 abbrev pub turn_work : ℕ
-turn_work = 12483
+turn_work = 64 * position_work + 3
 
 abbrev pub scan_work : ℕ
-scan_work = 798915
+scan_work = 64 * turn_work + 3
 
 abbrev pub row_work : ℕ
-row_work = 811405
+row_work = turn_work + scan_work + 7
 
 -- ---- what a course can still draw
 -- the positions above the one in work

@@ -43,9 +43,9 @@ use Rattle.lb_core.specs.TurnCounters.{FitsDomains, domains_in_version}
 
 -- ---- entries in range
 -- all that no rule asks of an entry and a ready machine needs: the nice value of a row is one
-abbrev pub is_in_range : What → Bool
-is_in_range (Row n at (Nice t nice)) = is_nice_value nice
-is_in_range w = true
+abbrev pub nice_fits : What → Bool
+nice_fits (Row n at (Nice t nice)) = is_nice_value nice
+nice_fits w = true
 
 -- ---- sizes
 -- what the machine has one of for each CPU or lane; there is a version, and each CPU has a figure; and
@@ -230,7 +230,7 @@ pub record IsReached (m : MachineState) : Type 0 where
 
 -- `accepted`: the header is that of an accepted trace. `placed` and `permitted`: each task stands at one
 -- place, and may be there or is asked to leave. `hands`: a hand is empty but in flight. `fits`, `named`,
--- `turns`, `scans` and `spares` are of each lane; `queues`, `owed`, `small`, `counts` and `in_range` of each CPU:
+-- `turns`, `scans` and `spares` are of each lane; `queues`, `owed`, `small`, `counts` and `counters_in_range` of each CPU:
 -- its queue, who serves its owed requests, its figures, and its counters, as many as it has domains.
 pub record IsReady (m : MachineState) : Type 0 where
   pub reached : IsReached m
@@ -248,4 +248,4 @@ pub record IsReady (m : MachineState) : Type 0 where
   pub spares : (lane : ℕ) → KeepsLocal m.header (course_at m.courses lane)
   pub small : (cpu n : ℕ) → IsSmall (slice_index_or (figures_at m.figures cpu) n no_fig)
   pub counts : (cpu : ℕ) → (let q = queue_at m.queues cpu in FitsDomains (length m.versions) (domains_in_version m q.version cpu) q)
-  pub in_range : (cpu : ℕ) → AreInRange (queue_at m.queues cpu).counters
+  pub counters_in_range : (cpu : ℕ) → AreInRange (queue_at m.queues cpu).counters

@@ -46,14 +46,16 @@ pub each_map : {A : Type 0} (k : ℕ) (f : A → List ℕ) (xs : List A) → ((x
 each_map k f [] h = tt
 each_map k f (x ∷ xs) h = (h x, each_map k f xs h)
 
-pub each_numbered : {A : Type 0} (k : ℕ) (line : ℕ → A → List ℕ) (n : ℕ) (xs : List A) → ((i : ℕ) (x : A) → over k (line i x) ≡ true) → EachOver k (numbered line n xs)
+pub each_numbered : {A : Type 0} (k : ℕ) (line : ℕ → A → List ℕ) (n : ℕ) (xs : List A)
+    → ((i : ℕ) (x : A) → over k (line i x) ≡ true) → EachOver k (numbered line n xs)
 each_numbered k line n [] h = tt
 each_numbered k line n (x ∷ xs) h = (h n x, each_numbered k line (n + 1) xs h)
 
 -- texts with a mark before each, and between each two
 marked_over : (k mark : ℕ) (texts : List (List ℕ)) → k < mark → EachOver k texts → over k (marked mark texts) ≡ true
 marked_over k mark [] lt e = refl
-marked_over k mark (text ∷ texts) lt e = over_cons k mark (text ++ marked mark texts) lt (over_append k text (marked mark texts) e.0 (marked_over k mark texts lt e.1))
+marked_over k mark (text ∷ texts) lt e = over_cons k mark (text ++ marked mark texts) lt
+    (over_append k text (marked mark texts) e.0 (marked_over k mark texts lt e.1))
 
 pub joined_over : (k mark : ℕ) (texts : List (List ℕ)) → k < mark → EachOver k texts → over k (joined mark texts) ≡ true
 joined_over k mark [] lt e = refl
@@ -64,7 +66,8 @@ pub between_over : (k mark : ℕ) (texts : List (List ℕ)) → k < mark → Eac
 between_over k mark [] lt e = refl
 between_over k mark (text ∷ []) lt e = e.0
 between_over k mark (text ∷ next ∷ texts) lt e =
-    over_append k text (mark ∷ join_with_byte mark (next ∷ texts)) e.0 (over_cons k mark (join_with_byte mark (next ∷ texts)) lt (between_over k mark (next ∷ texts) lt e.1))
+    over_append k text (mark ∷ join_with_byte mark (next ∷ texts)) e.0
+    (over_cons k mark (join_with_byte mark (next ∷ texts)) lt (between_over k mark (next ∷ texts) lt e.1))
 
 glyph_over : (k d : ℕ) → k < 48 → k < digit_glyph false d
 glyph_over k d low = elim (cases_lt d 10) [
@@ -92,4 +95,6 @@ signed_over k (negsuc n) low = over_cons k 45 (decimal (suc n)) low (decimal_ove
 -- a byte that is not above the bound stands nowhere
 pub free : (mark k : ℕ) (text : List ℕ) → mark ≤ k → over k text ≡ true → All (λ b. eqb b mark ≡ false) text
 free mark k text le p =
-    All-weaker (λ b. ltb k b ≡ true) (λ b. eqb b mark ≡ false) (λ b above. let lt = ltb-true k b above in ne_eqb b mark (λ same. omega arith)) text (AllPass-from_list_all (λ b. ltb k b) text p)
+    All-weaker (λ b. ltb k b ≡ true) (λ b. eqb b mark ≡ false)
+    (λ b above. let lt = ltb-true k b above in ne_eqb b mark (λ same. omega arith)) text
+    (AllPass-from_list_all (λ b. ltb k b) text p)

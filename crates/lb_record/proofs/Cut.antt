@@ -18,7 +18,9 @@ cut_lines (line ∷ lines) e =
 -- fields that have no mark
 pub cut_fields : (mark : ℕ) (field : List ℕ) (fields : List (List ℕ)) → EachOver mark (field ∷ fields)
     → slice_split (λ b. eqb b mark) (joined mark (field ∷ fields)) ≡ field ∷ fields
-cut_fields mark field [] e = ap (slice_split (λ b. eqb b mark)) (append-nil field) ∙ slice_split_none (λ b. eqb b mark) field (free mark mark field (omega arith) e.0)
+cut_fields mark field [] e = ap (slice_split (λ b. eqb b mark)) (append-nil field)
+    ∙ slice_split_none (λ b. eqb b mark) field (free mark mark field (omega arith) e.0)
 cut_fields mark field (next ∷ fields) e =
-    slice_split_at (λ b. eqb b mark) field mark (next ++ marked mark fields) (free mark mark field (omega arith) e.0) (eq-eqb mark mark refl)
+    slice_split_at (λ b. eqb b mark) field mark (next ++ marked mark fields) (free mark mark field (omega arith) e.0)
+    (eq-eqb mark mark refl)
     ∙ ap (λ (rest : List (List ℕ)). field ∷ rest) (cut_fields mark next fields e.1)

@@ -19,7 +19,8 @@ none_passes p (x ∷ xs) e = elim (cases_Bool (p x)) [
 -- without CPUs there is no run
 pub runs_none : (mask : Mask) → least mask ≡ None → runs_text mask ≡ []
 unfolding least members members_below runs_text
-runs_none mask e = ap (λ (cpus : List ℕ). join_with_byte 59 (map run_text (runs_of cpus))) (none_passes (has mask) (range_with_len 0 MAX_CPUS) e)
+runs_none mask e = ap (λ (cpus : List ℕ). join_with_byte 59 (map run_text (runs_of cpus)))
+    (none_passes (has mask) (range_with_len 0 MAX_CPUS) e)
 
 -- with CPUs the list is its runs
 pub list_some : (mask : Mask) → is_none (least mask) ≡ false → list_text mask ≡ runs_text mask

@@ -52,12 +52,14 @@ number n = decimal_over 32 n (omega arith)
 run_over : (run : Run) → over 44 (run_text run) ≡ true
 run_over run = elim (cases_Bool (eqb run.0 run.1)) [
   | inl e ↦ rw e (decimal_over 44 run.0 (omega arith))
-  | inr e ↦ rw e (over_append 44 (decimal run.0) (45 ∷ decimal run.1) (decimal_over 44 run.0 (omega arith)) (over_cons 44 45 (decimal run.1) (omega arith) (decimal_over 44 run.1 (omega arith))))
+  | inr e ↦ rw e (over_append 44 (decimal run.0) (45 ∷ decimal run.1) (decimal_over 44 run.0 (omega arith))
+      (over_cons 44 45 (decimal run.1) (omega arith) (decimal_over 44 run.1 (omega arith))))
 ]
 
 pub runs_over : (mask : Mask) → over 44 (runs_text mask) ≡ true
 unfolding runs_text
-runs_over mask = between_over 44 59 (map run_text (runs_of (members mask))) (omega arith) (each_map 44 run_text (runs_of (members mask)) run_over)
+runs_over mask = between_over 44 59 (map run_text (runs_of (members mask))) (omega arith)
+    (each_map 44 run_text (runs_of (members mask)) run_over)
 
 list_over : (mask : Mask) → over 32 (list_text mask) ≡ true
 unfolding list_text
@@ -111,7 +113,10 @@ ids_over (id ∷ ids) = joined_over 32 59 (map decimal (id ∷ ids)) (omega arit
 
 figures_over : (figures : List FigName) → over 32 (figures_text figures) ≡ true
 figures_over figures =
-    joined_over 32 44 (map figure_text figures) (omega arith) (each_map 32 figure_text figures (λ f. over_append 32 (decimal f.cpu) (58 ∷ decimal f.n) (number f.cpu) (over_cons 32 58 (decimal f.n) (omega arith) (number f.n))))
+    joined_over 32 44 (map figure_text figures) (omega arith)
+    (each_map 32 figure_text figures
+    (λ f. over_append 32 (decimal f.cpu) (58 ∷ decimal f.n) (number f.cpu)
+    (over_cons 32 58 (decimal f.n) (omega arith) (number f.n))))
 
 target_over : (target : Option ℕ) → over 32 (target_text target) ≡ true
 target_over None = refl
@@ -122,7 +127,9 @@ unfolding owner_text
 owner_over owners.Publisher lane = over_append 32 (codes "P@") (decimal lane) refl (number lane)
 owner_over (owners.Lane l) lane = over_append 32 (codes "L") (decimal l) refl (number l)
 owner_over (owners.Queue cpu) lane =
-    over_append 32 (codes "Q") (decimal cpu ++ (codes "@" ++ decimal lane)) refl (over_append 32 (decimal cpu) (codes "@" ++ decimal lane) (number cpu) (over_append 32 (codes "@") (decimal lane) refl (number lane)))
+    over_append 32 (codes "Q") (decimal cpu ++ (codes "@" ++ decimal lane)) refl
+    (over_append 32 (decimal cpu) (codes "@" ++ decimal lane) (number cpu)
+    (over_append 32 (codes "@") (decimal lane) refl (number lane)))
 
 command_over : (command : Command) (at : ℕ) → EachOver 32 (command_fields command at)
 unfolding command_fields
@@ -144,7 +151,8 @@ what_over : (what : What) → EachOver 32 (what_fields what)
 unfolding what_fields
 what_over (whats.Row n at command) = (refl, (number n, command_over command at))
 what_over (whats.Adopt version kind cpu) = (refl, (number version, (turn_over kind, (number cpu, tt))))
-what_over (whats.Look position excluded figures decision) = (refl, (number position, (list_over excluded, (figures_over figures, decision_over decision))))
+what_over (whats.Look position excluded figures decision) =
+    (refl, (number position, (list_over excluded, (figures_over figures, decision_over decision))))
 what_over (whats.Scan figures target) = (refl, (figures_over figures, (target_over target, tt)))
 what_over (whats.End unserved) = (refl, (list_over unserved, tt))
 what_over (whats.Did reply) = (refl, (reply_over reply, tt))
@@ -152,7 +160,8 @@ what_over (whats.Out cause to ids) = (refl, (cause_over cause, (number to, (ids_
 what_over (whats.Landed ids) = (refl, (ids_over ids, tt))
 what_over (whats.Turn positions) = (refl, (list_over positions, tt))
 what_over whats.Shut = (refl, tt)
-what_over (whats.Close position outcome interval failures) = (refl, (number position, (outcome_over outcome, (number interval, (number failures, tt)))))
+what_over (whats.Close position outcome interval failures) =
+    (refl, (number position, (outcome_over outcome, (number interval, (number failures, tt)))))
 what_over (whats.Ask reply) = (refl, (request_over reply, tt))
 what_over (whats.Kick reply) = (refl, (request_over reply, tt))
 what_over whats.Over = (refl, tt)
@@ -163,7 +172,8 @@ entry_over ticket entry = (number ticket, (owner_over entry.owner entry.lane, (n
 
 pub line_over : (ticket : ℕ) (entry : Entry) → over 31 (entry_line ticket entry) ≡ true
 unfolding entry_line
-line_over ticket entry = joined_over 31 32 (entry_fields ticket entry) (omega arith) (each_weaker 31 32 (entry_fields ticket entry) (omega arith) (entry_over ticket entry))
+line_over ticket entry = joined_over 31 32 (entry_fields ticket entry) (omega arith)
+    (each_weaker 31 32 (entry_fields ticket entry) (omega arith) (entry_over ticket entry))
 
 -- lines of a header
 
@@ -178,7 +188,9 @@ repeated_over fields e = over_append 31 (codes "= ") (joined 44 fields) refl (jo
 
 cpu_over : (id : ℕ) (cpu : CpuRow) → over 31 (cpu_line id cpu) ≡ true
 unfolding cpu_line
-cpu_over id cpu = repeated_over (codes "cpu" ∷ decimal id ∷ decimal cpu.core ∷ decimal cpu.cache ∷ decimal cpu.node ∷ []) (refl, (digits_over id, (digits_over cpu.core, (digits_over cpu.cache, (digits_over cpu.node, tt)))))
+cpu_over id cpu = repeated_over
+    (codes "cpu" ∷ decimal id ∷ decimal cpu.core ∷ decimal cpu.cache ∷ decimal cpu.node ∷ [])
+    (refl, (digits_over id, (digits_over cpu.core, (digits_over cpu.cache, (digits_over cpu.node, tt)))))
 
 distances_over : (distances : List ℕ) → over 31 (distances_line distances) ≡ true
 unfolding distances_line
@@ -195,14 +207,19 @@ lanes_over lanes = repeated_over (codes "lanes" ∷ decimal lanes ∷ []) (refl,
 task_over : (id : ℕ) (task : TaskRow) → over 31 (task_line id task) ≡ true
 unfolding task_line
 task_over id task =
-    repeated_over (codes "task" ∷ decimal id ∷ signed_decimal task.nice ∷ decimal task.home ∷ runs_text task.mask ∷ []) (refl, (digits_over id, (signed_over 31 task.nice (omega arith), (digits_over task.home, (cpus_over task.mask, tt)))))
+    repeated_over (codes "task" ∷ decimal id ∷ signed_decimal task.nice ∷ decimal task.home ∷ runs_text task.mask ∷
+    []) (refl, (digits_over id, (signed_over 31 task.nice (omega arith), (digits_over task.home, (cpus_over task.mask, tt)))))
 
 pub header_over : (header : Header) → EachOver 31 (header_lines header)
 unfolding header_lines
 header_over header =
-    let cpus : EachOver 31 (codes "lbhist 1" ∷ numbered cpu_line 0 header.cpus) = (refl, each_numbered 31 cpu_line 0 header.cpus cpu_over) in
+    let cpus : EachOver 31 (codes "lbhist 1" ∷ numbered cpu_line 0 header.cpus) =
+    (refl, each_numbered 31 cpu_line 0 header.cpus cpu_over) in
     let tasks = parts_line header.parts ∷ lanes_line header.lanes ∷ numbered task_line 0 header.tasks in
-    let rest : EachOver 31 tasks = (parts_over header.parts, (lanes_over header.lanes, each_numbered 31 task_line 0 header.tasks task_over)) in
+    let rest : EachOver 31 tasks = (
+      parts_over header.parts,
+      (lanes_over header.lanes, each_numbered 31 task_line 0 header.tasks task_over),
+    ) in
     each_append 31 (codes "lbhist 1" ∷ numbered cpu_line 0 header.cpus) (map distances_line header.distances ++ tasks) cpus
     (each_append 31 (map distances_line header.distances) tasks (each_map 31 distances_line header.distances distances_over) rest)
 
@@ -212,9 +229,11 @@ pub has_its_lines : HasItsLines
 unfolding history_lines history_text
 has_its_lines h =
     let lines = header_lines h.header ++ numbered entry_line 1 h.entries in
-    let each : EachOver 31 lines = each_append 31 (header_lines h.header) (numbered entry_line 1 h.entries) (header_over h.header) (each_numbered 31 entry_line 1 h.entries line_over) in
+    let each : EachOver 31 lines = each_append 31 (header_lines h.header) (numbered entry_line 1 h.entries)
+    (header_over h.header) (each_numbered 31 entry_line 1 h.entries line_over) in
     cut_lines lines (each_weaker 10 31 lines (omega arith) each)
 
 pub has_its_fields : HasItsFields
 unfolding entry_line
-has_its_fields ticket entry = cut_fields 32 (decimal ticket) (owner_text entry.owner entry.lane ∷ decimal entry.prev ∷ what_fields entry.what) (entry_over ticket entry)
+has_its_fields ticket entry = cut_fields 32 (decimal ticket)
+    (owner_text entry.owner entry.lane ∷ decimal entry.prev ∷ what_fields entry.what) (entry_over ticket entry)

@@ -42,7 +42,11 @@ row_lines =
     ∷ (line 9 (Lane 0) (whats.Row 5 7 (commands.SetMask 1 (cpus 9223372036854775855))), codes "9 L0 8 row 5 mask 1 7 0-3;5;63")
     ∷ (line 11 (Lane 0) (whats.Row 6 0 (commands.Nice 1 (negsuc 19))), codes "11 L0 10 row 6 nice 1 0 -20")
     ∷ (line 7 (Lane 0) (whats.Row 4 2000000 (commands.Tick 0)), codes "7 L0 6 row 4 tick 0 2000000")
-    ∷ (line 1 (Lane 0) (whats.Row 1 0 (commands.Rebuild (cpus 15 ∷ cpus 0 ∷ cpus 112 ∷ []))), codes "1 L0 0 row 1 rebuild 0 0-3 - 4-6")
+    ∷ (
+      line 1 (Lane 0) (whats.Row 1 0 (commands.Rebuild (cpus 15 ∷ cpus 0 ∷ cpus 112 ∷ []))),
+      codes
+          "1 L0 0 row 1 rebuild 0 0-3 - 4-6",
+    )
     ∷ (line 2 Publisher (whats.Pub 2), codes "2 P@0 1 pub 2")
     ∷ (entry_line 8 (record { owner = Queue 3; lane = 15; prev = 5; what = whats.Over }), codes "8 Q3@15 5 over")
     ∷ (line 2 (Queue 1) (whats.Did replies.Done), codes "2 Q1@0 1 did done")
@@ -71,17 +75,26 @@ turn_lines =
     ∷ (line 10 (Queue 1) (whats.Turn (cpus 0)), codes "10 Q1@0 9 turn -")
     ∷ (line 20 (Queue 0) (whats.Turn (cpus 1)), codes "20 Q0@0 19 turn 0")
     ∷ (line 12 (Queue 1) whats.Shut, codes "12 Q1@0 11 shut")
-    ∷ (line 7 (Lane 0) (whats.Look 0 (cpus 0) (figure 0 2 ∷ figure 1 1 ∷ []) decisions.Balanced), codes "7 L0 6 look 0 - 0:2,1:1 balanced")
+    ∷ (
+      line 7 (Lane 0) (whats.Look 0 (cpus 0) (figure 0 2 ∷ figure 1 1 ∷ []) decisions.Balanced),
+      codes
+          "7 L0 6 look 0 - 0:2,1:1 balanced",
+    )
     ∷ (line 21 (Lane 0) (whats.Look 0 (cpus 0) (figure 0 3 ∷ []) decisions.NotMine), codes "21 L0 20 look 0 - 0:3 notmine")
     ∷ (
       line 22 (Lane 0) (whats.Look 0 (cpus 2) (figure 0 3 ∷ figure 2 3 ∷ []) (decisions.Pull 2 moves.Tasks 1)),
       codes "22 L0 21 look 0 1 0:3,2:3 pull 2 tasks 1",
     )
     ∷ (
-      line 21 (Lane 0) (whats.Look 0 (cpus 10) (figure 0 18446744073709551615 ∷ figure 2 0 ∷ []) (decisions.Pull 2 moves.Load 85)),
+      line 21 (Lane 0) (whats.Look 0 (cpus 10) (figure 0 18446744073709551615 ∷ figure 2 0 ∷ [])
+          (decisions.Pull 2 moves.Load 85)),
       codes "21 L0 20 look 0 1;3 0:18446744073709551615,2:0 pull 2 load 85",
     )
-    ∷ (line 21 (Lane 0) (whats.Look 0 (cpus 0) (figure 0 3 ∷ []) (decisions.Pull 63 moves.Util 1)), codes "21 L0 20 look 0 - 0:3 pull 63 util 1")
+    ∷ (
+      line 21 (Lane 0) (whats.Look 0 (cpus 0) (figure 0 3 ∷ []) (decisions.Pull 63 moves.Util 1)),
+      codes
+          "21 L0 20 look 0 - 0:3 pull 63 util 1",
+    )
     ∷ []
 
 -- ---- how positions end, and what follows

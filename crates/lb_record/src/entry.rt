@@ -1,3 +1,4 @@
+//! The line of an entry (docs/rules/history-text.md).
 ghost use Rattle.std.specs.Prelude.{◌≡◌, true, ◌∷◌, ◌++◌, [], OnOk, OnErr, decimal};
 ghost use Rattle.lb_text.specs.Runs.{list_text};
 ghost use Rattle.lb_core.specs.declared.entry.What.TheVariants as whats;

@@ -1,3 +1,4 @@
+//! The lines of a header (docs/rules/history-text.md).
 ghost use Rattle.std.specs.Prelude.{◌≡◌, ◌∷◌, ◌++◌, [], OnOk, OnErr, map, codes, decimal};
 ghost use Rattle.std.specs.Fmt.{signed_decimal};
 ghost use Rattle.lb_text.specs.Runs.{runs_text};

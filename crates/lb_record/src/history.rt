@@ -1,3 +1,4 @@
+//! The text of a history (docs/rules/history-text.md).
 ghost use Rattle.std.specs.Prelude.{◌≡◌, ◌++◌, true, IfOk, OnOk};
 ghost use Rattle.lb_trace.specs.Accepted.{IsHeader};
 ghost use Rattle.lb_core.specs.Ranges.{entries_fit};

@@ -1,3 +1,4 @@
+//! The words of an entry's line, as `specs/Words` has them.
 ghost use Rattle.std.specs.Prelude.{◌≡◌};
 ghost use Rattle.lb_record.specs.Words.{turn_word, move_word, reply_word, request_word, cause_word, outcome_word};
 

@@ -26,12 +26,14 @@ module _ {A : Type 0} where
 
   -- the value x stands for a list that all views fit
   abbrev pub Kept : {T : Type 0} → (T → List A → Type 0) → T → List (View A) → Type 0
-  Kept ends x views = (seat : ℕ) × (log : List A) × ends x log × ((by : ℕ) (v : View A) → get_elem? views by ≡ some v → Fits seat log by v)
+  Kept ends x views = (seat : ℕ) × (log : List A) × ends x log
+      × ((by : ℕ) (v : View A) → get_elem? views by ≡ some v → Fits seat log by v)
 
   -- ---- steps: from the view v and the value x to the value y and the view w
   -- a look finds a value that stands for all that is seen now: not less than was seen or told
   abbrev pub Looks : {T : Type 0} → (T → List A → Type 0) → View A → T → T → View A → Type 0
-  Looks ends v x y w = (w.writes ≡ v.writes) × IsPrefix v.seen w.seen × IsPrefix v.told w.seen × ends y w.seen × (v.writes ≡ true → w.seen ≡ v.seen)
+  Looks ends v x y w = (w.writes ≡ v.writes) × IsPrefix v.seen w.seen × IsPrefix v.told w.seen × ends y w.seen
+      × (v.writes ≡ true → w.seen ≡ v.seen)
 
   -- the writer adds an item to all that there was
   abbrev pub Adds : {T : Type 0} → (T → A) → View A → T → T → View A → Type 0

@@ -23,9 +23,9 @@ pub fn serial(alloc: Global, trace: &Trace) -> Result<History, NoMemory>
     serial_runs();
     histories_end();
     let mut run = Run::start(alloc, &trace.header)?;
-    run.serve_rows(alloc, trace)?;
+    run.serve_rows(trace)?;
     while !run.state.has_ended() {
-        run.draw(alloc, CLOSING_LANE, None)?;
+        run.draw(CLOSING_LANE, None)?;
     }
     let Run { history, state } = run;
     drop(state);

@@ -36,14 +36,14 @@ impl Run {
     }
 
     /// The lane draws its next entry; at rest it takes up this row, if one is given.
-    pub fn draw(&mut self, alloc: Global, lane: u32, row: Option<&Row>) -> Result<(), NoMemory>
+    pub fn draw(&mut self, lane: u32, row: Option<&Row>) -> Result<(), NoMemory>
         requires lane { lane < length self.old.state.courses }
         requires own { IfSome row (λ r. r.now.lane ≡ lane) }
         requires accepted { IfSome row (λ r. is_row self.old.state.header r.now ≡ true) }
         ensures { (e : Entry) → IsSerialNext self.old.state lane (option_copied row.entry) e
             → OnOk result (self.new ≡ with_entry self.old e) }
     {
-        match self.state.draw(alloc, lane, row)? {
+        match self.state.draw(lane, row)? {
             Some(entry) => self.history.entries.push(entry),
             None => Ok(()),
         }
@@ -58,7 +58,7 @@ impl Run {
     }
 
     // Serves the row of the trace at this place, from 0: its lane takes it up, and goes on until it rests.
-    fn serve(&mut self, alloc: Global, trace: &Trace, place: usize) -> Result<(), NoMemory>
+    fn serve(&mut self, trace: &Trace, place: usize) -> Result<(), NoMemory>
         requires trace { IsTrace trace.now }
         requires place { place < length trace.now.rows }
         requires rest { IsAtRest trace.now (drop place trace.now.rows) self.old }
@@ -66,21 +66,21 @@ impl Run {
     {
         let row = trace.rows.get(place);
         let lane = row.lane;
-        self.draw(alloc, lane, Some(row))?;
+        self.draw(lane, Some(row))?;
         while !self.is_at_rest(lane) {
-            self.draw(alloc, lane, None)?;
+            self.draw(lane, None)?;
         }
         Ok(())
     }
 
     /// Serves the rows of the trace in file order, each to its end.
-    pub fn serve_rows(&mut self, alloc: Global, trace: &Trace) -> Result<(), NoMemory>
+    pub fn serve_rows(&mut self, trace: &Trace) -> Result<(), NoMemory>
         requires trace { IsTrace trace.now }
         requires rest { IsAtRest trace.now trace.now.rows self.old }
         ensures { OnOk result (IsAtRest trace.now [] self.new) }
     {
         for place in 0..trace.rows.len() {
-            self.serve(alloc, trace, place)?;
+            self.serve(trace, place)?;
         }
         Ok(())
     }

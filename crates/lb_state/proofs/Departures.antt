@@ -25,9 +25,9 @@ use Rattle.lb_core.proofs.Equality.{cause_is, numbers_same}
 use Rattle.lb_core.proofs.Placing.{entry, lane_there}
 use Rattle.lb_core.proofs.Unbroken.{unbroken_here}
 use Rattle.lb_ready.specs.Ready.{IsReady, Fits}
-use Rattle.lb_parts.specs.Leaves.{IsOut, IsDue}
-use Rattle.lb_parts.specs.Steps.{of_queue}
-use Rattle.lb_parts.specs.Takes.{OutAsks}
+use Rattle.lb_engine.specs.Leaves.{IsOut, IsDue}
+use Rattle.lb_engine.specs.Steps.{of_queue}
+use Rattle.lb_engine.specs.Takes.{OutAsks}
 use Rattle.lb_state.proofs.QueueEntries.{pull_asks, each_declared}
 
 -- ---- the one that is due

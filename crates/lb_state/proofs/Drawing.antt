@@ -22,7 +22,7 @@ use Rattle.lb_core.specs.Stage.{draws}
 use Rattle.lb_core.proofs.Placing.{form_lets}
 use Rattle.lb_ready.specs.Laws.{ReadsInRange, EntryFits}
 use Rattle.lb_ready.specs.Next.{IsSerialNext, Takes}
-use Rattle.lb_ready.specs.Ready.{IsReady, is_in_range}
+use Rattle.lb_ready.specs.Ready.{IsReady, nice_fits}
 
 -- the row that is given, by reference
 copied : (P : Row → Type 0) (row : Option (Bor Row)) → IfSome row (λ r. P r.now) → IfSome (option_copied row) P
@@ -46,13 +46,27 @@ what_of : (ticket : ℕ) (e : Entry) → entry_fits ticket e ≡ true → what_f
 unfolding entry_fits
 what_of ticket e h = (and_parts _ (what_fits e.what) h).1
 
-pub drawn_in_range : ReadsInRange → EntryFits → (m : MachineState) (lane : ℕ) (row : Option (Bor Row)) (e : Entry)
+-- the entry that comes next is in range, and so is the nice value of its row
+pub drawn_fits : EntryFits → (m : MachineState) (lane : ℕ) (row : Option (Bor Row)) (e : Entry)
     → IsReady m → m.ticket < MAX_TICKET → IfSome row (λ r. is_row m.header r.now ≡ true)
-    → IsSerialNext m lane (option_copied row) e → is_in_range e.what ≡ true
-drawn_in_range reads fits m lane row e k few accepted n =
+    → IsSerialNext m lane (option_copied row) e → entry_fits (m.ticket + 1) e ≡ true
+drawn_fits fits m lane row e k few accepted n =
     let own = n.own in
     let takes : Takes (course_at m.courses e.lane).form (option_copied row) e.lane e.what =
     subst (λ (l : ℕ). Takes (course_at m.courses l).form (option_copied row) l e.what) (sym own) n.takes in
     let rows = rows_fit (course_at m.courses e.lane).form m.header (course_at m.courses e.lane) (sight m e).queue
     (option_copied row) e.lane e.what (form_lets m e n.may).1 (copied (λ r. is_row m.header r ≡ true) row accepted) takes in
-    reads e.what (what_of (m.ticket + 1) e (fits m e k few n.may rows))
+    fits m e k few n.may rows
+
+pub drawn_nice : ReadsInRange → EntryFits → (m : MachineState) (lane : ℕ) (row : Option (Bor Row)) (e : Entry)
+    → IsReady m → m.ticket < MAX_TICKET → IfSome row (λ r. is_row m.header r.now ≡ true)
+    → IsSerialNext m lane (option_copied row) e → nice_fits e.what ≡ true
+drawn_nice reads fits m lane row e k few accepted n =
+    reads e.what (what_of (m.ticket + 1) e (drawn_fits fits m lane row e k few accepted n))
+
+-- and so is the one that was drawn, if one was
+pub each_drawn_fits : EntryFits → (m : MachineState) (lane : ℕ) (row : Option (Bor Row)) (drawn : Option Entry)
+    → IsReady m → m.ticket < MAX_TICKET → IfSome row (λ r. is_row m.header r.now ≡ true)
+    → IfSome drawn (λ e. IsSerialNext m lane (option_copied row) e) → IfSome drawn (λ e. entry_fits (m.ticket + 1) e ≡ true)
+each_drawn_fits fits m lane row None k few accepted n = tt
+each_drawn_fits fits m lane row (Some e) k few accepted n = drawn_fits fits m lane row e k few accepted n

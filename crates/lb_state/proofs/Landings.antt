@@ -18,8 +18,8 @@ use Rattle.lb_core.specs.Machine.{MachineState, course_at, queue_at, place_at}
 use Rattle.lb_core.specs.Placed.{is_flight, is_its_place, times, standing, IsPlaced}
 use Rattle.lb_core.specs.Same.{same_place}
 use Rattle.lb_ready.specs.Ready.{IsReady, FitsForm, unnamed}
-use Rattle.lb_parts.specs.Held.{Held, HandsFit, Holds, hand_at}
-use Rattle.lb_parts.specs.Ending.{CanLand, times_in, times_held, times_queued}
+use Rattle.lb_engine.specs.Held.{Held, HandsFit, Holds, hand_at}
+use Rattle.lb_engine.specs.Ending.{CanLand, times_in, times_held, times_queued}
 use Rattle.lb_state.specs.Laws.{HandsMayLand}
 
 -- ---- where hands go

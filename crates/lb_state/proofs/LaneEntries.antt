@@ -35,8 +35,8 @@ use Rattle.lb_core.proofs.Placing.{entry, is_no_queue, form_lets}
 use Rattle.lb_core.proofs.Unbroken.{unbroken_here, unbroken_elsewhere}
 use Rattle.lb_ready.specs.Ready.{IsReady, HasSizes, FitsForm, unnamed}
 use Rattle.lb_ready.specs.Lanes.{PartsCpus, Suits}
-use Rattle.lb_parts.specs.Asks.{TicksBelow, RebuildAsks, IsPublished}
-use Rattle.lb_parts.specs.Takes.{NamesAsks, LaneAsks}
+use Rattle.lb_engine.specs.Asks.{TicksBelow, RebuildAsks, IsPublished}
+use Rattle.lb_engine.specs.Takes.{NamesAsks, LaneAsks}
 
 -- ---- rows, versions, masks
 ticks_below : (h : Header) (n : ℕ) (command : Command) → n ≡ length h.cpus → is_undeclared h command ≡ false → TicksBelow n command

@@ -31,12 +31,12 @@ use Rattle.lb_core.specs.Stage.{draws}
 use Rattle.lb_core.proofs.Equality.{numbers_same}
 use Rattle.lb_core.proofs.Placing.{entry, form_lets}
 use Rattle.lb_core.proofs.Unbroken.{unbroken_here, unbroken_elsewhere}
-use Rattle.lb_ready.specs.Calls.{TurnAsks as TurnMeets, IsOnAt, LandedAsks as LandingMeets}
+use Rattle.lb_ready.specs.Calls.{TurnAsks, IsOnAt, LandedAsks}
 use Rattle.lb_ready.specs.Lanes.{Suits}
 use Rattle.lb_ready.specs.Laws.{TasksStand}
 use Rattle.lb_ready.specs.Ready.{IsReady, Names}
-use Rattle.lb_parts.specs.Asks.{IsMapped, is_awake_place, HasTurn, IsInWork, PullAsks}
-use Rattle.lb_parts.specs.Takes.{AnswerAsks, LandedAsks, TurnAsks, CloseAsks, OverAsks}
+use Rattle.lb_engine.specs.Asks.{IsMapped, is_awake_place, HasTurn, HasPosition, PullAsks}
+use Rattle.lb_engine.specs.Takes.{AnswerAsks, LandedStepAsks, TurnStepAsks, CloseAsks, OverAsks}
 use Rattle.lb_queue.specs.declared.record.TaskRecord.{TaskRecord}
 
 abbrev pub opens_or_shuts : What → Bool
@@ -95,7 +95,7 @@ has_turn : (m : MachineState) (lane : ℕ) → IsReady m
     → IsVersion m (course_at m.courses lane).version (course_at m.courses lane).masks → HasTurn m (course_at m.courses lane)
 has_turn m lane k v = record { version = v; turned = (k.fits lane).says.turned }
 
-in_work : (m : MachineState) (lane : ℕ) → IsReady m → IsAtPosition m lane (course_at m.courses lane) → IsInWork m (course_at m.courses lane)
+in_work : (m : MachineState) (lane : ℕ) → IsReady m → IsAtPosition m lane (course_at m.courses lane) → HasPosition m (course_at m.courses lane)
 in_work m lane k t = record { turn = has_turn m lane k t.0.taken_up; inside = t.0.inside (course_at m.courses lane).position t.1 }
 
 -- where a pull is due, so is the position
@@ -120,8 +120,8 @@ some_not_none (Some x) h = refl
 
 pub turn_asks : (m : MachineState) (cpu lane prev : ℕ) (w : What) (is_open : Bool) → IsReady m
     → opens_or_shuts w ≡ true → MayBeAdded m (entry (Queue cpu) lane prev w)
-    → TurnMeets (sight m (entry (Queue cpu) lane prev w)) → is_some (queue_at m.queues cpu).open_turn ≡ is_open →
-    TurnAsks m (queue_at m.queues cpu) (course_at m.courses lane) is_open
+    → TurnAsks (sight m (entry (Queue cpu) lane prev w)) → is_some (queue_at m.queues cpu).open_turn ≡ is_open →
+    TurnStepAsks m (queue_at m.queues cpu) (course_at m.courses lane) is_open
 unfolding sight
 turn_asks m cpu lane prev w is_open k o h meets there =
     let e = entry (Queue cpu) lane prev w in
@@ -189,8 +189,8 @@ each_declared m lane placed i d lt = declared m lane (get_or (ids (course_at m.c
     stands_in (t ∷ ts) (suc i) d lt = let rest = stands_in ts i d (omega arith) in omega arith
 
 pub landed_asks : (m : MachineState) (cpu lane prev : ℕ) (tasks : List ℕ) → IsReady m → cpu < length m.header.cpus
-    → MayBeAdded m (entry (Queue cpu) lane prev (Landed tasks)) → LandingMeets (course_at m.courses lane) (queue_at m.queues cpu) →
-    LandedAsks m (queue_at m.queues cpu) cpu (course_at m.courses lane) tasks
+    → MayBeAdded m (entry (Queue cpu) lane prev (Landed tasks)) → LandedAsks (course_at m.courses lane) (queue_at m.queues cpu) →
+    LandedStepAsks m (queue_at m.queues cpu) cpu (course_at m.courses lane) tasks
 unfolding sight
 landed_asks m cpu lane prev tasks k lt h meets =
     let e = entry (Queue cpu) lane prev (Landed tasks) in

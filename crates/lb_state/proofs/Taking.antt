@@ -1,4 +1,4 @@
--- An entry that may be added to a ready machine meets what its step asks of the parts.
+-- An entry that may be added to a ready machine meets what its step asks of the engine.
 use Rattle.std.proofs.Common.{arith, ◌≡◌, ℕ, ◌<◌, Bool, true, false, length, Option, refl, sym, ◌∙◌, not}
 use Rattle.std.proofs.lemmas.Bool.{or_parts, not-false}
 use Rattle.lb_domain.specs.Laws.{LieInside}
@@ -19,11 +19,11 @@ use Rattle.lb_core.specs.Stage.{draws, queue_due, is_owner}
 use Rattle.lb_core.specs.Step.{after}
 use Rattle.lb_core.proofs.Placing.{entry, lane_there, cpu_there, form_lets}
 use Rattle.lb_core.proofs.Unbroken.{unbroken_here}
-use Rattle.lb_ready.specs.Calls.{QueueAsks as QueueMeets}
+use Rattle.lb_ready.specs.Calls.{QueueAsks}
 use Rattle.lb_ready.specs.Lanes.{Suits, LanesSuit}
 use Rattle.lb_ready.specs.Laws.{StaysReady, CallsMayBeMade, TasksStand}
-use Rattle.lb_ready.specs.Ready.{IsReady, is_in_range}
-use Rattle.lb_parts.specs.Takes.{QueueAsks, OfQueueAsks, OwnerAsks, is_landing}
+use Rattle.lb_ready.specs.Ready.{IsReady, nice_fits}
+use Rattle.lb_engine.specs.Takes.{QueueStepAsks, OfQueueAsks, OwnerAsks, is_landing}
 use Rattle.lb_state.specs.Laws.{StepsMayBeTaken}
 use Rattle.lb_state.proofs.LaneEntries.{lane_asks}
 use Rattle.lb_state.proofs.QueueEntries.{did_asks, turn_asks, close_asks, over_asks, landed_asks, some_not_none}
@@ -47,9 +47,9 @@ lands_in_flight f h c q lane (Landed tasks) d = absurd (let y : ⊥ = cc in y)
 lands_in_flight f h c q lane w d = refl
 
 queue_asks : ReadyLaws → (m : MachineState) (cpu lane prev : ℕ) (w : What) → IsReady m
-    → MayBeAdded m (entry (Queue cpu) lane prev w) → is_in_range w ≡ true → cpu < length m.header.cpus
+    → MayBeAdded m (entry (Queue cpu) lane prev w) → nice_fits w ≡ true → cpu < length m.header.cpus
     → Suits m.header (course_at m.courses lane) →
-    QueueMeets w (sight m (entry (Queue cpu) lane prev w)) → QueueAsks w m cpu lane (queue_at m.queues cpu) (course_at m.courses lane)
+    QueueAsks w (sight m (entry (Queue cpu) lane prev w)) → QueueStepAsks w m cpu lane (queue_at m.queues cpu) (course_at m.courses lane)
 unfolding sight
 queue_asks laws m cpu lane prev (Did r) k h r' lt s meets = did_asks laws.stand m cpu lane prev r k h meets
 queue_asks laws m cpu lane prev (Out cause to tasks) k h r lt s meets =
@@ -68,7 +68,7 @@ queue_asks laws m cpu lane prev w k h r lt s meets =
     (Queue cpu) ≡ true = (form_lets m (entry (Queue cpu) lane prev w) h).0 in let y : ⊥ = cc in y)
 
 of_queue_asks : ReadyLaws → (m : MachineState) (cpu lane prev : ℕ) (w : What) → IsReady m
-    → MayBeAdded m (entry (Queue cpu) lane prev w) → is_in_range w ≡ true → Suits m.header (course_at m.courses lane)
+    → MayBeAdded m (entry (Queue cpu) lane prev w) → nice_fits w ≡ true → Suits m.header (course_at m.courses lane)
     → OfQueueAsks w m cpu lane
 of_queue_asks laws m cpu lane prev w k h r s =
     let e = entry (Queue cpu) lane prev w in
@@ -86,7 +86,7 @@ of_queue_asks laws m cpu lane prev w k h r s =
     }
 
 owner_asks : ReadyLaws → (m : MachineState) (o : Owner) (lane prev : ℕ) (w : What) → IsReady m
-    → MayBeAdded m (entry o lane prev w) → is_in_range w ≡ true → Suits m.header (course_at m.courses lane) → OwnerAsks o w m lane
+    → MayBeAdded m (entry o lane prev w) → nice_fits w ≡ true → Suits m.header (course_at m.courses lane) → OwnerAsks o w m lane
 owner_asks laws m (Queue cpu) lane prev w k h r s = of_queue_asks laws m cpu lane prev w k h r s
 owner_asks laws m Publisher lane prev w k h r s = lane_asks laws.inside m Publisher lane prev w k s refl h
 owner_asks laws m (Lane l) lane prev w k h r s = lane_asks laws.inside m (Lane l) lane prev w k s refl h

@@ -1,11 +1,11 @@
-//! Laws of a ready machine and its parts, over the definitions alone: each function's contract is the law,
+//! Laws of a ready machine and its engine, over the definitions alone: each function's contract is the law,
 //! and its body calls the laws that it stands on.
 ghost use Rattle.lb_state.specs.Laws.{StepsMayBeTaken, HandsMayLand};
 
 use lb_domain::laws::spans_lie_inside;
 use lb_ready::laws::{calls_may_be_made, lanes_suit, ready};
 
-/// An entry that may be added to a ready machine meets what its step asks of the parts, where the nice value
+/// An entry that may be added to a ready machine meets what its step asks of the engine, where the nice value
 /// of its row, if it takes up one, is in range.
 pub fn steps_may_be_taken()
     ensures { StepsMayBeTaken }

@@ -1,3 +1,4 @@
+//! The statistics of a group, from the figures of its CPUs (docs/rules/decision.md).
 ghost use Rattle.std.specs.Prelude.{◌≡◌, ◌+◌, ◌<◌, ◌^◌, ◌||◌, if◌then◌else◌};
 ghost use Rattle.lb_base.specs.Figures.{AllHaveFigures, total};
 ghost use Rattle.lb_stats.specs.Statistics.{average_of, stats_of, any_marked, idle_count, is_idle, is_marked, HasSmallSums};

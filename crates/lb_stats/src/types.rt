@@ -1,3 +1,4 @@
+//! The type of a group (docs/rules/decision.md).
 ghost use Rattle.std.specs.Prelude.{◌≡◌};
 ghost use Rattle.lb_stats.specs.Types.{type_of};
 

@@ -18,8 +18,22 @@ use Rattle.lb_ready.specs.Laws.{StaysReady, ReadsInRange}
 use Rattle.lb_ready.specs.Ready.{IsReady}
 use Rattle.lb_summary.specs.declared.summary.Summary.{Summary}
 use Rattle.lb_summary.specs.Summary.{Step, steps_from, takes_up_row, leaves_for, tasks_in, level_balanced, is_smt, is_mc, is_pkg, is_numa, pulls_at, steps_where, tasks_where, summary_of}
-use Rattle.lb_summary.specs.Counting.{counting, plus, AreAtMost, MayCount}
+use Rattle.lb_summary.specs.Counting.{counting, AreAtMost, MayCount}
 use Rattle.lb_summary.proofs.Leaving.{may_count}
+
+-- ---- both counts together
+abbrev pub plus : Summary → Summary → Summary
+plus a b =
+    record {
+      rows = a.rows + b.rows;
+      entries = a.entries + b.entries;
+      pulled_smt = a.pulled_smt + b.pulled_smt;
+      pulled_mc = a.pulled_mc + b.pulled_mc;
+      pulled_pkg = a.pulled_pkg + b.pulled_pkg;
+      pulled_numa = a.pulled_numa + b.pulled_numa;
+      pushed = a.pushed + b.pushed;
+      stopped = a.stopped + b.stopped;
+    }
 
 -- ---- one step more
 -- what a step is worth, where it passes a test or not

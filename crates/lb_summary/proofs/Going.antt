@@ -12,9 +12,9 @@ use Rattle.lb_ready.specs.Laws.{OpensReady, StaysReady, ReadsInRange}
 use Rattle.lb_ready.specs.Ready.{IsReady}
 use Rattle.lb_summary.specs.declared.summary.Summary.{Summary}
 use Rattle.lb_summary.specs.Summary.{steps_from, steps_of, level_balanced, summary_of}
-use Rattle.lb_summary.specs.Counting.{counting, plus, AreAtMost, MayCount}
+use Rattle.lb_summary.specs.Counting.{counting, AreAtMost, MayCount}
 use Rattle.lb_summary.proofs.Leaving.{may_count}
-use Rattle.lb_summary.proofs.Counted.{one_more, at_most, says_fit, step_ready, all_may_count}
+use Rattle.lb_summary.proofs.Counted.{plus, one_more, at_most, says_fit, step_ready, all_may_count}
 
 -- so much is counted, the machine is this one, and these entries are left, the first of them at ticket n
 pub record IsCounting (total s : Summary) (m : MachineState) (n : ℕ) (rest : List Entry) : Type 0 where

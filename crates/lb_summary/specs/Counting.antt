@@ -33,20 +33,6 @@ counting (Row number at command) level s = record (with_entry s) { rows = s.rows
 counting (Out cause to ids) level s = with_tasks cause level (length ids) (with_entry s)
 counting w level s = with_entry s
 
--- ---- both counts together
-abbrev pub plus : Summary → Summary → Summary
-plus a b =
-    record {
-      rows = a.rows + b.rows;
-      entries = a.entries + b.entries;
-      pulled_smt = a.pulled_smt + b.pulled_smt;
-      pulled_mc = a.pulled_mc + b.pulled_mc;
-      pulled_pkg = a.pulled_pkg + b.pulled_pkg;
-      pulled_numa = a.pulled_numa + b.pulled_numa;
-      pushed = a.pushed + b.pushed;
-      stopped = a.stopped + b.stopped;
-    }
-
 -- ---- what is asked
 -- no number is above this one
 pub record AreAtMost (most : ℕ) (s : Summary) : Type 0 where

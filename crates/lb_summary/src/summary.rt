@@ -123,7 +123,7 @@ impl Summary {
         for entry in history.entries.as_slice() {
             summary.count(&state, entry);
             // it may be added, so that it is taken
-            state.step(alloc, entry)?;
+            state.step(entry)?;
         }
         Ok(summary)
     }

@@ -1,3 +1,5 @@
+//! Where a text is no list and no number.
+
 /// A text is misspelled (docs/rules/history-text.md).
 #[derive(Clone, Copy, Debug, PartialEq, Eq)]
 pub struct BadText {

@@ -1,3 +1,4 @@
+//! Reading a list of CPUs.
 ghost use Rattle.std.specs.Prelude.{◌≡◌, ℕ, false, ◌∷◌, ◌++◌, ◌<◌, ◌≤◌, ◌+◌, ◌==◌, ◌&&◌, All, IfOk, IfErr, MatchOption, Some, None, length, nat_le, take, drop};
 ghost use Rattle.lb_base.specs.Mask.{has};
 ghost use Rattle.lb_text.specs.Lists.{item_of, is_item, list_of, is_list};

@@ -1,3 +1,5 @@
+//! The bytes between the fields of texts.
+
 /// The byte that ends a line.
 pub const LINE_FEED: u8 = b'\n';
 

@@ -1,3 +1,4 @@
+//! Reading numbers and nice values.
 ghost use Rattle.std.specs.Prelude.{◌≡◌, false, ℕ, ◌≤◌, ◌<◌, ◌/◌, ◌^◌, ◌++◌, ◌∷◌, [], List, ◌↔◌, IsTrue, IfOk, IfErr, pos, neg_ℤ, ◌≤ℤ◌, MatchOption, Some, None, decimal};
 ghost use Rattle.lb_text.specs.Numbers.{number_within, number_of, is_number, nice_of, is_nice};
 ghost use Rattle.lb_text.specs.Prefixes.{CanGoOn, IsFirstBad};

@@ -1,3 +1,4 @@
+//! The pieces of a text between marks, one after the other.
 ghost use Rattle.std.specs.Prelude.{◌≡◌, [], ◌∷◌, ◌==◌, MatchOption};
 ghost use Rattle.std.specs.List.{slice_split};
 

@@ -1,3 +1,4 @@
+//! Writing numbers and lists of CPUs, in their one spelling.
 ghost use Rattle.std.specs.Prelude.{◌≡◌, ◌++◌, ◌<◌, ◌≤◌, ◌+◌, ℕ, true, OnOk, OnErr, decimal, take, length, vec_len};
 ghost use Rattle.lb_base.specs.Mask.{has};
 ghost use Rattle.lb_text.specs.Runs.{run_text, runs_text, list_text};

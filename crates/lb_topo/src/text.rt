@@ -1,3 +1,4 @@
+//! The text of a trace's topologies (docs/rules/topology-text.md).
 ghost use Rattle.std.specs.Prelude.{◌≡◌, ◌++◌, None, length, IfOk, OnOk};
 ghost use Rattle.std.specs.List.{filter_map};
 ghost use Rattle.lb_levels.specs.Faults.{parts_fault_of};

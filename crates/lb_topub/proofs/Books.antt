@@ -16,9 +16,11 @@ abbrev outcome : Option VersionsSeen → Shown → Shown → Option VersionsSeen
 outcome v x y w = finds v y.known w
 
 -- one view is put in the place of another
-all_set : (b : Book) (views : List (Option VersionsSeen)) (i : ℕ) (v : Option VersionsSeen) → AllOf b views → MayKnow b v → AllOf b (set views i v)
+all_set : (b : Book) (views : List (Option VersionsSeen)) (i : ℕ) (v : Option VersionsSeen) → AllOf b views
+    → MayKnow b v → AllOf b (set views i v)
 all_set b views i v all one j u e =
-    ⊎_elim (λ (t : (j ≡ i) × (v ≡ u)). subst (MayKnow b) t.1 one) (λ (t : (j ≢ i) × (get_elem? views j ≡ some u)). all j u t.1) (at_set views i j v u e)
+    ⊎_elim (λ (t : (j ≡ i) × (v ≡ u)). subst (MayKnow b) t.1 one)
+    (λ (t : (j ≢ i) × (get_elem? views j ≡ some u)). all j u t.1) (at_set views i j v u e)
 
 pub admits : Admits rule None
 admits x views h j u e = ⊎_elim (h j u) (λ (new : None ≡ u). subst (MayKnow x.known.book) new tt) (at_snoc views None u j e)
@@ -30,7 +32,8 @@ turns by v x y same views h at =
 
 pub forks : (by : ℕ) (v : Option VersionsSeen) → Forks rule by v v v
 forks by v x views h at j u e =
-    ⊎_elim (λ (was : get_elem? (set views by v) j ≡ some u). h j u (subst (λ l. get_elem? l j ≡ some u) (set_again views by v at) was))
+    ⊎_elim (λ (was : get_elem? (set views by v) j ≡ some u). h j u
+    (subst (λ l. get_elem? l j ≡ some u) (set_again views by v at) was))
     (λ (same : v ≡ u). subst (MayKnow x.known.book) same (h by v at)) (at_snoc (set views by v) v u j e)
 
 pub merges : (by : ℕ) (v : Option VersionsSeen) (other : ℕ) (w : Option VersionsSeen) → Merges rule by v other w w None
@@ -40,7 +43,8 @@ merges by v other w x views h at apart there =
     all_set b (set views by w) other None one tt
 
 -- who knows whose versions they are finds versions of the same
-pub knows_still : (b : Book) (v : Option VersionsSeen) (y : VersionsSeen) (w : Option VersionsSeen) → Knows b v → finds v y w → (y.book ≡ b) × Knows b w
+pub knows_still : (b : Book) (v : Option VersionsSeen) (y : VersionsSeen) (w : Option VersionsSeen) → Knows b v
+    → finds v y w → (y.book ≡ b) × Knows b w
 knows_still b v y w k f =
     let same : y.book ≡ b = sym (subst (MayKnow y.book) k.1 f.1) ∙ k.2 in
     (same, (y, f.0, same))

@@ -20,7 +20,8 @@ fn turn<R: Wait>(copies: Copies, by: (&R, &Known)) -> (Copies, Result<(), AllocE
     requires last { last_of copies.desk.shown.value.known (drop copies.behind copies.log.items) ≡ by.1.now }
     requires book { by.1.now.book ≡ copies.desk.shown.value.known.book }
     ensures ok { IfOk result.1 (λ _. (result.0.desk.shown.value.known ≡ by.entry.1.now) × Knows by.entry.1.now.book (view result.0.desk.place)) }
-    ensures refused { IfErr result.1 (λ _. (result.0.desk.shown.value.known ≡ copies.desk.shown.value.known) × (drop result.0.behind result.0.log.items ≡ drop copies.behind copies.log.items)) }
+    ensures refused { IfErr result.1 (λ _. (result.0.desk.shown.value.known ≡ copies.desk.shown.value.known)
+        × (drop result.0.behind result.0.log.items ≡ drop copies.behind copies.log.items)) }
 {
     copies.publish_as::<Finds, R>(by.0)
 }

@@ -1,3 +1,4 @@
+//! The kinds of lines, by their first word (docs/rules/trace.md).
 ghost use Rattle.std.specs.Prelude.{◌≡◌};
 ghost use Rattle.csv.specs.Records.{fields_of};
 ghost use Rattle.lb_trace.specs.Kinds.{kind_named, line_kind};

@@ -1,3 +1,4 @@
+//! Why a line is refused.
 ghost use Rattle.std.specs.Prelude.{◌≡◌};
 ghost use Rattle.lb_trace.specs.declared.line_error.LineError.TheVariants.{Bad as bad, NoMemory as no_memory};
 

@@ -1,3 +1,4 @@
+//! A trace: its header, its rows, and how large it may be (docs/rules/trace.md).
 ghost use Rattle.std.specs.Prelude.{◌≡◌};
 ghost use Rattle.lb_trace.specs.declared.trace.TraceError.TheVariants.{NoMemory as no_memory};
 

@@ -1,3 +1,4 @@
+//! The turn that a lane has in work, over the domains that its CPU has in one version.
 ghost use Rattle.std.specs.Prelude.{◌≡◌, ◌≤◌, nat_lt, length};
 ghost use Rattle.lb_levels.specs.declared.limits.TheConstants.{MAX_LEVELS};
 ghost use Rattle.lb_core.specs.Course.{turn_domains, turn_domain};

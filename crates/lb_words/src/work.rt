@@ -1,3 +1,5 @@
+//! What the program can be asked to do.
+
 /// What the program is asked to do (README.md).
 #[derive(Clone, Copy, Debug, PartialEq, Eq)]
 pub enum Work {

@@ -1,3 +1,4 @@
+//! Wakes, sleeps, exits, masks and nice values at a queue (docs/rules/queue.md).
 ghost use Rattle.std.specs.Prelude.{◌≡◌, ◌≤◌, ◌≤ℤ◌, negsuc, pos, None, is_some, true, false, ◌||◌, not};
 ghost use Rattle.lb_base.specs.Sets.{is_empty, is_below};
 

@@ -1,3 +1,4 @@
+//! Tasks that leave a queue in a hand, and that land (docs/rules/queue.md).
 ghost use Rattle.std.specs.Prelude.{◌≡◌, ◌+◌, ◌-◌, ◌<◌, ◌≤◌, ◌++◌, [], ℕ, Some, IsSomeAnd, is_some, option_to_list, false, length, map, All, if◌then◌else◌, vec_capacity};
 ghost use Rattle.lb_queue.specs.Queue.{average_with};
 ghost use Rattle.lb_queue.specs.Hands.{is_wake, in_order};

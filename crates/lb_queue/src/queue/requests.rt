@@ -1,3 +1,4 @@
+//! Ticks, stop requests, active requests and kicks of a queue (docs/rules/queue.md).
 ghost use Rattle.std.specs.Prelude.{◌≡◌, IfSome, Some, false};
 
 use super::Queue;

@@ -1,3 +1,4 @@
+//! Balancing turns at a queue: opening, closing of positions, and end (docs/rules/counters.md).
 ghost use Rattle.std.specs.Prelude.{◌≡◌, ◌==◌, nat_lt, ◌≤◌, ◌<◌, ◌+◌, ◌*◌, ℕ, length, map, not, IsSome, MatchOption, None, Some, if◌then◌else◌, vec_capacity, vec_len, ◌&&◌, ◌||◌};
 ghost use Rattle.lb_base.specs.Sets.{mask_where};
 ghost use Rattle.lb_base.specs.Mask.{has, no_cpus};

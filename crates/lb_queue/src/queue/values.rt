@@ -1,3 +1,4 @@
+//! The figure that a queue shows (docs/rules/queue.md).
 ghost use Rattle.std.specs.Prelude.{◌≡◌, ◌<◌, ◌≤◌, ◌^◌, ◌+◌, [], Some, length, slice_get, unwrap_or, if◌then◌else◌};
 ghost use Rattle.lb_queue.specs.Figures.{flags_from};
 

@@ -17,14 +17,14 @@ impl State {
     pub fn header(&self) -> &Header
         ensures { result.now ≡ self.now.header }
     {
-        self.parts.header()
+        self.engine.header()
     }
 
     /// How many lanes there are, numbered from 0.
     pub fn lanes(&self) -> u32
         ensures { result ≡ length self.now.courses }
     {
-        self.parts.lanes()
+        self.engine.lanes()
     }
 
     /// The run queue of a CPU (docs/rules/queue.md).
@@ -32,7 +32,7 @@ impl State {
         requires { cpu < length self.now.queues }
         ensures { result.now.state ≡ queue_at self.now.queues cpu }
     {
-        self.parts.queue(cpu)
+        self.engine.queue(cpu)
     }
 
     /// The newest figure of a CPU (docs/rules/queue.md).
@@ -40,7 +40,7 @@ impl State {
         requires { cpu < length self.now.queues }
         ensures { result.now ≡ slice_index_or (figures_at self.now.figures cpu) (entries_at self.now cpu) no_fig }
     {
-        let figures = self.parts.figures(cpu);
+        let figures = self.engine.figures(cpu);
         &figures[figures.len() - 1]
     }
 
@@ -48,14 +48,14 @@ impl State {
     pub fn version(&self) -> u64
         ensures { result ≡ length self.now.versions }
     {
-        self.parts.version()
+        self.engine.version()
     }
 
     /// The domains of each CPU within the masks of the last published version (docs/rules/domains.md).
     pub fn topology(&self) -> &Topology
         ensures { result.now ≡ domains_within self.now.header.cpus self.now.header.distances (masks_at self.now (length self.now.versions)) }
     {
-        self.parts.topology_of(self.parts.version())
+        self.engine.topology_of(self.engine.version())
     }
 
     /// The domains of each CPU within the masks of a version that was published.
@@ -64,7 +64,7 @@ impl State {
         requires published { version ≤ length self.now.versions }
         ensures { result.now ≡ domains_within self.now.header.cpus self.now.header.distances (masks_at self.now version) }
     {
-        self.parts.topology_of(version)
+        self.engine.topology_of(version)
     }
 
     /// Where a task is: on which queue, or in the hand of which lane.
@@ -72,7 +72,7 @@ impl State {
         requires { task < length self.now.places }
         ensures { result ≡ place_at self.now task }
     {
-        self.parts.place(task)
+        self.engine.place(task)
     }
 
     /// The course of a lane: what it may draw next.
@@ -80,7 +80,7 @@ impl State {
         requires { lane < length self.now.courses }
         ensures { result.now ≡ course_at self.now.courses lane }
     {
-        self.parts.course(lane)
+        self.engine.course(lane)
     }
 
     /// The ticket of a lane's last entry; 0 where it has none.
@@ -88,13 +88,13 @@ impl State {
         requires { lane < length self.now.courses }
         ensures { result ≡ slice_index_or self.now.last lane 0 }
     {
-        self.parts.last(lane)
+        self.engine.last(lane)
     }
 
     /// Whether the end was drawn: no entry may be added then.
     pub fn has_ended(&self) -> bool
         ensures { result ≡ self.now.ended }
     {
-        self.parts.has_ended()
+        self.engine.has_ended()
     }
 }

@@ -1,3 +1,4 @@
+//! The shapes of the domains of a turn, with which a queue opens it.
 ghost use Rattle.std.specs.Prelude.{◌≡◌, ◌<◌, ◌≤◌, length};
 ghost use Rattle.lb_levels.specs.declared.limits.TheConstants.{MAX_LEVELS};
 ghost use Rattle.lb_domain.specs.Domains.{domains_at};

@@ -4,5 +4,7 @@ use Rattle.lb_board.proofs.board.new_reader.Goals as goal
 
 pub new_holder-requires : goal.new_holder-requires
 new_holder-requires c =
-    same_get c.loop-i.writers c.args.cells.now (λ w. w.cell) (λ t. t.table.shared.table_id) c.loop-i.i c.index-writers-i.result c.index-cells-i.result (ap (map (λ w. w.cell)) c.loop-i.invariant.0 ∙ c.requires) (search rules)
+    same_get c.loop-i.writers c.args.cells.now (λ w. w.cell)
+    (λ t. t.table.shared.table_id) c.loop-i.i c.index-writers-i.result c.index-cells-i.result
+    (ap (map (λ w. w.cell)) c.loop-i.invariant.0 ∙ c.requires) (search rules)
     c.index-cells-i.is

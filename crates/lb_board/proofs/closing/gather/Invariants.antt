@@ -3,4 +3,5 @@ use Rattle.lb_board.specs.Board.{Sight, Witnesses}
 use Rattle.lb_board.proofs.closing.gather.Given as goal
 
 abbrev pub invariant-loop-j : goal.invariant-loop-j
-invariant-loop-j g l = (l.writers.items ≡ l.initial.writers.items) × (l.readers.items ≡ l.initial.readers.items) × ((k : ℕ) (d : Sight) → k < l.j → Witnesses (length l.fn.board) l.initial.writers.items (get_or l.initial.readers.items k d))
+invariant-loop-j g l = (l.writers.items ≡ l.initial.writers.items) × (l.readers.items ≡ l.initial.readers.items)
+    × ((k : ℕ) (d : Sight) → k < l.j → Witnesses (length l.fn.board) l.initial.writers.items (get_or l.initial.readers.items k d))

@@ -8,7 +8,7 @@ use Rattle.lb_due.proofs.ends.unserved.Goals as goal
 pub returns : goal.returns
 unfolding unserved
 returns c =
-    let m = c.args.parts.now.machine in
+    let m = c.args.engine.now.machine in
     let end : c.loop-cpu.cpu ≡ length m.queues = omega arith in
     same_where c.loop-cpu.mask (length m.queues) (λ k. is_some (queue_at m.queues k).active)
     (let q = c.requires.sizes.queues in let most = c.requires.accepted.most_cpus in omega arith)

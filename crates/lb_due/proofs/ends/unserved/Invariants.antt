@@ -4,4 +4,4 @@ use Rattle.lb_core.specs.Machine.{queue_at}
 use Rattle.lb_due.proofs.ends.unserved.Given as goal
 
 abbrev pub invariant-loop-cpu : goal.invariant-loop-cpu
-invariant-loop-cpu l = (k : ℕ) → has l.mask k ≡ (ltb k l.cpu && is_some (queue_at l.parts.machine.queues k).active)
+invariant-loop-cpu l = (k : ℕ) → has l.mask k ≡ (ltb k l.cpu && is_some (queue_at l.engine.machine.queues k).active)

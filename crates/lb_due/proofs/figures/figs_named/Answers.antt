@@ -13,7 +13,7 @@ loop-cpu-preserved c =
     record {
       room = length-set c.loop-cpu.figs c.loop-cpu.cpu c.fig_of.result ∙ c.loop-cpu.invariant.room;
       so_far = filled_more (λ (cpu : ℕ). fig_or_none
-          (find (λ f. f.cpu == cpu) (figures_named c.args.parts.now.machine.figures c.args.names.now)))
+          (find (λ f. f.cpu == cpu) (figures_named c.args.engine.now.machine.figures c.args.names.now)))
           c.loop-cpu.figs c.loop-cpu.cpu c.fig_of.result inside c.fig_of.ensures c.loop-cpu.invariant.so_far;
     }
 
@@ -25,4 +25,4 @@ returns c =
     let end : c.loop-cpu.cpu ≡ 64 = omega arith in
     sym (take-length c.loop-cpu.figs) ∙ ap (λ (n : ℕ). take n c.loop-cpu.figs) all ∙ c.loop-cpu.invariant.so_far
     ∙ ap (λ (n : ℕ). map (λ (cpu : ℕ). fig_or_none
-    (find (λ f. f.cpu == cpu) (figures_named c.args.parts.now.machine.figures c.args.names.now))) (range_with_len 0 n)) end
+    (find (λ f. f.cpu == cpu) (figures_named c.args.engine.now.machine.figures c.args.names.now))) (range_with_len 0 n)) end

@@ -9,5 +9,5 @@ abbrev pub invariant-loop-cpu : goal.invariant-loop-cpu
 invariant-loop-cpu l = record {
   room : length l.figs ≡ MAX_CPUS;
   so_far : take l.cpu l.figs ≡ map (λ (cpu : ℕ). fig_or_none
-      (find (λ f. f.cpu == cpu) (figures_named l.parts.machine.figures l.names))) (range_with_len 0 l.cpu);
+      (find (λ f. f.cpu == cpu) (figures_named l.engine.machine.figures l.names))) (range_with_len 0 l.cpu);
 }

@@ -11,13 +11,13 @@ use Rattle.lb_due.proofs.figures.newest.Goals as goal
 pub loop-next-init : goal.loop-next-init
 loop-next-init c = record {
   at = stands c.args.mask 0 c.first-next.result c.first-next.ensures.cpus;
-  so_far = c.new-names.ensures ∙ ap (newest c.args.parts.now.machine)
+  so_far = c.new-names.ensures ∙ ap (newest c.args.engine.now.machine)
       (sym (walk_starts c.args.mask c.first-next.result c.first-next.ensures.cpus));
 }
 
 pub loop-next-preserved : goal.loop-next-preserved
 loop-next-preserved c =
-    let m = c.args.parts.now.machine in
+    let m = c.args.engine.now.machine in
     let cpu = c.in-Some.cpu in
     let here : IsAt c.args.mask cpu = rw c.in-Some.is at c.loop-next.invariant.at in
     let so_far : c.loop-next.names ≡ newest m (members_below c.args.mask cpu) = rw c.in-Some.is at c.loop-next.invariant.so_far in
@@ -34,6 +34,6 @@ loop-next-preserved c =
 
 pub returns : goal.returns
 returns c =
-    let so_far : c.loop-next.names ≡ newest c.args.parts.now.machine (members_below c.args.mask 64) =
+    let so_far : c.loop-next.names ≡ newest c.args.engine.now.machine (members_below c.args.mask 64) =
     rw c.in_default.is at c.loop-next.invariant.so_far in
-    so_far ∙ ap (newest c.args.parts.now.machine) (sym (members_all c.args.mask))
+    so_far ∙ ap (newest c.args.engine.now.machine) (sym (members_all c.args.mask))

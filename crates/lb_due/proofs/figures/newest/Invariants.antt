@@ -8,7 +8,7 @@ use Rattle.lb_due.proofs.figures.newest.Given as goal
 abbrev pub invariant-loop-next : goal.invariant-loop-next
 invariant-loop-next l = record {
   at : Stands l.mask l.next;
-  so_far : l.names ≡ newest l.parts.machine (members_below l.mask (passed l.next));
+  so_far : l.names ≡ newest l.engine.machine (members_below l.mask (passed l.next));
 }
 
 abbrev pub decreases-loop-next : goal.decreases-loop-next

@@ -5,4 +5,4 @@ use Rattle.lb_core.specs.Elsewhere.{is_rest}
 use Rattle.lb_due.proofs.readers.all_rest.Given as goal
 
 abbrev pub invariant-loop-lane : goal.invariant-loop-lane
-invariant-loop-lane l = list_all (λ (c : Course). is_rest c.form) (take l.lane l.parts.machine.courses) ≡ true
+invariant-loop-lane l = list_all (λ (c : Course). is_rest c.form) (take l.lane l.engine.machine.courses) ≡ true

@@ -7,10 +7,10 @@ use Rattle.lb_due.proofs.readers.first_pending.Goals as goal
 
 pub returns-then-has_pending : goal.returns-then-has_pending
 unfolding first_pending
-returns-then-has_pending c = found (λ cpu. has_pending (queue_at c.args.parts.now.machine.queues cpu))
-    (length c.args.parts.now.machine.queues) c.loop-cpu.cpu (omega arith) c.loop-cpu.invariant (search rules)
+returns-then-has_pending c = found (λ cpu. has_pending (queue_at c.args.engine.now.machine.queues cpu))
+    (length c.args.engine.now.machine.queues) c.loop-cpu.cpu (omega arith) c.loop-cpu.invariant (search rules)
 
 pub returns : goal.returns
 unfolding first_pending
-returns c = not_found (λ cpu. has_pending (queue_at c.args.parts.now.machine.queues cpu))
-    (length c.args.parts.now.machine.queues) (λ k lt. c.loop-cpu.invariant k (omega (arith, lt)))
+returns c = not_found (λ cpu. has_pending (queue_at c.args.engine.now.machine.queues cpu))
+    (length c.args.engine.now.machine.queues) (λ k lt. c.loop-cpu.invariant k (omega (arith, lt)))

@@ -4,4 +4,4 @@ use Rattle.lb_core.specs.Machine.{queue_at}
 use Rattle.lb_due.proofs.readers.first_pending.Given as goal
 
 abbrev pub invariant-loop-cpu : goal.invariant-loop-cpu
-invariant-loop-cpu l = (k : ℕ) → k < l.cpu → has_pending (queue_at l.parts.machine.queues k) ≡ false
+invariant-loop-cpu l = (k : ℕ) → k < l.cpu → has_pending (queue_at l.engine.machine.queues k) ≡ false

@@ -9,7 +9,7 @@ use Rattle.lb_judge.proofs.stage.waits_for_push.Goals as goal
 
 pub queue-requires : goal.queue-requires
 queue-requires c =
-    let m = c.args.parts.now.machine in
+    let m = c.args.engine.now.machine in
     let e = c.args.entry.now in
     let k = c.args.course.now in
     let says : Speaks m.header m.ticket k =

@@ -13,4 +13,9 @@ returns-in-None-clause-ok c =
 pub returns-in-Some-clause-ok : goal.returns-in-Some-clause-ok
 returns-in-Some-clause-ok c =
     let some : is_none (least c.args.mask) ≡ false = rw (← c.first.ensures.value, c.in-Some.is) refl in
-    rw (c.in_ok-extend_from_slice.ensures.items, list_some c.args.mask some, append_assoc c.args.to.now.items (44 ∷ []) (runs_text c.args.mask)) at c.put_list.ensures.ok
+    rw (
+      c.in_ok-extend_from_slice.ensures.items,
+      list_some c.args.mask some,
+      append_assoc c.args.to.now.items
+          (44 ∷ []) (runs_text c.args.mask),
+    ) at c.put_list.ensures.ok

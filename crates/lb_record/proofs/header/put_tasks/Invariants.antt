@@ -4,4 +4,9 @@ use Rattle.lb_record.specs.Header.{task_line}
 use Rattle.lb_record.proofs.header.put_tasks.Given as goal
 
 abbrev pub invariant-loop-id : goal.invariant-loop-id
-invariant-loop-id l = record { written : l.to.items ++ lines_text (numbered task_line l.id (drop l.id l.tasks)) ≡ l.fn.to.items ++ lines_text (numbered task_line 0 l.tasks); stands : StillStands l.fn.to.items l.to.items }
+invariant-loop-id l = record {
+  written : l.to.items ++ lines_text
+      (numbered task_line l.id (drop l.id l.tasks)) ≡ l.fn.to.items ++ lines_text
+      (numbered task_line 0 l.tasks);
+  stands : StillStands l.fn.to.items l.to.items;
+}

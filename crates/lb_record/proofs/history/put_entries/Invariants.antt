@@ -6,5 +6,6 @@ use Rattle.lb_record.proofs.history.put_entries.Given as goal
 
 abbrev pub invariant-loop-i : goal.invariant-loop-i
 invariant-loop-i l =
-    (l.to.items ++ lines_text (numbered entry_line (l.i + 1) (drop l.i l.entries)) ≡ l.fn.to.items ++ lines_text (numbered entry_line 1 l.entries))
+    (l.to.items ++ lines_text (numbered entry_line (l.i + 1) (drop l.i l.entries)) ≡ l.fn.to.items ++ lines_text
+    (numbered entry_line 1 l.entries))
     × (fit_from (l.i + 1) (drop l.i l.entries) ≡ true)

@@ -9,18 +9,18 @@ serve_rows-requires-clause-rest c = starts c.serial_runs.ensures.traces c.histor
     c.in_ok-run.run' c.in_ok-run.ensures
 
 pub draw-requires-clause-lane : goal.draw-requires-clause-lane
-draw-requires-clause-lane c = (closes_on c.args.trace.now c.loop-alloc.run c.loop-alloc.invariant
-    (sym c.has_ended.ensures ∙ c.loop-alloc-test.true)).there
+draw-requires-clause-lane c = (closes_on c.args.trace.now c.loop-run.run c.loop-run.invariant
+    (sym c.has_ended.ensures ∙ c.loop-run-test.true)).there
 
-pub loop-alloc-smaller : goal.loop-alloc-smaller
-loop-alloc-smaller c =
-    let w = closes_on c.args.trace.now c.loop-alloc.run c.loop-alloc.invariant (sym c.has_ended.ensures ∙ c.loop-alloc-test.true) in
+pub loop-run-smaller : goal.loop-run-smaller
+loop-run-smaller c =
+    let w = closes_on c.args.trace.now c.loop-run.run c.loop-run.invariant (sym c.has_ended.ensures ∙ c.loop-run-test.true) in
     (after_draw _ _ _ _ _ c.draw.new.self w c.in_ok-draw.ensures).1
 
-pub loop-alloc-preserved : goal.loop-alloc-preserved
-loop-alloc-preserved c =
-    let w = closes_on c.args.trace.now c.loop-alloc.run c.loop-alloc.invariant (sym c.has_ended.ensures ∙ c.loop-alloc-test.true) in
+pub loop-run-preserved : goal.loop-run-preserved
+loop-run-preserved c =
+    let w = closes_on c.args.trace.now c.loop-run.run c.loop-run.invariant (sym c.has_ended.ensures ∙ c.loop-run-test.true) in
     (after_draw _ _ _ _ _ c.draw.new.self w c.in_ok-draw.ensures).0
 
 pub returns : goal.returns
-returns c = all_drawn c.args.trace.now [] c.loop-alloc.run c.loop-alloc.invariant.front (sym c.has_ended.ensures ∙ c.loop-alloc-test.false)
+returns c = all_drawn c.args.trace.now [] c.loop-run.run c.loop-run.invariant.front (sym c.has_ended.ensures ∙ c.loop-run-test.false)

@@ -12,20 +12,25 @@ after g c = sight_of (set c.self.inside.passes.items c.writer.inside.cpu c.look_
 -- its CPU has a pass here
 bound : (g : Over) (c : goal.After-self-1 g) → c.writer.inside.cpu < length c.self.inside.passes.items
 bound g c =
-    within c.self.inside.passes.items cell_of c.args.board.now c.writer.inside.cpu (ap (λ s. s.cells) c.self.view_is ∙ c.requires.board.0)
-    (slice_get_within c.args.board.now c.writer.inside.cpu c.args.writer.now.cell (ap (λ w. slice_get c.args.board.now w.cpu) c.writer.view_is ∙ c.requires.board.1))
+    within c.self.inside.passes.items cell_of c.args.board.now c.writer.inside.cpu
+    (ap (λ s. s.cells) c.self.view_is ∙ c.requires.board.0)
+    (slice_get_within c.args.board.now c.writer.inside.cpu c.args.writer.now.cell
+    (ap (λ w. slice_get c.args.board.now w.cpu) c.writer.view_is ∙ c.requires.board.1))
 
 pub returns-clause-others : goal.returns-clause-others
 returns-clause-others g c =
     subst (λ n. after g c ≡ see c.args.self.now n (seen_at (after g c) n)) (ap (λ w. w.cpu) c.writer.view_is)
-    (saw c.args.self.now c.self.inside.passes.items c.writer.inside.cpu c.index_mut-pass.result.now c.look_told.new.pass (sym c.self.view_is) (bound g c) c.index_mut-pass.ensures.value c.look_told.ensures.pass.0)
+    (saw c.args.self.now c.self.inside.passes.items c.writer.inside.cpu c.index_mut-pass.result.now
+    c.look_told.new.pass (sym c.self.view_is) (bound g c) c.index_mut-pass.ensures.value c.look_told.ensures.pass.0)
 
 pub returns-clause-later : goal.returns-clause-later
 returns-clause-later g c =
     subst (λ n. IsPrefix (seen_at c.args.self.now n) (seen_at (after g c) n)) (ap (λ w. w.cpu) c.writer.view_is)
-    (saw_later c.args.self.now c.self.inside.passes.items c.writer.inside.cpu c.index_mut-pass.result.now c.look_told.new.pass (sym c.self.view_is) (bound g c) c.index_mut-pass.ensures.value c.look_told.ensures.look.1)
+    (saw_later c.args.self.now c.self.inside.passes.items c.writer.inside.cpu c.index_mut-pass.result.now
+    c.look_told.new.pass (sym c.self.view_is) (bound g c) c.index_mut-pass.ensures.value c.look_told.ensures.look.1)
 
 pub returns-clause-told : goal.returns-clause-told
 returns-clause-told g c =
     subst (λ w. IsPrefix w.figures (seen_at (after g c) w.cpu)) c.writer.view_is
-    (saw_told c.args.self.now c.self.inside.passes.items c.writer.inside.cpu c.index_mut-pass.result.now c.look_told.new.pass (sym c.self.view_is) (bound g c) c.index_mut-pass.ensures.value _ c.look_told.ensures.look.2)
+    (saw_told c.args.self.now c.self.inside.passes.items c.writer.inside.cpu c.index_mut-pass.result.now
+    c.look_told.new.pass (sym c.self.view_is) (bound g c) c.index_mut-pass.ensures.value _ c.look_told.ensures.look.2)

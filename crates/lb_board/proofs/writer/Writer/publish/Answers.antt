@@ -10,9 +10,14 @@ swap_as-requires g c = (
   (
     search rules,
     (
-      ap (λ w. w.cell) c.self.view_is ∙ image_at c.board.inside.cells.items (λ t. t.table.shared.table_id) c.self.inside.cpu c.index-cell.result.now c.args.self.now.cell
-          (ap (λ l. slice_get l c.self.inside.cpu) c.board.view_is ∙ (ap (λ w. slice_get c.args.board.now w.cpu) c.self.view_is ∙ c.requires.board)) c.index-cell.ensures,
-      adds Posts (λ p. p.fig) _ _ (record { fig = c.args.fig }) c.self.invariant.0 (ends_more (seen_by c.self.inside.pass) c.args.fig (c.requires.next.0 ∙ sym (ap (λ w. length w.figures) c.self.view_is))),
+      ap (λ w. w.cell) c.self.view_is
+          ∙ image_at c.board.inside.cells.items
+          (λ t. t.table.shared.table_id) c.self.inside.cpu c.index-cell.result.now c.args.self.now.cell
+          (ap (λ l. slice_get l c.self.inside.cpu) c.board.view_is
+          ∙ (ap (λ w. slice_get c.args.board.now w.cpu) c.self.view_is ∙ c.requires.board)) c.index-cell.ensures,
+      adds Posts (λ p. p.fig) _ _ (record { fig = c.args.fig }) c.self.invariant.0
+          (ends_more (seen_by c.self.inside.pass) c.args.fig
+          (c.requires.next.0 ∙ sym (ap (λ w. length w.figures) c.self.view_is))),
     ),
   ),
 )

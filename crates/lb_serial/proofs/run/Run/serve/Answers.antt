@@ -15,20 +15,20 @@ draw-requires-clause-accepted c =
     subst (λ (h : Header). is_row h row ≡ true) (sym c.requires.rest.front.header)
     (accepts c.args.trace.now c.args.place row c.requires.trace c.get-row.ensures c.requires.place)
 
-pub loop-alloc-init : goal.loop-alloc-init
-loop-alloc-init c =
+pub loop-self-init : goal.loop-self-init
+loop-self-init c =
     let w = takes_up_at c.args.trace.now c.args.place c.get-row.result.now c.args.self.now c.get-row.ensures
     c.requires.place c.requires.rest in
     (after_draw _ _ _ _ _ c.draw.new.self w c.in_ok-draw.ensures).0
 
-pub loop-alloc-smaller : goal.loop-alloc-smaller
-loop-alloc-smaller c =
-    let w = serves_on c.args.trace.now c.get-row.result.now.lane _ c.loop-alloc.self c.loop-alloc.invariant
-    (sym c.is_at_rest.ensures ∙ c.loop-alloc-test.true) in
-    (after_draw _ _ _ _ _ c.draw-in-loop-alloc.new.self w c.in_ok-draw-2.ensures).1
+pub loop-self-smaller : goal.loop-self-smaller
+loop-self-smaller c =
+    let w = serves_on c.args.trace.now c.get-row.result.now.lane _ c.loop-self.self c.loop-self.invariant
+    (sym c.is_at_rest.ensures ∙ c.loop-self-test.true) in
+    (after_draw _ _ _ _ _ c.draw-in-loop-self.new.self w c.in_ok-draw-2.ensures).1
 
-pub loop-alloc-preserved : goal.loop-alloc-preserved
-loop-alloc-preserved c =
-    let w = serves_on c.args.trace.now c.get-row.result.now.lane _ c.loop-alloc.self c.loop-alloc.invariant
-    (sym c.is_at_rest.ensures ∙ c.loop-alloc-test.true) in
-    (after_draw _ _ _ _ _ c.draw-in-loop-alloc.new.self w c.in_ok-draw-2.ensures).0
+pub loop-self-preserved : goal.loop-self-preserved
+loop-self-preserved c =
+    let w = serves_on c.args.trace.now c.get-row.result.now.lane _ c.loop-self.self c.loop-self.invariant
+    (sym c.is_at_rest.ensures ∙ c.loop-self-test.true) in
+    (after_draw _ _ _ _ _ c.draw-in-loop-self.new.self w c.in_ok-draw-2.ensures).0

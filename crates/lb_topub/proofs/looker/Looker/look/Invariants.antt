@@ -4,4 +4,5 @@ use Rattle.lb_topub.proofs.looker.Looker.look.Given as goal
 
 abbrev pub invariant-loop : goal.invariant-loop
 invariant-loop g l =
-    (goal.iterator-loop g).can_next l.iterator' × (goal.iterator-loop g).is_finite l.iterator' × Knows l.known-inside.seen.book (view l.side.place)
+    (goal.iterator-loop g).can_next l.iterator' × (goal.iterator-loop g).is_finite l.iterator'
+    × Knows l.known-inside.seen.book (view l.side.place)

@@ -1,8 +1,0 @@
-use Rattle.std.proofs.Common.{sym, ◌∙◌}
-use Rattle.lb_parts.proofs.Leaving.{left_asleep}
-use Rattle.lb_parts.proofs.parts.hands.leave_asleep.Goals as goal
-
-pub returns-in-Some-clause-left : goal.returns-in-Some-clause-left
-returns-in-Some-clause-left c =
-    left_asleep _ c.in-Some.field-0 _ _ _ _ _ _
-    (sym c.away.ensures ∙ c.in-Some.is) c.requires.empty c.leave.ensures.step c.leave.ensures.hand

@@ -1,8 +1,0 @@
-use Rattle.std.proofs.Common.{◌≡◌, ◌≤◌, None, length, replicate, vec_capacity}
-use Rattle.lb_parts.proofs.parts.opening.no_hands.Given as goal
-
-abbrev pub invariant-loop-lane : goal.invariant-loop-lane
-invariant-loop-lane l = record {
-  so_far : l.hands.items ≡ replicate l._lane None;
-  room : l.lanes ≤ vec_capacity l.hands;
-}

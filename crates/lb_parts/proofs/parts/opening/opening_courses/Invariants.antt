@@ -1,6 +1,0 @@
-use Rattle.std.proofs.Common.{◌≡◌, length, replicate}
-use Rattle.lb_core.specs.Course.{opening_course}
-use Rattle.lb_parts.proofs.parts.opening.opening_courses.Given as goal
-
-abbrev pub invariant-loop-lane : goal.invariant-loop-lane
-invariant-loop-lane l = l.courses.items ≡ replicate l._lane (opening_course (length l.header.cpus))

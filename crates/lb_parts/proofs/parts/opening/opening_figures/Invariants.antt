@@ -1,6 +1,0 @@
-use Rattle.std.proofs.Common.{◌≡◌, map, take, [], ◌∷◌}
-use Rattle.lb_queue.specs.Figures.{figure}
-use Rattle.lb_parts.proofs.parts.opening.opening_figures.Given as goal
-
-abbrev pub invariant-loop-queue : goal.invariant-loop-queue
-invariant-loop-queue l = map (λ b. b.items) l.figures.items ≡ map (λ q. figure q.state 0 0 ∷ []) (take l.queue-index l.queues)
