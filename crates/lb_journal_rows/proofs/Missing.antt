@@ -29,10 +29,10 @@ use Rattle.lb_core.specs.Step.{first_broken, after}
 use Rattle.lb_core.specs.Legal.{first_fault}
 use Rattle.lb_rows.specs.Lines.{cpus, by_lane, fault_at}
 use Rattle.lb_journal.specs.Journal.{Journal, Fits, sight_in}
-use Rattle.lb_journal.specs.Merge.{Each, is_closing, CarriesRead, LeavesAtRest, MayMerge, pending_before, unserved_before}
+use Rattle.lb_journal.specs.Merge.{Each, is_closing, LeavesAtRest, MayMerge, pending_before, unserved_before}
 use Rattle.lb_journal_rows.specs.Lists.{by_owner, merged}
-use Rattle.lb_journal_rows.specs.Missing.{MeetsOthers, CarriesFigures, lone_header, stray_row, stray_pub, lone_end, stray_lists, early_look_history, early_closing_history}
-use Rattle.lb_journal_rows.proofs.Premises.{third, each_by, others_pass, rest_pass, figures_pass, headers_are}
+use Rattle.lb_journal_rows.specs.Missing.{MeetsOthers, CarriesFigures, lone_header, stray_row, stray_pub, lone_end, stray_lists, with_figures, early_look_history, early_look_lists, early_closing_history}
+use Rattle.lb_journal_rows.proofs.Premises.{third, each_by, others_pass, rest_pass, figures_pass, headers_are, headers_stay}
 
 -- ---- a lane that is not declared
 pub undeclared : (ds : List (ℕ × Journal)) (j : Journal) → j.header ≡ lone_header 1 → j.entry.lane ≡ 1 → Fits ds j → ⊥
@@ -137,9 +137,7 @@ no_item = (
 )
 
 -- ---- a figure that its queue has not published: lane 0's third item, the look, names it
-pub unpublished : Each (λ d. CarriesRead early_look_history.header
-    (by_owner early_look_history) d.0 d.1 d.1.entry.what) (by_owner early_look_history) →
-    ⊥
+pub unpublished : CarriesFigures early_look_history.header early_look_lists → ⊥
 unpublished all =
     let lt : 2 < 4 = omega arith in
     let e : true ≡ false = (all 1 2 no_item lt).earlier in
@@ -168,8 +166,7 @@ not_at_rest rests =
     let z : ⊥ = cc in z
 
 -- ---- what they meet
-pub look_meets : MeetsOthers early_look_history.header (by_owner early_look_history)
-    × LeavesAtRest (by_owner early_look_history)
+pub look_meets : MeetsOthers early_look_history.header early_look_lists × LeavesAtRest early_look_lists
 unfolding
     has members_below members first_cpus only both either without least least_above is_below are_apart mask_where
     weights weight_of inverses inverse_at decayed advanced_by advanced signal_value average_after
@@ -177,8 +174,11 @@ unfolding
     has_pending has_owed next_asked rotated tick draws stage_allows leaving queue_after turn_ends course_after
     opening_queue start sight after pending_before unserved_before close_look
 look_meets = (
-  others_pass early_look_history.header (by_owner early_look_history) (headers_are early_look_history) refl refl,
-  rest_pass early_look_history.header (by_owner early_look_history) refl,
+  others_pass early_look_history.header early_look_lists
+      (headers_stay early_look_history.header with_figures (λ d. refl) (by_owner early_look_history)
+      (headers_are early_look_history))
+      refl refl,
+  rest_pass early_look_history.header early_look_lists refl,
 )
 
 pub closing_meets : MeetsOthers early_closing_history.header (by_owner early_closing_history)

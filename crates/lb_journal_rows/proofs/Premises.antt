@@ -292,6 +292,24 @@ headers_are history =
     All-map P pair _ (All-filter (λ d. number_of d.item.entry.owner == slice_index_or (range_with_len 0 (17 + length h.cpus)) k n)
     (λ (d : Drawn Journal). P (pair d)) items all)))
 
+-- what is done to items and leaves their headers
+mapped_headers : (h : Header) (f : Drawn Journal → Drawn Journal) →
+    ((d : Drawn Journal) → (f d).item.header ≡ d.item.header) → (ds : List (Drawn Journal)) →
+    All (λ (d : ℕ × Journal). d.1.header ≡ h) (map pair ds) →
+    All (λ (d : ℕ × Journal). d.1.header ≡ h) (map pair (map f ds))
+mapped_headers h f same [] a = a
+mapped_headers h f same (d ∷ ds) a =
+    let P : ℕ × Journal → Type 0 = λ d. d.1.header ≡ h in
+    All-cons P (pair (f d)) (map pair (map f ds)) (same d ∙ All-head P (pair d) (map pair ds) a)
+    (mapped_headers h f same ds (All-tail P (pair d) (map pair ds) a))
+
+pub headers_stay : (h : Header) (f : Drawn Journal → Drawn Journal) →
+    ((d : Drawn Journal) → (f d).item.header ≡ d.item.header) → (lists : List (List (Drawn Journal))) →
+    Each (λ d. d.1.header ≡ h) lists → Each (λ d. d.1.header ≡ h) (map (λ ds. map f ds) lists)
+headers_stay h f same [] a k = All-nil (λ (d : ℕ × Journal). d.1.header ≡ h)
+headers_stay h f same (ds ∷ lists) a zero = mapped_headers h f same ds (a 0)
+headers_stay h f same (ds ∷ lists) a (suc k) = headers_stay h f same lists (λ j. a (suc j)) k
+
 -- ---- a fault stays, whatever follows
 later_same : (b : Option Rule) (n : ℕ) (x y : Option Fault) (f : Fault) → (x ≡ Some f → y ≡ Some f) →
     or_later b n x ≡ Some f → or_later b n y ≡ Some f

@@ -1,10 +1,12 @@
 -- Lists that miss one thing of all that the merge asks for, and the premises of the merge that several of them meet.
-use Rattle.std.specs.Prelude.{ℕ, ◌≡◌, true, List, [], ◌∷◌, ◌++◌}
+use Rattle.std.specs.Prelude.{ℕ, ◌≡◌, true, List, [], ◌∷◌, ◌++◌, map}
 use Rattle.lb_trace.specs.declared.trace.Header.{Header}
 use Rattle.lb_trace.specs.declared.trace.Command.TheVariants.{Rebuild}
 use Rattle.lb_core.specs.declared.entry.Entry.{Entry}
 use Rattle.lb_core.specs.declared.entry.OutcomeWord.TheVariants.{Balanced as BalancedWord}
-use Rattle.lb_core.specs.declared.entry.What.TheVariants.{Row, Pub, Landed, Close, Over, End}
+use Rattle.lb_core.specs.declared.entry.What.{What}
+use Rattle.lb_core.specs.declared.entry.What.TheVariants.{Row, Look, Pub, Landed, Close, Over, End}
+use Rattle.lb_core.specs.declared.entry.CpuFig.{CpuFig}
 use Rattle.lb_core.specs.declared.history.History.{History}
 use Rattle.lb_core.specs.Course.{opening_course}
 use Rattle.lb_rows.specs.Lines.{cpus, one_cpu, by_lane, by_publisher, at_queue}
@@ -12,7 +14,8 @@ use Rattle.lb_rows.specs.Lanes.{closing_before_all_rest_history}
 use Rattle.lb_rows.specs.Faults.{unpublished_figure_history}
 use Rattle.lb_ticket.specs.declared.item.Drawn.{Drawn}
 use Rattle.lb_journal.specs.Journal.{Journal}
-use Rattle.lb_journal.specs.Merge.{Each, both_tick, is_closing, ClosesBy, CarriesRead, CarriesVersion, ClosingLast, ClosingBegins, HasEnd}
+use Rattle.lb_journal.specs.Merge.{Each, both_tick, is_closing, ClosesBy, CarriesRead, CarriesVersion, ClosingLast, ClosingBegins, HasEnd, figures_of}
+use Rattle.lb_journal_rows.specs.Lists.{by_owner}
 use Rattle.lb_journal_rows.specs.Seats.{item_on, drawn}
 
 -- the premises of the merge but two: the figures that items carry, and how the lanes are left
@@ -54,6 +57,17 @@ abbrev pub early_look_history : History
 early_look_history = record unpublished_figure_history {
   entries = unpublished_figure_history.entries ++ after_the_look;
 }
+
+-- a look carries figures with the names that it gives, as its lists have them
+abbrev pub figures_for : What → List CpuFig → List CpuFig
+figures_for (Look p x names d) figs = figures_of early_look_history.header (by_owner early_look_history) names
+figures_for w figs = figs
+
+abbrev pub with_figures : Drawn Journal → Drawn Journal
+with_figures d = record d { item = record d.item { figs = figures_for d.item.entry.what d.item.figs } }
+
+abbrev pub early_look_lists : List (List (Drawn Journal))
+early_look_lists = map (λ ds. map with_figures ds) (by_owner early_look_history)
 
 -- ---- a stop that is served at rest while lane 1 is not, its landing, and the end
 abbrev pub after_the_stop : List Entry

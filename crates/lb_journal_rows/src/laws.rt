@@ -13,7 +13,7 @@ ghost use Rattle.lb_journal.specs.Journal.{Journal, Left, Fits};
 ghost use Rattle.lb_journal.specs.Merge.{Each, CarriesVersion, LeavesAtRest, MayMerge};
 ghost use Rattle.lb_journal.specs.Owners.{KeptByOwners};
 ghost use Rattle.lb_journal_rows.specs.Lists.{by_owner, merged};
-ghost use Rattle.lb_journal_rows.specs.Missing.{MeetsOthers, CarriesFigures, lone_header, stray_row, stray_pub, lone_end, stray_lists, early_look_history, early_closing_history};
+ghost use Rattle.lb_journal_rows.specs.Missing.{MeetsOthers, CarriesFigures, lone_header, stray_row, stray_pub, lone_end, stray_lists, early_look_history, early_look_lists, early_closing_history};
 ghost use Rattle.lb_journal_rows.specs.Seats.{woken_trace, seats};
 
 use lb_rows::{faults, lanes};
@@ -48,10 +48,9 @@ pub fn undeclared_lane()
 /// What the premise `figures` is for. A look names a figure that its queue has not published. The lists meet all
 /// other premises, and the merge breaks the rule `figure`.
 pub fn unpublished_figure()
-    ensures misses { CarriesFigures early_look_history.header (by_owner early_look_history) → ⊥ }
-    ensures others { MeetsOthers early_look_history.header (by_owner early_look_history)
-        × LeavesAtRest (by_owner early_look_history) }
-    ensures breaks { first_fault early_look_history.header (merged (by_owner early_look_history)) ≡ fault_at 5 Figure }
+    ensures misses { CarriesFigures early_look_history.header early_look_lists → ⊥ }
+    ensures others { MeetsOthers early_look_history.header early_look_lists × LeavesAtRest early_look_lists }
+    ensures breaks { first_fault early_look_history.header (merged early_look_lists) ≡ fault_at 5 Figure }
 {
     faults::unpublished_figure();
 }
