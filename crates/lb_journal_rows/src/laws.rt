@@ -9,7 +9,8 @@ ghost use Rattle.lb_rows.specs.Lines.{fault_at};
 ghost use Rattle.lb_rows.specs.Balancing.{one_task_moves_history};
 ghost use Rattle.lb_rows.specs.Commands.{rebuilt_history};
 ghost use Rattle.lb_rows.specs.Lanes.{commands_round_a_hand_history};
-ghost use Rattle.lb_journal.specs.Journal.{Journal, Left, Fits};
+ghost use Rattle.lb_journal.specs.Journal.{Journal, Left, Fits, meaning_of_journal};
+ghost use Rattle.lb_ticket.specs.Tickets.{Closes};
 ghost use Rattle.lb_journal.specs.Merge.{Each, CarriesVersion, LeavesAtRest, MayMerge};
 ghost use Rattle.lb_journal.specs.Owners.{KeptByOwners};
 ghost use Rattle.lb_journal_rows.specs.Lists.{by_owner, merged};
@@ -45,10 +46,11 @@ pub fn undeclared_lane()
     ensures breaks { first_fault (lone_header 1) (merged (stray_lists 1)) ≡ fault_at 1 Stage }
 {}
 
-/// What the premise `figures` is for. A look names a figure that its queue has not published. The lists meet all
-/// other premises, and the merge breaks the rule `figure`.
+/// What the premise `figures` is for. A look names a figure that its queue has not published. The lists are those of
+/// a closed book and meet all other premises, and the merge breaks the rule `figure`.
 pub fn unpublished_figure()
     ensures misses { CarriesFigures early_look_history.header early_look_lists → ⊥ }
+    ensures closed { Closes meaning_of_journal early_look_lists }
     ensures others { MeetsOthers early_look_history.header early_look_lists × LeavesAtRest early_look_lists }
     ensures breaks { first_fault early_look_history.header (merged early_look_lists) ≡ fault_at 5 Figure }
 {
@@ -56,9 +58,11 @@ pub fn unpublished_figure()
 }
 
 /// What the premise `at_rest` is for. Lane 0 serves a stop at rest while lane 1's row is not answered: the closing
-/// does not find every lane at rest. The lists meet all other premises, and the merge breaks the rule `stage`.
+/// does not find every lane at rest. The lists are those of a closed book and meet all other premises, and the merge
+/// breaks the rule `stage`.
 pub fn closing_before_all_rest()
     ensures misses { LeavesAtRest (by_owner early_closing_history) → ⊥ }
+    ensures closed { Closes meaning_of_journal (by_owner early_closing_history) }
     ensures others { MeetsOthers early_closing_history.header (by_owner early_closing_history)
         × CarriesFigures early_closing_history.header (by_owner early_closing_history) }
     ensures breaks { first_fault early_closing_history.header (merged (by_owner early_closing_history)) ≡ fault_at 6 Stage }

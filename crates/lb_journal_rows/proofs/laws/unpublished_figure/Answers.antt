@@ -7,10 +7,14 @@ use Rattle.lb_journal_rows.specs.Lists.{merged}
 use Rattle.lb_journal_rows.specs.Missing.{early_look_history, early_look_lists, after_the_look}
 use Rattle.lb_journal_rows.proofs.Missing.{unpublished, look_meets}
 use Rattle.lb_journal_rows.proofs.Premises.{fault_stays}
+use Rattle.lb_journal_rows.proofs.ClosedLook.{closed}
 use Rattle.lb_journal_rows.proofs.laws.unpublished_figure.Goals as goal
 
 pub returns-clause-misses : goal.returns-clause-misses
 returns-clause-misses c = unpublished
+
+pub returns-clause-closed : goal.returns-clause-closed
+returns-clause-closed c = closed
 
 pub returns-clause-others : goal.returns-clause-others
 returns-clause-others c = look_meets
