@@ -1,3 +1,4 @@
+//! The item of a ticket book: an entry with what its owner knows of it.
 ghost use Rattle.std.specs.Prelude.{◌≡◌, ◌<◌, ◌^◌};
 ghost use Rattle.lb_journal.specs.Journal.{number_of};
 

@@ -1,3 +1,4 @@
+//! The book: how it is made, and how it is closed.
 ghost use Rattle.std.specs.Prelude.{◌≡◌, ◌≤◌, All, List, [], length, map, vec_capacity, IfOk};
 ghost use Rattle.lb_ticket.specs.Tickets.{Closes, QuotesHold};
 ghost use Rattle.lb_ticket.specs.Facts.{AllUnquoted, AllDrawn};

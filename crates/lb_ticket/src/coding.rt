@@ -1,3 +1,4 @@
+//! The codes of a type's values, by which an invariant names items of any type.
 ghost use base.Stored.{Coded};
 
 /// The code of a type's values, which the invariant of a struct cannot name otherwise. Every type has it.

@@ -1,3 +1,4 @@
+//! What a book asks of its items, and an item with its ticket.
 ghost use Rattle.std.specs.Prelude.{◌≡◌};
 ghost use Rattle.lb_ticket.specs.Tickets.{Meaning, ticket_of};
 

@@ -1,3 +1,4 @@
+//! A note: that an item was drawn, and what it leaves.
 use crate::view::Bare;
 use atomic_table::Seat as Token;
 use std::marker::Model;

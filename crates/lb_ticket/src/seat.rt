@@ -1,3 +1,4 @@
+//! A seat: it draws tickets for the items of one owner.
 ghost use Rattle.std.specs.Prelude.{◌≡◌, ◌+◌, ◌<◌, ◌≤◌, ◌^◌, [], ◌∷◌, ◌++◌, length, map, OnOk, OnErr, All};
 ghost use Rattle.lb_ticket.specs.Tickets.{pair, quoted_by, AllBelow};
 ghost use Rattle.lb_ticket.specs.Seats.{KeepsList, KeepsView};
