@@ -1,38 +1,59 @@
+//! A looker finds the version that it was told of.
+ghost use Rattle.std.specs.Prelude.{◌≡◌};
+
+use crate::looker::Looker;
 use crate::{Publisher, gather};
 use lb_base::{Items, Mask};
 use lb_domain::Topology;
-use lb_levels::{CpuRow, Machine, MachineError};
+use lb_levels::{CpuRow, Machine};
 use std::alloc::Global;
+use std::sync::Wait;
 use std::test::Fail;
 
-// One CPU.
-fn machine(alloc: Global) -> Result<Machine, MachineError> {
+// Topologies of one CPU: over no mask, and over the mask of that CPU.
+fn topologies(alloc: Global) -> Result<(Topology, Topology), Fail> {
     let rows = [CpuRow {
         core: 0,
         cache: 0,
         node: 0,
     }];
     let distances = [Items::from_slice(alloc, &[10])?];
-    Machine::read(alloc, &rows, &distances)
+    let machine = Machine::read(alloc, &rows, &distances)?;
+    let first = Topology::build(alloc, &machine, &[])?;
+    let second = Topology::build(alloc, &machine, &[Mask { bits: 1 }])?;
+    Ok((first, second))
+}
+
+// The version that a looker finds, and how many masks it is over.
+fn found<R: Wait>(rt: &R, looker: Looker) -> (Looker, u64, usize)
+    ensures { result.0.book ≡ looker.book }
+{
+    let looked = looker.look(rt);
+    let version = looked.version();
+    let masks = looked.topology().masks().len();
+    (looked.back(), version, masks)
 }
 
 #[test]
 fn a_looker_finds_what_it_was_told(rt: HostRuntime) -> Result<(), Fail> {
-    let machine = machine(rt.alloc())?;
-    let first = Topology::build(rt.alloc(), &machine, &[])?;
-    let second = Topology::build(rt.alloc(), &machine, &[Mask { bits: 1 }])?;
-    let (mut publisher, mut lookers) = Publisher::new(&rt, rt.alloc(), first, 1)?;
+    let (first, second) = topologies(rt.alloc())?;
+    let Ok((mut publisher, mut lookers)) = Publisher::new(&rt, rt.alloc(), first, 1) else {
+        panic!(rt; "no publisher")
+    };
     let Some(looker) = lookers.pop() else {
         panic!(rt; "no looker")
     };
-    let looked = looker.look(&rt);
-    assert!(rt; looked.version() == 1 && looked.topology().masks().len() == 0);
-    let mut looker = looked.back();
-    assert_eq!(rt; publisher.publish(&rt, rt.alloc(), second)?, 2);
-    looker.told(&mut publisher)?;
-    let looked = looker.look(&rt);
-    assert!(rt; looked.version() == 2 && looked.topology().masks().len() == 1);
-    lookers.push(looked.back())?;
+    let (mut looker, version, masks) = found(&rt, looker);
+    assert!(rt; version == 1 && masks == 0);
+    let Ok(version) = publisher.publish(&rt, rt.alloc(), second) else {
+        panic!(rt; "no second version")
+    };
+    assert!(rt; version == 2 && looker.told(&mut publisher).is_ok());
+    let (looker, version, masks) = found(&rt, looker);
+    assert!(rt; version == 2 && masks == 1);
+    let Ok(()) = lookers.push(looker) else {
+        panic!(rt; "no room")
+    };
     assert_eq!(rt; gather(&rt, publisher, lookers), 2);
     Ok(())
 }
