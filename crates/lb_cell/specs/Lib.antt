@@ -1,0 +1,7 @@
+pub mod Kinds
+pub mod Shares
+pub mod LastEntries
+pub mod Cells
+pub mod Draws
+pub mod Commands
+pub mod Reads
