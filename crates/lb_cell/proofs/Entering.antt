@@ -6,6 +6,7 @@ use Rattle.std.proofs.lemmas.Bool.{lt-ltb}
 use base.Stored.{Coded}
 use Rattle.atomic_table.specs.Seated.{TableId}
 use Rattle.lb_base.specs.declared.mask.Mask.{Mask}
+use Rattle.lb_base.specs.declared.mask.TheConstants.{MAX_CPUS}
 use Rattle.lb_queue.specs.Queue.{BookedQueue, QueueState}
 use Rattle.lb_queue.specs.Figures.{figure}
 use Rattle.lb_queue.specs.Tasks.{ids}
@@ -33,8 +34,9 @@ use Rattle.lb_board.specs.Board.{add_figure, see, seen_at, Sight as FiguresSeen}
 use Rattle.lb_cell.specs.declared.log.Log.{Log}
 use Rattle.lb_cell.specs.declared.known.Known.{Known}
 use Rattle.lb_cell.specs.LastEntries.{IsLast}
-use Rattle.lb_cell.specs.Cells.{CellIs, CellKeeps, LaneIs, LaneKeeps, IsPlain}
+use Rattle.lb_cell.specs.Cells.{CellIs, CellKeeps, LaneIs, LaneKeeps, IsPlain, IsInRange}
 use Rattle.lb_cell.specs.Kinds.{is_of_queue, is_out}
+use Rattle.lb_cell.proofs.Bounds.{stays_in}
 use Rattle.lb_cell.proofs.Going.{named_stays, flight_is_out}
 use Rattle.lb_cell.specs.Draws.{MayDraw, sight_at, queue_left, course_left, item_at}
 
@@ -228,13 +230,14 @@ cell_more h book board c l w queue log room ticket k of_queue work free few list
 
 pub lane_more : (h : Header) (book : TableId) (board : List TableId) (code : Coded Left) (c : CellIs) (l : LaneIs) (w : What)
     (number : ℕ) (q : QueueState) (now new : Course) (known : Known) (landing : List ℕ) → LaneKeeps h book board code l
-    → is_of_queue w ≡ true → number ≡ l.number → now ≡ course_by w (sight_at h c l) c.log.writer.cpu q
+    → is_of_queue w ≡ true → c.log.writer.cpu < MAX_CPUS → number ≡ l.number
+    → now ≡ course_by w (sight_at h c l) c.log.writer.cpu q
     → new ≡ record now { named = set now.named c.log.writer.cpu (length c.log.seat.list + 1) }
     → (is_out w ≡ true → landing ≡ ids now.hand)
     → known.reader ≡ see l.known.reader c.log.writer.cpu (seen_at known.reader c.log.writer.cpu)
     → IsLast book code (length h.cpus) l.number new known.ticket known.note
     → LaneKeeps h book board code (record { number = number; course = new; known = known; seat = l.seat; landing = landing })
-lane_more h book board code c l w number q now new known landing k of_queue is steps counted lands seen last =
+lane_more h book board code c l w number q now new known landing k of_queue small is steps counted lands seen last =
     let s : Sight = sight_at h c l in
     let named : now.named ≡ l.course.named = ap (λ (x : Course). x.named) steps ∙ named_stays w s c.log.writer.cpu q of_queue in
     let form : new.form ≡ (course_by w s c.log.writer.cpu q).form =
@@ -250,6 +253,9 @@ lane_more h book board code c l w number q now new known landing k of_queue is s
           ap (λ (x : Course). length x.named) counted
           ∙ (length-set now.named c.log.writer.cpu (length c.log.seat.list + 1) ∙ (ap length named ∙ k.named));
       headers = k.headers;
+      range =
+          let r : IsInRange now = subst IsInRange (sym steps) (stays_in w s c.log.writer.cpu q of_queue small k.range) in
+          subst IsInRange (sym counted) (record { cpu = r.cpu; position = r.position; source = r.source });
       landing = λ flies.
           lands (flight_is_out w s c.log.writer.cpu q of_queue (ap is_flight (sym form) ∙ flies)) ∙ ap ids (sym hand);
     }

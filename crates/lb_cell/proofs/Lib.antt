@@ -1,8 +1,11 @@
 mod Quoting
 mod Publishing
 mod Going
+mod Bounds
 mod Opening
 mod Entering
 mod Falling
 mod Answering
 mod Seeing
+mod Asking
+mod Closing

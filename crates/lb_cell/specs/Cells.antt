@@ -3,10 +3,12 @@
 use Rattle.std.specs.Prelude.{ℕ, ◌≡◌, ◌+◌, ◌<◌, ◌≤◌, ◌^◌, true, false, List, [], length, map, All}
 use base.Stored.{Coded}
 use Rattle.atomic_table.specs.Seated.{TableId}
+use Rattle.lb_base.specs.declared.mask.TheConstants.{MAX_CPUS}
 use Rattle.lb_queue.specs.Queue.{BookedQueue}
 use Rattle.lb_queue.specs.Tasks.{ids}
 use Rattle.lb_trace.specs.declared.trace.Header.{Header}
 use Rattle.lb_core.specs.declared.course.Course.{Course}
+use Rattle.lb_core.specs.Course.{source_of}
 use Rattle.lb_core.specs.Placed.{is_flight}
 use Rattle.lb_ticket.specs.declared.item.Drawn.{Drawn}
 use Rattle.lb_ticket.specs.Seats.{SeatIs}
@@ -62,6 +64,12 @@ pub record LaneIs : Type 0 where
   pub seat : SeatIs Journal
   pub landing : List ℕ
 
+-- the CPU of its turn, the position in work and the source of its last pull are small numbers
+pub record IsInRange (c : Course) : Type 0 where
+  pub cpu : c.cpu < MAX_CPUS
+  pub position : c.position < MAX_CPUS
+  pub source : source_of c.decision < MAX_CPUS
+
 pub record LaneKeeps (h : Header) (book : TableId) (board : List TableId) (code : Coded Left) (l : LaneIs) : Type 0 where
   pub number : l.number < h.lanes
   pub table : l.seat.table ≡ book
@@ -70,5 +78,6 @@ pub record LaneKeeps (h : Header) (book : TableId) (board : List TableId) (code 
   pub last : IsLast book code (length h.cpus) l.number l.course l.known.ticket l.known.note
   pub named : length l.course.named ≡ length h.cpus
   pub headers : All (λ d. d.item.header ≡ h) l.seat.list
+  pub range : IsInRange l.course
   -- the landing names the tasks in the hand
   pub landing : is_flight l.course.form ≡ true → l.landing ≡ ids l.course.hand

@@ -1,17 +1,19 @@
 -- One entry of a queue, drawn by a lane: what it says and leaves, when it may be drawn, and what the queue and the lane
 -- are after it.
-use Rattle.std.specs.Prelude.{ℕ, ◌≡◌, ◌+◌, true, false, [], ◌∷◌, ◌++◌, length, map}
+use Rattle.std.specs.Prelude.{ℕ, ◌≡◌, ◌+◌, true, false, [], ◌∷◌, ◌++◌, Some, length, map}
 use mathlib.Core.List.{IsPrefix}
 use Rattle.lb_queue.specs.Queue.{QueueState}
 use Rattle.lb_queue.specs.Figures.{figure}
 use Rattle.lb_trace.specs.declared.trace.Header.{Header}
 use Rattle.lb_core.specs.declared.course.Course.{Course}
+use Rattle.lb_core.specs.declared.course.Form.{Form}
 use Rattle.lb_core.specs.declared.entry.Entry.{Entry}
 use Rattle.lb_core.specs.declared.entry.Owner.TheVariants.{Queue}
 use Rattle.lb_core.specs.declared.entry.What.{What}
 use Rattle.lb_core.specs.declared.rule.Rule.{Rule}
 use Rattle.lb_core.specs.Sight.{Sight}
 use Rattle.lb_core.specs.Elsewhere.{is_rest}
+use Rattle.lb_core.specs.Stage.{queue_due}
 use Rattle.lb_core.specs.Rules.{breaks_here}
 use Rattle.lb_core.specs.QueueAfter.{queue_after}
 use Rattle.lb_core.specs.CourseAfter.{course_after}
@@ -52,6 +54,11 @@ item_at h c l what = record {
   masks = [];
   figs = [];
 }
+
+-- the course is in this form, and the queue of this CPU is the one that draws
+pub record IsDueAt (f : Form) (c : Course) (cpu : ℕ) : Type 0 where
+  pub form : c.form ≡ f
+  pub here : queue_due f c ≡ Some cpu
 
 -- the lane may draw it: it is at work, and breaks no rule
 pub record MayDraw (h : Header) (c : CellIs) (l : LaneIs) (what : What) : Type 0 where

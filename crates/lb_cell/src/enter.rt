@@ -1,5 +1,6 @@
 //! The entry of a queue that has made its step, for a lane whose course has made its own.
 ghost use Rattle.std.specs.Prelude.{◌≡◌, ◌<◌, ◌+◌, ◌^◌, true, length, map, slice_set};
+ghost use Rattle.lb_base.specs.declared.mask.TheConstants.{MAX_CPUS};
 ghost use Rattle.lb_queue.specs.Tasks.{ids};
 ghost use Rattle.lb_core.specs.QueueAfter.{queue_by};
 ghost use Rattle.lb_core.specs.CourseAfter.{course_by};
@@ -47,6 +48,7 @@ fn item_of<N: Names>(
     ensures cell { CellKeeps N.header N.book N.board before.cell }
     ensures lane { LaneKeeps N.header N.book N.board ⟦<Left as Coding>⟧.coding before.lane }
     ensures shared { (shared.now.book ≡ N.book) × (shared.now.board ≡ N.board) }
+    ensures small { before.cell.log.writer.cpu < MAX_CPUS }
     ensures item { result ≡ item_at N.header before.cell before.lane what }
     ensures fits { Fits (map pair log.now.seat.list) result }
     ensures step { queue.now.state
@@ -111,7 +113,8 @@ pub(crate) fn enter<N: Names, R: Wait>(
         (record { number = number; course = course.new; known = known.new; seat = before.lane.seat; landing = landing.now }) }
     ensures drew { Drew N.header before.cell (record { queue = queue.now; log = log.new; room = room })
         before.lane
-        (record { number = number; course = course.new; known = known.new; seat = before.lane.seat; landing = landing.now }) what }
+        (record { number = number; course = course.new; known = known.new; seat = before.lane.seat; landing = landing.now })
+        what }
 {
     let item = item_of(
         alloc, shared, before, queue, log, number, course, known, what,

@@ -9,6 +9,7 @@ mod answer;
 mod before;
 mod cell;
 mod draw;
+mod ends;
 mod enter;
 mod known;
 mod lane;
@@ -16,6 +17,7 @@ pub mod laws;
 mod log;
 mod making;
 mod names;
+mod requests;
 mod rooms;
 mod shared;
 
