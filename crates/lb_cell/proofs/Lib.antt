@@ -9,3 +9,5 @@ mod Answering
 mod Seeing
 mod Asking
 mod Closing
+mod Filling
+mod Moving

@@ -111,6 +111,9 @@ pub(crate) fn enter<N: Names, R: Wait>(
     ensures cell { CellKeeps N.header N.book N.board (record { queue = queue.now; log = log.new; room = room }) }
     ensures lane { LaneKeeps N.header N.book N.board ⟦<Left as Coding>⟧.coding
         (record { number = number; course = course.new; known = known.new; seat = before.lane.seat; landing = landing.now }) }
+    ensures counted { course.new ≡ record course.old {
+      named = slice_set course.old.named log.old.writer.cpu (length log.old.seat.list + 1);
+    } }
     ensures drew { Drew N.header before.cell (record { queue = queue.now; log = log.new; room = room })
         before.lane
         (record { number = number; course = course.new; known = known.new; seat = before.lane.seat; landing = landing.now })
