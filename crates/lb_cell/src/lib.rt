@@ -20,8 +20,10 @@ mod lists;
 mod log;
 mod making;
 mod names;
+mod pulling;
 mod requests;
 mod rooms;
+mod serving;
 mod shared;
 
 pub use cell::Cell;

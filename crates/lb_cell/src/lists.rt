@@ -1,6 +1,6 @@
 //! The lists that tell which tasks a hand holds. They are made before the tasks leave their queue, so that nothing is
 //! refused once they have left.
-ghost use Rattle.std.specs.Prelude.{◌≡◌, length, IfOk};
+ghost use Rattle.std.specs.Prelude.{◌≡◌, length, IfOk, if◌then◌else◌};
 ghost use Rattle.lb_queue.specs.Tasks.{ids};
 ghost use Rattle.lb_cell.specs.Hands.{AreFor, AreOf};
 
@@ -11,6 +11,7 @@ use lb_queue::{Hand, TaskRecord};
 use std::alloc::Global;
 
 /// The tasks of a hand, and their ids twice: for the entry by which they leave, and for that of their landing.
+#[derive(Drop)]
 pub struct HandLists {
     pub(crate) records: TaskRecords,
     pub(crate) out: Ids,
@@ -72,10 +73,14 @@ impl HandLists {
         })
     }
 
-    /// Lists for a hand without tasks, which take no memory.
-    pub(crate) fn none(alloc: Global) -> HandLists
-        ensures { AreFor 0 result }
+    /// These lists for a hand of one task, if it has one, and else such as take no memory.
+    pub(crate) fn only_if(self, alloc: Global, one: bool) -> HandLists
+        requires { AreFor 1 self }
+        ensures { AreFor (if one then 1 else 0) result }
     {
+        if one {
+            return self;
+        }
         HandLists {
             records: Items::new(alloc),
             out: Items::new(alloc),
