@@ -21,13 +21,15 @@ use Rattle.lb_core.specs.declared.entry.What.TheVariants as whats
 use Rattle.lb_core.specs.Sight.{Sight}
 use Rattle.lb_core.specs.Elsewhere.{is_rest}
 use Rattle.lb_core.specs.Placed.{is_flight}
+use Rattle.lb_core.specs.Course.{turn_kind}
+use Rattle.lb_core.specs.Stage.{waits_for_push, waits_for_stop}
 use Rattle.lb_core.specs.Rules.{breaks_here}
 use Rattle.lb_core.specs.QueueAfter.{queue_by, queue_after}
 use Rattle.lb_core.specs.CourseAfter.{course_by, course_after}
 use Rattle.lb_ticket.specs.declared.item.Drawn.{Drawn}
 use Rattle.lb_ticket.specs.Seats.{NoteIs}
 use Rattle.lb_ticket.specs.Tickets.{pair}
-use Rattle.lb_journal.specs.Journal.{Journal, Left, Fits, CarriesMasks, CarriesFigs, item_sight, sight_in, replay, queue_by_item}
+use Rattle.lb_journal.specs.Journal.{Journal, Left, Fits, Answers, AnswersUse, CarriesMasks, CarriesFigs, item_sight, sight_in, replay, queue_by_item}
 use Rattle.lb_journal.specs.Merge.{is_out_at_rest}
 use Rattle.lb_journal.specs.Owners.{published}
 use Rattle.lb_board.specs.Board.{add_figure, see, seen_at, Sight as FiguresSeen}
@@ -38,7 +40,7 @@ use Rattle.lb_cell.specs.Cells.{CellIs, CellKeeps, LaneIs, LaneKeeps, IsPlain, I
 use Rattle.lb_cell.specs.Kinds.{is_of_queue, is_out}
 use Rattle.lb_cell.proofs.Bounds.{stays_in}
 use Rattle.lb_cell.proofs.Going.{named_stays, flight_is_out}
-use Rattle.lb_cell.specs.Draws.{MayDraw, sight_at, queue_left, course_left, item_at}
+use Rattle.lb_cell.specs.Draws.{MayDraw, MayAnswerUse, AnswersUseAt, sight_at, queue_left, course_left, item_at}
 
 -- ---- what an entry of a queue carries
 carries_masks : (w : What) → is_of_queue w ≡ true → CarriesMasks w []
@@ -120,6 +122,34 @@ sight_is h book board c l w k =
     let n : length c.log.seat.list ≡ length (map pair c.log.seat.list) = sym (length-map c.log.seat.list pair) in
     (λ i. item_sight (k.replayed i) (n i) (item_at h c l w))
 
+-- what is known of a queue that answers a `use`
+answers_at : (h : Header) (book : TableId) (board : List TableId) (c : CellIs) (l : LaneIs) (w : What) → CellKeeps h book board c
+    → MayAnswerUse c l → Answers (map pair c.log.seat.list) (item_at h c l w)
+unfolding sight_in
+answers_at h book board c l w k a = record {
+  before = All-map (λ (x : ℕ × Journal). x.0 < l.known.ticket) pair c.log.seat.list a.before;
+  push = subst (λ (q : QueueState). waits_for_push (turn_kind l.course) l.course q ≡ false) k.replayed a.push;
+  stop = subst (λ (q : QueueState). waits_for_stop (turn_kind l.course) q ≡ false) k.replayed a.stop;
+}
+
+answers_use : (h : Header) (book : TableId) (board : List TableId) (c : CellIs) (l : LaneIs) (w : What) → CellKeeps h book board c
+    → AnswersUseAt w c l → AnswersUse w (map pair c.log.seat.list) (item_at h c l w)
+answers_use h book board c l (whats.Turn ps) k a = answers_at h book board c l (whats.Turn ps) k a
+answers_use h book board c l whats.Shut k a = answers_at h book board c l whats.Shut k a
+answers_use h book board c l (whats.Did r) k a = tt
+answers_use h book board c l (whats.Out cause to list) k a = tt
+answers_use h book board c l (whats.Landed list) k a = tt
+answers_use h book board c l (whats.Close p w i f) k a = tt
+answers_use h book board c l (whats.Ask r) k a = tt
+answers_use h book board c l (whats.Kick r) k a = tt
+answers_use h book board c l whats.Over k a = tt
+answers_use h book board c l (whats.Row n at command) k a = tt
+answers_use h book board c l (whats.Adopt v t p) k a = tt
+answers_use h book board c l (whats.Look p x fs d) k a = tt
+answers_use h book board c l (whats.Scan fs t) k a = tt
+answers_use h book board c l (whats.End u) k a = tt
+answers_use h book board c l (whats.Pub v) k a = tt
+
 pub fits : (h : Header) (book : TableId) (board : List TableId) (code : Coded Left) (c : CellIs) (l : LaneIs) (w : What)
     → CellKeeps h book board c → LaneKeeps h book board code l → MayDraw h c l w
     → Fits (map pair c.log.seat.list) (item_at h c l w)
@@ -135,7 +165,7 @@ fits h book board code c l w k lk may =
           absurd (never_first book code (length h.cpus) l.number l.known.ticket l.course l.known.note lk.last may.at_work z);
       masks = carries_masks w may.of_queue;
       figs = carries_figs w may.of_queue;
-      turn = may.answers;
+      turn = answers_use h book board c l w k may.answers;
     }
 
 -- the queue's step is the item's

@@ -2,7 +2,7 @@ mod Quoting
 mod Publishing
 mod Going
 mod Bounds
-mod Opening
+mod Beginning
 mod Entering
 mod Falling
 mod Answering
@@ -11,3 +11,4 @@ mod Asking
 mod Closing
 mod Filling
 mod Moving
+mod Turning

@@ -1,6 +1,6 @@
 -- One entry of a queue, drawn by a lane: what it says and leaves, when it may be drawn, and what the queue and the lane
 -- are after it.
-use Rattle.std.specs.Prelude.{ℕ, ◌≡◌, ◌+◌, true, false, [], ◌∷◌, ◌++◌, Some, length, map}
+use Rattle.std.specs.Prelude.{ℕ, ◌≡◌, ◌+◌, true, false, [], ◌∷◌, ◌++◌, Some, length, ◌<◌, All}
 use mathlib.Core.List.{IsPrefix}
 use Rattle.lb_queue.specs.Queue.{QueueState}
 use Rattle.lb_queue.specs.Figures.{figure}
@@ -10,15 +10,16 @@ use Rattle.lb_core.specs.declared.course.Form.{Form}
 use Rattle.lb_core.specs.declared.entry.Entry.{Entry}
 use Rattle.lb_core.specs.declared.entry.Owner.TheVariants.{Queue}
 use Rattle.lb_core.specs.declared.entry.What.{What}
+use Rattle.lb_core.specs.declared.entry.What.TheVariants.{Turn, Shut}
 use Rattle.lb_core.specs.declared.rule.Rule.{Rule}
 use Rattle.lb_core.specs.Sight.{Sight}
 use Rattle.lb_core.specs.Elsewhere.{is_rest}
-use Rattle.lb_core.specs.Stage.{queue_due}
+use Rattle.lb_core.specs.Course.{turn_kind}
+use Rattle.lb_core.specs.Stage.{queue_due, waits_for_push, waits_for_stop}
 use Rattle.lb_core.specs.Rules.{breaks_here}
 use Rattle.lb_core.specs.QueueAfter.{queue_after}
 use Rattle.lb_core.specs.CourseAfter.{course_after}
-use Rattle.lb_ticket.specs.Tickets.{pair}
-use Rattle.lb_journal.specs.Journal.{Journal, AnswersUse}
+use Rattle.lb_journal.specs.Journal.{Journal}
 use Rattle.lb_board.specs.Board.{add_figure, see, seen_at}
 use Rattle.lb_cell.specs.Kinds.{is_of_queue}
 use Rattle.lb_cell.specs.Cells.{CellIs, LaneIs}
@@ -60,13 +61,25 @@ pub record IsDueAt (f : Form) (c : Course) (cpu : ℕ) : Type 0 where
   pub form : c.form ≡ f
   pub here : queue_due f c ≡ Some cpu
 
+-- the queue may answer the lane's `use` as it is: it drew nothing since, and neither a push nor an owed stop has to come
+-- first
+pub record MayAnswerUse (c : CellIs) (l : LaneIs) : Type 0 where
+  pub before : All (λ d. d.ticket < l.known.ticket) c.log.seat.list
+  pub push : waits_for_push (turn_kind l.course) l.course c.queue.state ≡ false
+  pub stop : waits_for_stop (turn_kind l.course) c.queue.state ≡ false
+
+abbrev pub AnswersUseAt : What → CellIs → LaneIs → Type 0
+AnswersUseAt (Turn positions) c l = MayAnswerUse c l
+AnswersUseAt Shut c l = MayAnswerUse c l
+AnswersUseAt what c l = Unit {0}
+
 -- the lane may draw it: it is at work, and breaks no rule
 pub record MayDraw (h : Header) (c : CellIs) (l : LaneIs) (what : What) : Type 0 where
   pub of_queue : is_of_queue what ≡ true
   pub at_work : is_rest l.course.form ≡ false
   pub allowed : (rule : Rule) → breaks_here rule (sight_at h c l) (entry_at c l what) ≡ false
   -- a turn is answered at once
-  pub answers : AnswersUse what (map pair c.log.seat.list) (item_at h c l what)
+  pub answers : AnswersUseAt what c l
 
 -- it was drawn: the list has grown by it, the queue has made its step, its figure was published, and the lane holds
 -- the entry and was told of the figure

@@ -1,11 +1,13 @@
--- What a lane draws at the queue of its open turn: the close of a position.
+-- What a lane draws at the queue of its turn: the close of a position, and what answers its `use`.
 use Rattle.std.specs.Prelude.{ℕ, ◌≡◌, ◌<◌, true, false, Some, length}
+use Rattle.lb_queue.specs.declared.answers.TurnReply.{TurnReply}
+use Rattle.lb_queue.specs.declared.answers.TurnReply.TheVariants.{Opened, TurnOpen}
 use Rattle.lb_trace.specs.declared.trace.Header.{Header}
 use Rattle.lb_core.specs.declared.course.Course.{Course}
 use Rattle.lb_core.specs.declared.course.Form.{Form}
 use Rattle.lb_core.specs.declared.course.Form.TheVariants.{Looked, Landed}
 use Rattle.lb_core.specs.declared.entry.What.{What}
-use Rattle.lb_core.specs.declared.entry.What.TheVariants.{Close}
+use Rattle.lb_core.specs.declared.entry.What.TheVariants.{Close, Turn, Shut}
 use Rattle.lb_core.specs.Course.{turn_domains, outcome_of, looks_again}
 use Rattle.lb_core.specs.Stage.{is_settled, queue_due}
 use Rattle.lb_core.specs.Rules.{closed_counters, word_of}
@@ -29,3 +31,8 @@ abbrev pub closing : Header → CellIs → LaneIs → What
 closing h c l =
     Close l.course.position (word_of (outcome_of h l.course)) (closed_counters (sight_at h c l)).interval
     (closed_counters (sight_at h c l)).failures
+
+-- ---- the answer to a `use`
+abbrev pub turn_what : TurnReply → What
+turn_what (Opened positions) = Turn positions
+turn_what TurnOpen = Shut

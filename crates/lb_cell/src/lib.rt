@@ -20,6 +20,7 @@ mod lists;
 mod log;
 mod making;
 mod names;
+mod opening;
 mod pulling;
 mod requests;
 mod rooms;

@@ -4,7 +4,7 @@ use Rattle.lb_ticket.specs.Tickets.{pair}
 use Rattle.lb_journal.specs.Journal.{replay}
 use Rattle.lb_journal.specs.Owners.{published}
 use Rattle.lb_cell.specs.Cells.{IsPlain}
-use Rattle.lb_cell.proofs.Opening.{opening_published}
+use Rattle.lb_cell.proofs.Beginning.{opening_published}
 use Rattle.lb_cell.proofs.cell.Cell.new.Goals as goal
 
 pub invariant_of-result : goal.invariant_of-result
