@@ -265,9 +265,9 @@ pub lane_more : (h : Header) (book : TableId) (board : List TableId) (code : Cod
     → new ≡ record now { named = set now.named c.log.writer.cpu (length c.log.seat.list + 1) }
     → (is_out w ≡ true → landing ≡ ids now.hand)
     → known.reader ≡ see l.known.reader c.log.writer.cpu (seen_at known.reader c.log.writer.cpu)
-    → IsLast book code (length h.cpus) l.number new known.ticket known.note
+    → IsLast book code (length h.cpus) l.number new known.ticket known.note → 0 < known.ticket
     → LaneKeeps h book board code (record { number = number; course = new; known = known; seat = l.seat; landing = landing })
-lane_more h book board code c l w number q now new known landing k of_queue small is steps counted lands seen last =
+lane_more h book board code c l w number q now new known landing k of_queue small is steps counted lands seen last some =
     let s : Sight = sight_at h c l in
     let named : now.named ≡ l.course.named = ap (λ (x : Course). x.named) steps ∙ named_stays w s c.log.writer.cpu q of_queue in
     let form : new.form ≡ (course_by w s c.log.writer.cpu q).form =
@@ -279,6 +279,7 @@ lane_more h book board code c l w number q now new known landing k of_queue smal
       owner = k.owner ∙ ap (λ (n : ℕ). n + 1) (sym is);
       cells = ap (λ (x : FiguresSeen). x.cells) seen ∙ k.cells;
       last = subst (λ (n : ℕ). IsLast book code (length h.cpus) n new known.ticket known.note) (sym is) last;
+      first = λ z. absurd (omega (arith, z, some));
       named =
           ap (λ (x : Course). length x.named) counted
           ∙ (length-set now.named c.log.writer.cpu (length c.log.seat.list + 1) ∙ (ap length named ∙ k.named));

@@ -12,3 +12,4 @@ mod Closing
 mod Filling
 mod Moving
 mod Turning
+mod Owning

@@ -76,6 +76,8 @@ pub record LaneKeeps (h : Header) (book : TableId) (board : List TableId) (code 
   pub owner : l.seat.number ≡ l.number + 1
   pub cells : l.known.reader.cells ≡ board
   pub last : IsLast book code (length h.cpus) l.number l.course l.known.ticket l.known.note
+  -- a lane that drew nothing has no list
+  pub first : l.known.ticket ≡ 0 → l.seat.list ≡ []
   pub named : length l.course.named ≡ length h.cpus
   pub headers : All (λ d. d.item.header ≡ h) l.seat.list
   pub range : IsInRange l.course

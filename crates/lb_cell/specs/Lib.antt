@@ -3,6 +3,7 @@ pub mod Shares
 pub mod LastEntries
 pub mod Cells
 pub mod Draws
+pub mod Own
 pub mod Hands
 pub mod Serving
 pub mod Turns

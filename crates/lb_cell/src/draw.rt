@@ -51,6 +51,7 @@ pub(crate) fn draw_noted(
     ensures later { (seat.old.next ≤ result) × (seat.new.next ≡ result + 1) }
     ensures leaves { Leaves book.now.table ⟦<Left as Coding>⟧.coding item result known.new.note }
     ensures known { (known.new.ticket ≡ result) × (known.new.reader ≡ known.old.reader) }
+    ensures some { 0 < result }
 {
     learn_last(book, seat, known);
     let ticket = seat.draw(book, item);
@@ -83,7 +84,7 @@ pub(crate) fn draw_at<R: Wait>(
     ensures list { log.new.seat.list ≡ log.old.seat.list ++ record { ticket = result; item = item } ∷ [] }
     ensures seat { DrewOne log.old.seat log.new.seat }
     ensures leaves { Leaves book.now.table ⟦<Left as Coding>⟧.coding item result known.new.note }
-    ensures ticket { known.new.ticket ≡ result }
+    ensures ticket { (known.new.ticket ≡ result) × (0 < result) }
     ensures replay { queue.now.state ≡ replay item.header log.old.writer.cpu (map pair log.new.seat.list) }
     ensures published { log.new.writer.figures ≡ published item.header log.old.writer.cpu (map pair log.new.seat.list) }
     ensures figure { log.new.writer ≡ add_figure log.old.writer (figure queue.now.state (length log.old.seat.list + 1) result) }

@@ -21,6 +21,7 @@ mod log;
 mod making;
 mod names;
 mod opening;
+mod own;
 mod pulling;
 mod requests;
 mod rooms;

@@ -18,4 +18,4 @@ returns-clause-lane g c =
     lane_more n.header n.book n.board the_row.coded b.cell b.lane c.args.what c.args.number c.args.queue.now.state
     c.args.course.now c.item_of-item.new.course c.draw_at.new.known c.args.landing.now c.item_of-item.ensures.lane
     c.requires.may.of_queue c.item_of-item.ensures.small c.requires.lane.0 c.requires.course (search rules) c.requires.landing
-    (search rules) (search rules)
+    (search rules) (search rules) (search rules)
