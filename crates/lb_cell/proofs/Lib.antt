@@ -13,3 +13,4 @@ mod Filling
 mod Moving
 mod Turning
 mod Owning
+mod Using

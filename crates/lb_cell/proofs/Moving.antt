@@ -52,7 +52,8 @@ same_why causes.Pull = refl
 same_why causes.Push = refl
 
 -- ---- tasks that leave
-out_allowed : (h : Header) (c : CellIs) (l : LaneIs) (why : OutCause) (taken : Option Taken) (hand : HandState) (rest : QueueState)
+out_allowed : (h : Header) (c : CellIs) (l : LaneIs) (why : OutCause) (taken : Option Taken) (hand : HandState)
+    (rest : QueueState)
     → HasLeft h c l why taken hand rest
     → (rule : Rule) → breaks_here rule (sight_at h c l) (entry_at c l (Out why hand.to (ids hand.tasks))) ≡ false
 out_allowed h c l why taken hand rest left rules.Stage = ap not left.stage
@@ -72,7 +73,8 @@ out_allowed h c l why taken hand rest left rules.Counters = refl
 out_allowed h c l why taken hand rest left rules.Owed = refl
 out_allowed h c l why taken hand rest left rules.End = refl
 
-pub may_out : (h : Header) (c : CellIs) (l : LaneIs) (why : OutCause) (taken : Option Taken) (hand : HandState) (rest : QueueState)
+pub may_out : (h : Header) (c : CellIs) (l : LaneIs) (why : OutCause) (taken : Option Taken) (hand : HandState)
+    (rest : QueueState)
     → HasLeft h c l why taken hand rest → MayDraw h c l (Out why hand.to (ids hand.tasks))
 may_out h c l why taken hand rest left = record {
   of_queue = refl;
@@ -232,7 +234,9 @@ pub push_left : (h : Header) (c : CellIs) (l : LaneIs) (hand now : HandState) (r
     → HasLeft h c l causes.Push None now rest
 push_left h c l hand now rest due next push active empty left is =
     left_as h c l causes.Push None (take_push c.queue.state l.course.at hand.to) hand now rest (ap is_rest due.form)
-    (λ at list. serving_stage h c l causes.Push at list due (or_true (has_owed c.queue.state) (push_is_due l.course c.queue.state) push))
+    (λ at list.
+    serving_stage h c l causes.Push at list due
+    (or_true (has_owed c.queue.state) (push_is_due l.course c.queue.state) push))
     (serving_due h c l due.form
     ∙ ap (λ (o : Option Stop). served_out o l.course.at c.queue.state) next
     ∙ ap (λ (o : Option ℕ). push_out o l.course.at c.queue.state) active)

@@ -9,3 +9,4 @@ pub mod Serving
 pub mod Turns
 pub mod Commands
 pub mod Reads
+pub mod Began

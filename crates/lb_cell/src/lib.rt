@@ -27,10 +27,13 @@ mod requests;
 mod rooms;
 mod serving;
 mod shared;
+mod turns;
 
 pub use cell::Cell;
 pub use known::Known;
 pub use lane::Lane;
 pub use log::Log;
 pub use names::Names;
+pub use opening::blank_counters;
 pub use shared::Shared;
+pub use turns::Began;

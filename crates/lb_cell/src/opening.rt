@@ -1,5 +1,5 @@
 //! The answer of a queue to the `use` of a lane: a turn opens, or is shut.
-ghost use Rattle.std.specs.Prelude.{◌≡◌, ◌<◌, ◌≤◌, nat_lt, [], true, false, length, is_some, unwrap_or, IfOk, OnOk, OnErr};
+ghost use Rattle.std.specs.Prelude.{◌≡◌, ◌<◌, ◌≤◌, nat_lt, [], true, false, length, is_some, unwrap_or, IfOk};
 ghost use Rattle.lb_base.specs.declared.mask.TheConstants.{MAX_CPUS};
 ghost use Rattle.lb_base.specs.Sets.{least};
 ghost use Rattle.lb_queue.specs.declared.queue.TheConstants.{MAX_SHAPES};
@@ -31,8 +31,8 @@ use lb_turn::Turn;
 use std::alloc::Global;
 use std::sync::Wait;
 
-// So many counters, which stand for those that a turn is to find.
-fn blank_counters(alloc: Global, count: usize) -> Result<CounterRows, NoMemory>
+/// So many counters, which stand for those that a turn is to find.
+pub fn blank_counters(alloc: Global, count: usize) -> Result<CounterRows, NoMemory>
     ensures { IfOk result (λ rows. length rows ≡ count) }
 {
     let blank = Counters {
@@ -109,7 +109,8 @@ fn refuse(
     requires fit { FitCounters queue.old.state course.old.version shapes.now }
     requires turned { course.old.cpu < MAX_CPUS }
     ensures queue { queue.new.state ≡ shut queue.old.state course.old.at (turn_kind course.old) }
-    ensures course { (h : Header) → has_domains ≡ nat_lt 0 (length (turn_domains h course.old)) → course.new ≡ turn_ends h course.old }
+    ensures course { (h : Header) → has_domains ≡ nat_lt 0 (length (turn_domains h course.old))
+        → course.new ≡ turn_ends h course.old }
     ensures booked { queue.new.booked ≡ queue.old.booked }
 {
     let kind = turn_kind(course);
@@ -136,7 +137,8 @@ impl<N: Names> Cell<N> {
         requires shapes { shapes.now ≡ shapes_of (turn_domains N.header lane.old.course) }
         requires asks { OpeningAsks N.header self.old.queue.state lane.old.course }
         requires positions { positions
-            ≡ positions_found self.old.queue.state lane.old.course.at (turn_kind lane.old.course) lane.old.course.version shapes.now }
+            ≡ positions_found self.old.queue.state lane.old.course.at (turn_kind lane.old.course)
+            lane.old.course.version shapes.now }
         requires counters { length counters ≡ length shapes.now }
         ensures drew { Drew N.header self.old self.new lane.old lane.new (what.Turn positions) }
         ensures booked { Keeps self.old self.new }
@@ -213,7 +215,7 @@ impl<N: Names> Cell<N> {
 
     /// Answers the lane's `use`, the last entry that it drew: a turn opens, by a `turn`, and the lane has the counters
     /// that it found; or it is shut where one is open, by a `shut`. The topology is that of the version that the lane
-    /// took up. A refusal changes nothing.
+    /// took up, and `counters` has one place for each domain of the turn's CPU. It takes no memory.
     pub fn answer_use<R: Wait>(
         &mut self,
         rt: &R,
@@ -221,17 +223,18 @@ impl<N: Names> Cell<N> {
         shared: &Shared<'_, N>,
         topology: &Topology,
         lane: &mut Lane<N>,
-    ) -> Result<TurnReply, NoMemory>
+        counters: CounterRows,
+    ) -> TurnReply
         requires room { HasRoom self.old }
         requires due { IsDueAt form.Used lane.old.course self.old.log.writer.cpu }
         requires answers { MayAnswerUse self.old lane.old }
         requires topology { topology.now.all ≡ topology_of N.header.cpus N.header.distances lane.old.course.masks }
         requires asks { OpeningAsks N.header self.old.queue.state lane.old.course }
-        ensures reply { IfOk result (λ r. r ≡ opens self.old.queue.state lane.old.course.at (turn_kind lane.old.course)
-            lane.old.course.version (shapes_of (turn_domains N.header lane.old.course))) }
-        ensures drew { IfOk result (λ r. Drew N.header self.old self.new lane.old lane.new (turn_what r)) }
-        ensures booked { OnOk result (Keeps self.old self.new) }
-        ensures refused { OnErr result ((self.new ≡ self.old) × (lane.new ≡ lane.old)) }
+        requires counters { length counters ≡ length (turn_domains N.header lane.old.course) }
+        ensures reply { result ≡ opens self.old.queue.state lane.old.course.at (turn_kind lane.old.course)
+            lane.old.course.version (shapes_of (turn_domains N.header lane.old.course)) }
+        ensures drew { Drew N.header self.old self.new lane.old lane.new (turn_what result) }
+        ensures booked { Keeps self.old self.new }
     {
         // reads a field of it, so that what it keeps is known
         let _room = self.room;
@@ -239,7 +242,6 @@ impl<N: Names> Cell<N> {
         let list = turn.shapes();
         let has_domains = turn.has_domains();
         let shapes = list.as_slice();
-        let counters = blank_counters(alloc, shapes.len())?;
         let kind = turn_kind(&lane.course);
         let reply = self
             .queue
@@ -252,6 +254,6 @@ impl<N: Names> Cell<N> {
                 self.shut_turn(rt, alloc, shared, lane, shapes, has_domains);
             }
         }
-        Ok(reply)
+        reply
     }
 }

@@ -1,19 +1,23 @@
-//! The entries of a lane's own list: the rows that it takes up.
-ghost use Rattle.std.specs.Prelude.{◌≡◌, ◌<◌, ◌≤◌, ◌+◌, ◌^◌, [], length, false, OnOk, OnErr};
+//! The entries of a lane's own list: the rows and the versions that it takes up.
+ghost use Rattle.std.specs.Prelude.{◌≡◌, ◌<◌, ◌≤◌, ◌+◌, ◌^◌, ◌++◌, [], length, map, max, false, OnOk, OnErr};
+ghost use Rattle.lb_base.specs.declared.mask.TheConstants.{MAX_CPUS};
+ghost use Rattle.lb_ticket.specs.Facts.{held_of};
+ghost use Rattle.lb_ticket.specs.Seats.{KeepsList};
+ghost use Rattle.lb_ticket.specs.Tickets.{AllBelow};
 ghost use Rattle.lb_core.specs.declared.course.Form.TheVariants as form;
 ghost use Rattle.lb_core.specs.declared.entry.What.TheVariants as what;
 ghost use Rattle.lb_core.specs.Rules.{is_undeclared};
 ghost use Rattle.lb_cell.specs.Cells.{LaneKeeps};
-ghost use Rattle.lb_cell.specs.Own.{DrewOwn, MayDrawOwn, MayFollow, own_left};
+ghost use Rattle.lb_cell.specs.Own.{DrewOwn, IsTurnDue, MayDrawOwn, MayFollow, own_left};
 
 use crate::draw::draw_noted;
 use crate::known::Known;
 use crate::lane::Lane;
 use crate::names::Names;
 use crate::shared::Shared;
-use lb_base::{Items, NoMemory};
+use lb_base::{Items, Kind, NoMemory};
 use lb_core::{Course, Entry, Figs, Owner, What};
-use lb_course::asked;
+use lb_course::{asked, taken_up};
 use lb_journal::{Journal, Left};
 use lb_ticket::{Coding, Seat};
 use lb_trace::{Masks, Row};
@@ -103,7 +107,8 @@ impl<N: Names> Lane<N> {
     /// Makes room for `k` entries of the lane's own list. It refuses for want of memory alone.
     pub fn reserve(&mut self, k: u32) -> Result<(), NoMemory>
         requires { length self.old.seat.list + k < 2 ^ 40 }
-        ensures same { (self.new.number ≡ self.old.number) × (self.new.course ≡ self.old.course) × (self.new.known ≡ self.old.known) }
+        ensures same { (self.new.number ≡ self.old.number) × (self.new.course ≡ self.old.course)
+            × (self.new.known ≡ self.old.known) }
         ensures list { (self.new.seat.list ≡ self.old.seat.list) × (self.new.seat.read ≡ self.old.seat.read) }
         ensures ok { OnOk result (k ≤ self.new.seat.spare) }
     {
@@ -149,5 +154,51 @@ impl<N: Names> Lane<N> {
             Snapshot::of(&figs),
         );
         Ok(())
+    }
+
+    /// Takes up a version, with its partition masks, for a turn of a CPU that is due, by a `use`. It takes no memory.
+    #[tactic(auto, unfolding(lb_core::specs::CourseAfter::course_after))]
+    pub fn adopt(
+        &mut self,
+        alloc: Global,
+        shared: &Shared<'_, N>,
+        version: u64,
+        masks: Masks,
+        kind: Kind,
+        cpu: u32,
+    )
+        requires room { 0 < self.old.seat.spare }
+        requires due { IsTurnDue self.old.course.form self.old.course kind cpu }
+        requires version { max self.old.course.named_version 1 ≤ version }
+        requires cpu { cpu < MAX_CPUS }
+        ensures { DrewOwn N.header self.old self.new (what.Adopt version kind cpu) masks [] }
+    {
+        let before = LaneBefore::of(self);
+        let carried = Snapshot::of(&masks);
+        taken_up(&mut self.course, version, masks, kind, cpu);
+        let figs = Items::new(alloc);
+        enter_own(
+            shared,
+            before,
+            &mut self.seat,
+            self.number,
+            &self.course,
+            &mut self.known,
+            What::Adopt { version, kind, cpu },
+            carried,
+            Snapshot::of(&figs),
+        );
+    }
+
+    /// Reads the list of a queue so far: what the lane draws from now on is later than all of it.
+    pub(crate) fn read_list(&mut self, shared: &Shared<'_, N>, other: &mut Seat<Journal>)
+        requires { other.old.table ≡ N.book }
+        ensures other { other.new ≡ other.old }
+        ensures lane { self.new ≡ record self.old { seat = self.new.seat } }
+        ensures seat { KeepsList self.old.seat self.new.seat }
+        ensures read { self.new.seat.read ≡ self.old.seat.read ++ map (held_of ⟦<Journal as Coding>⟧.coding) other.old.list }
+        ensures below { AllBelow self.new.seat.next other.old.list }
+    {
+        self.seat.follow(shared.book, other);
     }
 }

@@ -56,7 +56,8 @@ impl<N: Names> Cell<N> {
     )
         requires room { HasRoom self.old }
         requires due { IsDueAt form.Serving lane.old.course self.old.log.writer.cpu }
-        requires stop { (next_stop self.old.queue.state true ≡ Some stop) × (stop_to self.old.queue.state stop.id ≡ Some hand.old.to) }
+        requires stop { (next_stop self.old.queue.state true ≡ Some stop)
+            × (stop_to self.old.queue.state stop.id ≡ Some hand.old.to) }
         requires to { stop.to ≡ hand.old.to }
         requires hand { (hand.old.tasks ≡ []) × (0 < hand.old.room) }
         requires lists { AreFor 1 lists }
@@ -100,7 +101,8 @@ impl<N: Names> Cell<N> {
         requires room { HasRoom self.old }
         requires due { IsDueAt form.Serving lane.old.course self.old.log.writer.cpu }
         requires stop { next_stop self.old.queue.state true ≡ None }
-        requires push { (push_is_due lane.old.course self.old.queue.state ≡ true) × (self.old.queue.state.active ≡ Some hand.old.to) }
+        requires push { (push_is_due lane.old.course self.old.queue.state ≡ true)
+            × (self.old.queue.state.active ≡ Some hand.old.to) }
         requires hand { (hand.old.tasks ≡ []) × (0 < hand.old.room) }
         requires lists { AreFor 1 lists }
         ensures drew { Drew N.header self.old self.new lane.old lane.new (what.Out cause.Push hand.old.to (ids hand.new.tasks)) }

@@ -18,7 +18,8 @@ pub enter-requires-clause-course : goal.enter-requires-clause-course
 enter-requires-clause-course g c =
     let b = c.args.before in
     noted g.N.Names.header b.cell b.lane c.args.why c.args.taken c.args.hand.now c.args.queue.now.state c.fill.new.self.records
-    c.to-to.result c.moment.result c.args.course.now c.taken_off.new.course c.requires.left c.requires.lane.1 c.fill.ensures.records
+    c.to-to.result c.moment.result c.args.course.now c.taken_off.new.course c.requires.left c.requires.lane.1
+    c.fill.ensures.records
     c.to-to.ensures c.moment.ensures c.taken_off.ensures
 
 pub enter-requires-clause-landing : goal.enter-requires-clause-landing

@@ -5,7 +5,8 @@ use Rattle.lb_cell.proofs.cell.Cell.leave.Goals as goal
 
 pub depart-requires-clause-left : goal.depart-requires-clause-left
 depart-requires-clause-left g c =
-    wake_left g.N.Names.header c.of-before.result.cell c.of-before.result.lane c.in-Some-Wake.task c.args.hand.now c.leave.new.hand
+    wake_left g.N.Names.header c.of-before.result.cell c.of-before.result.lane c.in-Some-Wake.task c.args.hand.now
+    c.leave.new.hand
     c.leave.new.self.state (search rules) (search rules) (search rules) (search rules) (search rules) (search rules)
 
 pub depart-requires-clause-lists : goal.depart-requires-clause-lists

@@ -16,7 +16,8 @@ depart-requires-clause-lists g c =
     let to = c.args.hand.now.to in
     let many : length c.take_push-pushed.new.hand.tasks ≡ (if c.take_push-pushed.result then 1 else 0) =
     came q at (if c.take_push-pushed.result then 1 else 0) (take_push q at to).0 c.args.hand.now c.take_push-pushed.new.hand
-    c.take_push-pushed.ensures.hand c.requires.hand.0 (pushes q at to c.take_push-pushed.result c.take_push-pushed.ensures.answer) in
+    c.take_push-pushed.ensures.hand c.requires.hand.0
+    (pushes q at to c.take_push-pushed.result c.take_push-pushed.ensures.answer) in
     are_for (if c.take_push-pushed.result then 1 else 0) (length c.take_push-pushed.new.hand.tasks) c.only_if-lists.result many
     c.only_if-lists.ensures
 
@@ -27,4 +28,5 @@ depart-requires-clause-few g c =
     let to = c.args.hand.now.to in
     few_pushed c.take_push-pushed.result (length c.take_push-pushed.new.hand.tasks)
     (came q at (if c.take_push-pushed.result then 1 else 0) (take_push q at to).0 c.args.hand.now c.take_push-pushed.new.hand
-    c.take_push-pushed.ensures.hand c.requires.hand.0 (pushes q at to c.take_push-pushed.result c.take_push-pushed.ensures.answer))
+    c.take_push-pushed.ensures.hand c.requires.hand.0
+    (pushes q at to c.take_push-pushed.result c.take_push-pushed.ensures.answer))
