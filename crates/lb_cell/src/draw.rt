@@ -18,8 +18,8 @@ use lb_queue::Queue;
 use lb_ticket::{Book, Coding, Seat};
 use std::sync::Wait;
 
-// A seat learns that the lane's last entry was drawn.
-fn learn_last(book: &Book<Journal>, seat: &mut Seat<Journal>, known: &mut Known)
+/// A seat learns that the lane's last entry was drawn.
+pub(crate) fn learn_last(book: &Book<Journal>, seat: &mut Seat<Journal>, known: &mut Known)
     requires book { seat.old.table ≡ book.now.table }
     requires note { IfSome known.old.note (λ n. n.table ≡ book.now.table) }
     ensures seat { KeepsList seat.old seat.new × (seat.new.read ≡ seat.old.read) × (seat.new.fresh ≡ seat.old.fresh) }

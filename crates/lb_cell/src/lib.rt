@@ -9,6 +9,7 @@ mod answer;
 mod before;
 mod cell;
 mod draw;
+mod ending;
 mod ends;
 mod enter;
 mod known;
