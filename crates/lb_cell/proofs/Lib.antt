@@ -1,0 +1,16 @@
+mod Quoting
+mod Publishing
+mod Going
+mod Bounds
+mod Beginning
+mod Entering
+mod Falling
+mod Answering
+mod Seeing
+mod Asking
+mod Closing
+mod Filling
+mod Moving
+mod Turning
+mod Owning
+mod Using

@@ -1,0 +1,240 @@
+-- An entry of a lane's own list fits it, and what the lane keeps stays.
+use Rattle.std.proofs.Common.{ℕ, ◌≡◌, ◌&&◌, ltb, max, ◌≤◌, ◌+◌, ◌<◌, true, false, not, eqb, List, [], ◌∷◌, ◌++◌, Option, Some, None, length, map, refl, sym, subst, ap, ◌∙◌, arith, All}
+use Rattle.std.proofs.lemmas.List.Elements.{All-map, All-push}
+use Rattle.std.proofs.lemmas.Bool.{lt-ltb, le-ltb}
+use base.Stored.{Coded}
+use Rattle.atomic_table.specs.Seated.{TableId}
+use Rattle.lb_base.specs.declared.mask.Mask.{Mask}
+use Rattle.lb_base.specs.declared.shape.Kind.{Kind}
+use Rattle.lb_base.specs.declared.shape.Kind.TheVariants as kinds
+use Rattle.lb_trace.specs.declared.trace.Command.{Command}
+use Rattle.lb_trace.specs.declared.trace.Header.{Header}
+use Rattle.lb_core.specs.declared.course.Course.{Course}
+use Rattle.lb_core.specs.declared.course.Form.{Form}
+use Rattle.lb_core.specs.declared.course.Form.TheVariants as forms
+use Rattle.lb_core.specs.declared.entry.CpuFig.{CpuFig}
+use Rattle.lb_core.specs.declared.entry.Owner.TheVariants.{Lane}
+use Rattle.lb_core.specs.declared.entry.What.{What}
+use Rattle.lb_core.specs.declared.entry.What.TheVariants as whats
+use Rattle.lb_core.specs.declared.rule.Rule.{Rule}
+use Rattle.lb_core.specs.declared.rule.Rule.TheVariants as rules
+use Rattle.lb_core.specs.Same.{same_kind, same_number as same_number_of}
+use Rattle.lb_core.specs.Sight.{Sight}
+use Rattle.lb_core.specs.Stage.{draws, stage_allows}
+use Rattle.lb_core.specs.Rules.{breaks_here, is_undeclared}
+use Rattle.lb_core.specs.CourseAfter.{course_after}
+use Rattle.lb_core.specs.Machine.{no_queue}
+use Rattle.lb_core.specs.Course.{opening_course, turn_kind}
+use Rattle.lb_ticket.specs.declared.item.Drawn.{Drawn}
+use Rattle.lb_ticket.specs.Seats.{NoteIs, SeatIs}
+use Rattle.lb_ticket.specs.Tickets.{pair}
+use Rattle.lb_journal.specs.Journal.{Journal, Left, Fits, Begins, AnswersUse, is_nil, sight_in}
+use Rattle.lb_cell.specs.declared.known.Known.{Known}
+use Rattle.lb_cell.specs.LastEntries.{IsLast, DrewOne}
+use Rattle.lb_cell.specs.Kinds.{is_of_lane}
+use Rattle.lb_cell.specs.Cells.{LaneIs, LaneKeeps}
+use Rattle.lb_cell.specs.Own.{IsTurnDue, MayDrawOwn, MayFollow, sight_own, entry_own, own_left, item_own}
+
+-- ---- the owner's test
+sight_is : (h : Header) (l : LaneIs) (w : What) (masks : List Mask) (figs : List CpuFig)
+    → sight_own h l masks figs ≡ sight_in (map pair l.seat.list) (item_own h l w masks figs)
+unfolding sight_in
+sight_is h l w masks figs = refl
+
+no_use : (w : What) (ds : List (ℕ × Journal)) (j : Journal) → is_of_lane w ≡ true → AnswersUse w ds j
+no_use (whats.Row n at command) ds j e = tt
+no_use (whats.Adopt v k c) ds j e = tt
+no_use (whats.Look p x fs d) ds j e = tt
+no_use (whats.Scan fs t) ds j e = tt
+no_use (whats.End u) ds j e = absurd (cc e)
+no_use (whats.Did r) ds j e = absurd (cc e)
+no_use (whats.Out cause to list) ds j e = absurd (cc e)
+no_use (whats.Landed list) ds j e = absurd (cc e)
+no_use (whats.Turn ps) ds j e = absurd (cc e)
+no_use whats.Shut ds j e = absurd (cc e)
+no_use (whats.Close p w i f) ds j e = absurd (cc e)
+no_use (whats.Ask r) ds j e = absurd (cc e)
+no_use (whats.Kick r) ds j e = absurd (cc e)
+no_use whats.Over ds j e = absurd (cc e)
+no_use (whats.Pub v) ds j e = absurd (cc e)
+
+opens_by : (table : TableId) (code : Coded Left) (cpus lane t : ℕ) (course : Course) (note : Option NoteIs)
+    → IsLast table code cpus lane course t note → t ≡ 0 → course ≡ opening_course cpus
+opens_by table code cpus lane t course None last z = last.1
+opens_by table code cpus lane t course (Some n) last z = absurd (let p : 0 < t = last.0 in omega (arith, z))
+
+begins : (h : Header) (book : TableId) (board : List TableId) (code : Coded Left) (l : LaneIs) (w : What) (masks : List Mask)
+    (figs : List CpuFig) → LaneKeeps h book board code l → l.known.ticket ≡ 0
+    → Begins (map pair l.seat.list) (item_own h l w masks figs)
+begins h book board code l w masks figs k z = record {
+  course = opens_by book code (length h.cpus) l.number l.known.ticket l.course l.known.note k.last z;
+  allowed = ap (λ (ds : List (Drawn Journal)). is_nil (map pair ds)) (k.first z);
+}
+
+pub fits_own : (h : Header) (book : TableId) (board : List TableId) (code : Coded Left) (l : LaneIs) (w : What)
+    (masks : List Mask) (figs : List CpuFig) → LaneKeeps h book board code l → MayDrawOwn h l w masks figs
+    → Fits (map pair l.seat.list) (item_own h l w masks figs)
+fits_own h book board code l w masks figs k may =
+    let j : Journal = item_own h l w masks figs in
+    let s = sight_is h l w masks figs in
+    record {
+      header = All-map (λ (x : ℕ × Journal). x.1.header ≡ h) pair l.seat.list k.headers;
+      declared = rw (lt-ltb l.number h.lanes k.number) refl;
+      allowed = λ rule. subst (λ (x : Sight). breaks_here rule x j.entry ≡ false) s (may.allowed rule);
+      after = ap (λ (x : Sight). course_after x j.entry) s;
+      first = begins h book board code l w masks figs k;
+      masks = may.carries_masks;
+      figs = may.carries_figs;
+      turn = no_use w (map pair l.seat.list) j may.of_lane;
+    }
+
+pub item_own_is : (h : Header) (l : LaneIs) (w : What) (j : Journal) (hv : Header) (number prev : ℕ) (cv av : Course)
+    (masks : List Mask) (figs : List CpuFig)
+    → j ≡ record {
+      header = hv;
+      entry = record { owner = Lane number; lane = number; prev = prev; what = w };
+      course = cv;
+      after = av;
+      masks = masks;
+      figs = figs;
+    }
+    → hv ≡ h → number ≡ l.number → prev ≡ l.known.ticket → cv ≡ l.course → av ≡ own_left h l w masks figs
+    → j ≡ item_own h l w masks figs
+item_own_is h l w j hv number prev cv av masks figs e eh en ep ev ea =
+    e ∙ (λ i. record {
+      header = eh i;
+      entry = record { owner = Lane (en i); lane = en i; prev = ep i; what = w };
+      course = ev i;
+      after = ea i;
+      masks = masks;
+      figs = figs;
+    })
+
+-- ---- what is kept
+pub lane_own : (h : Header) (book : TableId) (board : List TableId) (code : Coded Left) (l : LaneIs) (w : What)
+    (masks : List Mask) (figs : List CpuFig) (number : ℕ) (course : Course) (known : Known) (seat : SeatIs Journal) (ticket : ℕ)
+    → LaneKeeps h book board code l → number ≡ l.number → MayFollow h course → DrewOne l.seat seat
+    → seat.list ≡ l.seat.list ++ record { ticket = ticket; item = item_own h l w masks figs } ∷ []
+    → known.reader ≡ l.known.reader → known.ticket ≡ ticket → 0 < ticket
+    → IsLast book code (length h.cpus) l.number course ticket known.note
+    → LaneKeeps h book board code (record { number = number; course = course; known = known; seat = seat; landing = l.landing })
+lane_own h book board code l w masks figs number course known seat ticket k is next one list reader held some last =
+    let d : Drawn Journal = record { ticket = ticket; item = item_own h l w masks figs } in
+    record {
+      number = subst (λ (n : ℕ). n < h.lanes) (sym is) k.number;
+      table = one.0 ∙ k.table;
+      owner = one.1 ∙ (k.owner ∙ ap (λ (n : ℕ). n + 1) (sym is));
+      cells = ap (λ x. x.cells) reader ∙ k.cells;
+      last = subst (λ (t : Type 0). t) (λ i. IsLast book code (length h.cpus) (sym is i) course (sym held i) known.note) last;
+      headers =
+          subst (All (λ (e : Drawn Journal). e.item.header ≡ h)) (sym list)
+          (All-push (λ (e : Drawn Journal). e.item.header ≡ h) l.seat.list d k.headers refl);
+      first = λ z. absurd (omega (arith, z, held, some));
+      named = next.named;
+      range = next.range;
+      landing = λ flies. absurd (let no = next.grounded in cc (no, flies));
+    }
+
+-- ---- rows
+same_number : (n : ℕ) → eqb n n ≡ true
+same_number n = grind arith
+
+row_stage : (h : Header) (l : LaneIs) (n at : ℕ) (command : Command) → l.course.form ≡ forms.Rest
+    → not (stage_allows (sight_own h l [] []) (entry_own l (whats.Row n at command))) ≡ false
+unfolding stage_allows draws
+row_stage h l n at command rest =
+    rw (same_number l.number)
+    (ap (λ (f : Form). not (draws f h l.course no_queue l.number (whats.Row n at command))) rest)
+
+row_allowed : (h : Header) (l : LaneIs) (at : ℕ) (command : Command) → l.course.form ≡ forms.Rest
+    → is_undeclared h command ≡ false → (rule : Rule)
+    → breaks_here rule (sight_own h l [] []) (entry_own l (whats.Row (l.course.rows + 1) at command)) ≡ false
+row_allowed h l at command rest declared rules.Stage = row_stage h l (l.course.rows + 1) at command rest
+row_allowed h l at command rest declared rules.Row = rw (same_number (l.course.rows + 1)) declared
+row_allowed h l at command rest declared rules.Reply = refl
+row_allowed h l at command rest declared rules.Counters = refl
+row_allowed h l at command rest declared rules.Ticket = refl
+row_allowed h l at command rest declared rules.Prev = refl
+row_allowed h l at command rest declared rules.Place = refl
+row_allowed h l at command rest declared rules.Version = refl
+row_allowed h l at command rest declared rules.Figure = refl
+row_allowed h l at command rest declared rules.Decision = refl
+row_allowed h l at command rest declared rules.Pick = refl
+row_allowed h l at command rest declared rules.Flight = refl
+row_allowed h l at command rest declared rules.Owed = refl
+row_allowed h l at command rest declared rules.End = refl
+
+pub may_take_up : (h : Header) (l : LaneIs) (at : ℕ) (command : Command) → l.course.form ≡ forms.Rest
+    → is_undeclared h command ≡ false → MayDrawOwn h l (whats.Row (l.course.rows + 1) at command) [] []
+may_take_up h l at command rest declared = record {
+  of_lane = refl;
+  allowed = row_allowed h l at command rest declared;
+  carries_masks = refl;
+  carries_figs = refl;
+}
+
+-- ---- versions
+same_turn : (k : Kind) → same_kind k k ≡ true
+same_turn kinds.Tick = refl
+same_turn kinds.Idle = refl
+same_turn kinds.Nohz = refl
+
+draws_use : (f : Form) (h : Header) (c : Course) (lane v : ℕ) (k : Kind) (cpu : ℕ) → IsTurnDue f c k cpu
+    → draws f h c no_queue lane (whats.Adopt v k cpu) ≡ true
+unfolding draws
+draws_use forms.Serving h c lane v k cpu d =
+    rw d.0 (ap (λ (o : Option ℕ). same_number_of o (Some cpu)) d.1 ∙ same_number cpu)
+draws_use forms.Due h c lane v k cpu d =
+    subst
+    (λ (x : Kind). (same_kind x (turn_kind c) && eqb cpu c.cpu) ≡ true) (sym d.0)
+    (rw (same_turn (turn_kind c)) (ap (λ (n : ℕ). eqb n c.cpu) d.1 ∙ same_number c.cpu))
+draws_use forms.Rest h c lane v k cpu d = absurd d
+draws_use forms.Asked h c lane v k cpu d = absurd d
+draws_use forms.Flight h c lane v k cpu d = absurd d
+draws_use forms.Used h c lane v k cpu d = absurd d
+draws_use forms.Position h c lane v k cpu d = absurd d
+draws_use forms.Looked h c lane v k cpu d = absurd d
+draws_use forms.Landed h c lane v k cpu d = absurd d
+draws_use forms.Closed h c lane v k cpu d = absurd d
+draws_use forms.Done h c lane v k cpu d = absurd d
+draws_use forms.ScanDue h c lane v k cpu d = absurd d
+draws_use forms.Kicking h c lane v k cpu d = absurd d
+draws_use forms.Ended h c lane v k cpu d = absurd d
+
+use_stage : (h : Header) (l : LaneIs) (v : ℕ) (k : Kind) (cpu : ℕ) (masks : List Mask)
+    → IsTurnDue l.course.form l.course k cpu
+    → not (stage_allows (sight_own h l masks []) (entry_own l (whats.Adopt v k cpu))) ≡ false
+unfolding stage_allows
+use_stage h l v k cpu masks d =
+    rw (same_number l.number) (ap not (draws_use l.course.form h l.course l.number v k cpu d))
+
+not_below : (v n : ℕ) → n ≤ v → ltb v n ≡ false
+not_below v n le = le-ltb v n le
+
+use_allowed : (h : Header) (l : LaneIs) (v : ℕ) (k : Kind) (cpu : ℕ) (masks : List Mask)
+    → IsTurnDue l.course.form l.course k cpu → max l.course.named_version 1 ≤ v → (rule : Rule)
+    → breaks_here rule (sight_own h l masks []) (entry_own l (whats.Adopt v k cpu)) ≡ false
+use_allowed h l v k cpu masks d least rules.Stage = use_stage h l v k cpu masks d
+use_allowed h l v k cpu masks d least rules.Version = not_below v (max l.course.named_version 1) least
+use_allowed h l v k cpu masks d least rules.Row = refl
+use_allowed h l v k cpu masks d least rules.Reply = refl
+use_allowed h l v k cpu masks d least rules.Counters = refl
+use_allowed h l v k cpu masks d least rules.Ticket = refl
+use_allowed h l v k cpu masks d least rules.Prev = refl
+use_allowed h l v k cpu masks d least rules.Place = refl
+use_allowed h l v k cpu masks d least rules.Figure = refl
+use_allowed h l v k cpu masks d least rules.Decision = refl
+use_allowed h l v k cpu masks d least rules.Pick = refl
+use_allowed h l v k cpu masks d least rules.Flight = refl
+use_allowed h l v k cpu masks d least rules.Owed = refl
+use_allowed h l v k cpu masks d least rules.End = refl
+
+pub may_use : (h : Header) (l : LaneIs) (v : ℕ) (k : Kind) (cpu : ℕ) (masks : List Mask)
+    → IsTurnDue l.course.form l.course k cpu → max l.course.named_version 1 ≤ v
+    → MayDrawOwn h l (whats.Adopt v k cpu) masks []
+may_use h l v k cpu masks d least = record {
+  of_lane = refl;
+  allowed = use_allowed h l v k cpu masks d least;
+  carries_masks = tt;
+  carries_figs = refl;
+}

@@ -1,0 +1,6 @@
+use Rattle.std.proofs.Common.{rules}
+use Rattle.lb_cell.proofs.Closing.{may_over}
+use Rattle.lb_cell.proofs.cell.Cell.over.Goals as goal
+
+pub enter-requires-clause-may : goal.enter-requires-clause-may
+enter-requires-clause-may g c = may_over g.N.Names.header c.of-before.result.cell c.of-before.result.lane (search rules)

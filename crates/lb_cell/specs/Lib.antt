@@ -1,0 +1,12 @@
+pub mod Kinds
+pub mod Shares
+pub mod LastEntries
+pub mod Cells
+pub mod Draws
+pub mod Own
+pub mod Hands
+pub mod Serving
+pub mod Turns
+pub mod Commands
+pub mod Reads
+pub mod Began

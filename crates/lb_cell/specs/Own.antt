@@ -1,0 +1,78 @@
+-- One entry of a lane's own list: what it says and leaves, when it may be drawn, and what the lane is after it.
+use Rattle.std.specs.Prelude.{ℕ, ◌≡◌, ◌≤◌, true, false, Some, List, [], ◌∷◌, ◌++◌, length}
+use Rattle.lb_base.specs.declared.mask.Mask.{Mask}
+use Rattle.lb_base.specs.declared.shape.Kind.{Kind}
+use Rattle.lb_base.specs.declared.shape.Kind.TheVariants.{Tick as TickTurn}
+use Rattle.lb_trace.specs.declared.trace.Header.{Header}
+use Rattle.lb_core.specs.declared.course.Course.{Course}
+use Rattle.lb_core.specs.declared.course.Form.{Form}
+use Rattle.lb_core.specs.declared.course.Form.TheVariants.{Serving, Due}
+use Rattle.lb_core.specs.declared.entry.CpuFig.{CpuFig}
+use Rattle.lb_core.specs.declared.entry.Entry.{Entry}
+use Rattle.lb_core.specs.declared.entry.Owner.TheVariants.{Lane}
+use Rattle.lb_core.specs.declared.entry.What.{What}
+use Rattle.lb_core.specs.declared.rule.Rule.{Rule}
+use Rattle.lb_core.specs.Sight.{Sight}
+use Rattle.lb_core.specs.Course.{ticked_cpu, turn_kind}
+use Rattle.lb_core.specs.Placed.{is_flight}
+use Rattle.lb_core.specs.Rules.{breaks_here}
+use Rattle.lb_core.specs.CourseAfter.{course_after}
+use Rattle.lb_core.specs.Machine.{no_queue}
+use Rattle.lb_journal.specs.Journal.{Journal, CarriesMasks, CarriesFigs}
+use Rattle.lb_cell.specs.Kinds.{is_of_lane}
+use Rattle.lb_cell.specs.Cells.{LaneIs, IsInRange}
+
+-- what the step of an entry of the lane reads, with the masks or figures that it names
+abbrev pub sight_own : Header → LaneIs → List Mask → List CpuFig → Sight
+sight_own h l masks figs =
+    record { header = h; course = l.course; queue = no_queue; count = 0; masks = masks; figs = figs }
+
+abbrev pub entry_own : LaneIs → What → Entry
+entry_own l what = record { owner = Lane l.number; lane = l.number; prev = l.known.ticket; what = what }
+
+-- the course that it leaves
+abbrev pub own_left : Header → LaneIs → What → List Mask → List CpuFig → Course
+own_left h l what masks figs = course_after (sight_own h l masks figs) (entry_own l what)
+
+-- the entry with what its owner knows of it
+abbrev pub item_own : Header → LaneIs → What → List Mask → List CpuFig → Journal
+item_own h l what masks figs = record {
+  header = h;
+  entry = entry_own l what;
+  course = l.course;
+  after = own_left h l what masks figs;
+  masks = masks;
+  figs = figs;
+}
+
+-- the lane may draw it
+pub record MayDrawOwn (h : Header) (l : LaneIs) (what : What) (masks : List Mask) (figs : List CpuFig) : Type 0 where
+  pub of_lane : is_of_lane what ≡ true
+  pub allowed : (rule : Rule) → breaks_here rule (sight_own h l masks figs) (entry_own l what) ≡ false
+  pub carries_masks : CarriesMasks what masks
+  pub carries_figs : CarriesFigs what figs
+
+-- such a course may be that of a lane of the machine, which has no task in its hand
+pub record MayFollow (h : Header) (c : Course) : Type 0 where
+  pub named : length c.named ≡ length h.cpus
+  pub range : IsInRange c
+  pub grounded : is_flight c.form ≡ false
+
+-- it was drawn: the lane's list has grown by it, and the lane holds it
+pub record DrewOwn (h : Header) (l l' : LaneIs) (what : What) (masks : List Mask) (figs : List CpuFig) : Type 0 where
+  pub ticket : ℕ
+  pub list : l'.seat.list ≡ l.seat.list ++ record { ticket = ticket; item = item_own h l what masks figs } ∷ []
+  pub later : l.seat.next ≤ ticket
+  pub course : l'.course ≡ own_left h l what masks figs
+  pub held : l'.known.ticket ≡ ticket
+  -- of the lane all else is as it was
+  pub reader : l'.known.reader ≡ l.known.reader
+  pub read : l'.seat.read ≡ l.seat.read
+  pub number : l'.number ≡ l.number
+
+-- ---- a `use`
+-- in this form a turn of this kind is due at this CPU
+abbrev pub IsTurnDue : Form → Course → Kind → ℕ → Type 0
+IsTurnDue Serving c kind cpu = (kind ≡ TickTurn) × (ticked_cpu c.command ≡ Some cpu)
+IsTurnDue Due c kind cpu = (kind ≡ turn_kind c) × (cpu ≡ c.cpu)
+IsTurnDue form c kind cpu = ⊥

@@ -1,0 +1,56 @@
+//! A cell and a lane are taken apart at the end.
+ghost use Rattle.std.specs.Prelude.{◌≡◌, ◌++◌};
+ghost use Rattle.lb_ticket.specs.Seats.{KeepsList};
+ghost use Rattle.lb_cell.specs.Cells.{CellKeeps, LaneKeeps};
+ghost use Rattle.lb_cell.specs.LastEntries.{facts_of};
+
+use crate::cell::Cell;
+use crate::draw::learn_last;
+use crate::lane::Lane;
+use crate::log::Log;
+use crate::names::Names;
+use crate::shared::Shared;
+use lb_board::{Reader, Writer};
+use lb_journal::{Journal, Left};
+use lb_queue::Queue;
+use lb_ticket::{Coding, Seat};
+
+impl<N: Names> Cell<N> {
+    /// Its queue, the seat with its list, and its writer. What the cell kept is known of them.
+    pub fn end(self) -> (Queue, Seat<Journal>, Writer)
+        ensures queue { result.0 ≡ self.queue }
+        ensures log { record { seat = result.1; writer = result.2 } ≡ self.log }
+        ensures kept { CellKeeps N.header N.book N.board self }
+    {
+        let Cell {
+            queue,
+            log,
+            room: _,
+            names: _,
+        } = self;
+        let Log { seat, writer } = log;
+        (queue, seat, writer)
+    }
+}
+
+impl<N: Names> Lane<N> {
+    /// Its seat, which learns that the lane's last entry was drawn and what it left, and its reader. What the lane kept
+    /// is known of them.
+    pub fn end(self, shared: &Shared<'_, N>) -> (Seat<Journal>, Reader)
+        ensures seat { KeepsList self.seat result.0 }
+        ensures learnt { result.0.known ≡ self.seat.known ++ facts_of self.known.note }
+        ensures reader { result.1 ≡ self.known.reader }
+        ensures kept { LaneKeeps N.header N.book N.board ⟦<Left as Coding>⟧.coding self }
+    {
+        let Lane {
+            number: _,
+            course: _,
+            mut known,
+            mut seat,
+            landing: _,
+            names: _,
+        } = self;
+        learn_last(shared.book, &mut seat, &mut known);
+        (seat, known.reader)
+    }
+}
