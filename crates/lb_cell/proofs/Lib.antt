@@ -13,4 +13,5 @@ mod Filling
 mod Moving
 mod Turning
 mod Owning
+mod PubEntries
 mod Using

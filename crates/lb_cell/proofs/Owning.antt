@@ -1,10 +1,12 @@
 -- An entry of a lane's own list fits it, and what the lane keeps stays.
-use Rattle.std.proofs.Common.{ℕ, ◌≡◌, ◌&&◌, ltb, max, ◌≤◌, ◌+◌, ◌<◌, true, false, not, eqb, List, [], ◌∷◌, ◌++◌, Option, Some, None, length, map, refl, sym, subst, ap, ◌∙◌, arith, All}
+use Rattle.std.proofs.Common.{ℕ, ◌≡◌, ◌&&◌, ltb, max, ◌≤◌, ◌+◌, ◌<◌, true, false, not, eqb, List, [], ◌∷◌, ◌++◌, Option, Some, None, length, map, set, refl, sym, subst, ap, ◌∙◌, arith, All}
+use Rattle.std.proofs.lemmas.List.{length-set}
 use Rattle.std.proofs.lemmas.List.Elements.{All-map, All-push}
 use Rattle.std.proofs.lemmas.Bool.{lt-ltb, le-ltb}
 use base.Stored.{Coded}
 use Rattle.atomic_table.specs.Seated.{TableId}
 use Rattle.lb_base.specs.declared.mask.Mask.{Mask}
+use Rattle.lb_base.specs.declared.mask.TheConstants.{MAX_CPUS}
 use Rattle.lb_base.specs.declared.shape.Kind.{Kind}
 use Rattle.lb_base.specs.declared.shape.Kind.TheVariants as kinds
 use Rattle.lb_trace.specs.declared.trace.Command.{Command}
@@ -13,6 +15,7 @@ use Rattle.lb_core.specs.declared.course.Course.{Course}
 use Rattle.lb_core.specs.declared.course.Form.{Form}
 use Rattle.lb_core.specs.declared.course.Form.TheVariants as forms
 use Rattle.lb_core.specs.declared.entry.CpuFig.{CpuFig}
+use Rattle.lb_core.specs.declared.entry.FigName.{FigName}
 use Rattle.lb_core.specs.declared.entry.Owner.TheVariants.{Lane}
 use Rattle.lb_core.specs.declared.entry.What.{What}
 use Rattle.lb_core.specs.declared.entry.What.TheVariants as whats
@@ -21,8 +24,9 @@ use Rattle.lb_core.specs.declared.rule.Rule.TheVariants as rules
 use Rattle.lb_core.specs.Same.{same_kind, same_number as same_number_of}
 use Rattle.lb_core.specs.Sight.{Sight}
 use Rattle.lb_core.specs.Stage.{draws, stage_allows}
-use Rattle.lb_core.specs.Rules.{breaks_here, is_undeclared}
-use Rattle.lb_core.specs.CourseAfter.{course_after}
+use Rattle.lb_core.specs.Placed.{is_flight}
+use Rattle.lb_core.specs.Rules.{breaks_here}
+use Rattle.lb_core.specs.CourseAfter.{course_by, course_after, raised_numbers, scanned}
 use Rattle.lb_core.specs.Machine.{no_queue}
 use Rattle.lb_core.specs.Course.{opening_course, turn_kind}
 use Rattle.lb_ticket.specs.declared.item.Drawn.{Drawn}
@@ -32,8 +36,8 @@ use Rattle.lb_journal.specs.Journal.{Journal, Left, Fits, Begins, AnswersUse, is
 use Rattle.lb_cell.specs.declared.known.Known.{Known}
 use Rattle.lb_cell.specs.LastEntries.{IsLast, DrewOne}
 use Rattle.lb_cell.specs.Kinds.{is_of_lane}
-use Rattle.lb_cell.specs.Cells.{LaneIs, LaneKeeps}
-use Rattle.lb_cell.specs.Own.{IsTurnDue, MayDrawOwn, MayFollow, sight_own, entry_own, own_left, item_own}
+use Rattle.lb_cell.specs.Cells.{LaneIs, LaneKeeps, IsInRange}
+use Rattle.lb_cell.specs.Own.{IsTurnDue, MayDrawOwn, MayFollow, OwnAsks, sight_from, sight_own, entry_own, own_left, item_own}
 
 -- ---- the owner's test
 sight_is : (h : Header) (l : LaneIs) (w : What) (masks : List Mask) (figs : List CpuFig)
@@ -135,45 +139,73 @@ lane_own h book board code l w masks figs number course known seat ticket k is n
       landing = λ flies. absurd (let no = next.grounded in cc (no, flies));
     }
 
--- ---- rows
+-- ---- the course
+pub own_course : (h : Header) (l : LaneIs) (w : What) (own : Option Command) (masks : List Mask) (figs : List CpuFig)
+    → OwnAsks w l.course own → course_by w (sight_own h l masks figs) 0 no_queue ≡ own_left h l w masks figs
+unfolding course_after
+own_course h l (whats.Row n at command) own masks figs e = refl
+own_course h l (whats.Adopt v k c) own masks figs e = refl
+own_course h l (whats.Look p x fs d) own masks figs e = refl
+own_course h l (whats.Scan fs t) own masks figs e = refl
+own_course h l (whats.Did r) own masks figs e = absurd e
+own_course h l (whats.Out cause to tasks) own masks figs e = absurd e
+own_course h l (whats.Landed tasks) own masks figs e = absurd e
+own_course h l (whats.Turn ps) own masks figs e = absurd e
+own_course h l whats.Shut own masks figs e = absurd e
+own_course h l (whats.Close p w i f) own masks figs e = absurd e
+own_course h l (whats.Ask r) own masks figs e = absurd e
+own_course h l (whats.Kick r) own masks figs e = absurd e
+own_course h l whats.Over own masks figs e = absurd e
+own_course h l (whats.End u) own masks figs e = absurd e
+own_course h l (whats.Pub v) own masks figs e = absurd e
+
+raised_length : (fs : List FigName) (ns : List ℕ) → length (raised_numbers fs ns) ≡ length ns
+raised_length [] ns = refl
+raised_length (f ∷ fs) ns = raised_length fs (set ns f.cpu f.n) ∙ length-set ns f.cpu f.n
+
+-- it has as many numbers as before, and is not in flight
+abbrev GoesOn : Course → Course → Type 0
+GoesOn c c' = (length c'.named ≡ length c.named) × (is_flight c'.form ≡ false)
+
+scan_goes : (t : Option ℕ) (figs : List CpuFig) (fs : List FigName) (c : Course)
+    → GoesOn c (scanned t (record c { figures = figs; named = raised_numbers fs c.named }))
+scan_goes None figs fs c = (raised_length fs c.named, refl)
+scan_goes (Some t) figs fs c = (raised_length fs c.named, refl)
+
+own_goes : (h : Header) (c : Course) (w : What) (own : Option Command) (masks : List Mask) (figs : List CpuFig)
+    → OwnAsks w c own → GoesOn c (course_by w (sight_from h c masks figs) 0 no_queue)
+own_goes h c (whats.Row n at command) own masks figs e = (refl, refl)
+own_goes h c (whats.Adopt v k cpu) own masks figs e = (refl, refl)
+own_goes h c (whats.Look p x fs d) own masks figs e = (raised_length fs c.named, refl)
+own_goes h c (whats.Scan fs t) own masks figs e = scan_goes t figs fs c
+own_goes h c (whats.Did r) own masks figs e = absurd e
+own_goes h c (whats.Out cause to tasks) own masks figs e = absurd e
+own_goes h c (whats.Landed tasks) own masks figs e = absurd e
+own_goes h c (whats.Turn ps) own masks figs e = absurd e
+own_goes h c whats.Shut own masks figs e = absurd e
+own_goes h c (whats.Close p w i f) own masks figs e = absurd e
+own_goes h c (whats.Ask r) own masks figs e = absurd e
+own_goes h c (whats.Kick r) own masks figs e = absurd e
+own_goes h c whats.Over own masks figs e = absurd e
+own_goes h c (whats.End u) own masks figs e = absurd e
+own_goes h c (whats.Pub v) own masks figs e = absurd e
+
+pub may_follow : (h : Header) (book : TableId) (board : List TableId) (code : Coded Left) (l : LaneIs) (w : What)
+    (own : Option Command) (masks : List Mask) (figs : List CpuFig) (new : Course) → LaneKeeps h book board code l
+    → OwnAsks w l.course own → IsInRange (own_left h l w masks figs)
+    → new ≡ course_by w (sight_own h l masks figs) 0 no_queue → MayFollow h new
+may_follow h book board code l w own masks figs new k asks range steps =
+    let goes : GoesOn l.course new = subst (GoesOn l.course) (sym steps) (own_goes h l.course w own masks figs asks) in
+    record {
+      named = goes.0 ∙ k.named;
+      range = subst IsInRange (sym (steps ∙ own_course h l w own masks figs asks)) range;
+      grounded = goes.1;
+    }
+
+-- ---- versions
 same_number : (n : ℕ) → eqb n n ≡ true
 same_number n = grind arith
 
-row_stage : (h : Header) (l : LaneIs) (n at : ℕ) (command : Command) → l.course.form ≡ forms.Rest
-    → not (stage_allows (sight_own h l [] []) (entry_own l (whats.Row n at command))) ≡ false
-unfolding stage_allows draws
-row_stage h l n at command rest =
-    rw (same_number l.number)
-    (ap (λ (f : Form). not (draws f h l.course no_queue l.number (whats.Row n at command))) rest)
-
-row_allowed : (h : Header) (l : LaneIs) (at : ℕ) (command : Command) → l.course.form ≡ forms.Rest
-    → is_undeclared h command ≡ false → (rule : Rule)
-    → breaks_here rule (sight_own h l [] []) (entry_own l (whats.Row (l.course.rows + 1) at command)) ≡ false
-row_allowed h l at command rest declared rules.Stage = row_stage h l (l.course.rows + 1) at command rest
-row_allowed h l at command rest declared rules.Row = rw (same_number (l.course.rows + 1)) declared
-row_allowed h l at command rest declared rules.Reply = refl
-row_allowed h l at command rest declared rules.Counters = refl
-row_allowed h l at command rest declared rules.Ticket = refl
-row_allowed h l at command rest declared rules.Prev = refl
-row_allowed h l at command rest declared rules.Place = refl
-row_allowed h l at command rest declared rules.Version = refl
-row_allowed h l at command rest declared rules.Figure = refl
-row_allowed h l at command rest declared rules.Decision = refl
-row_allowed h l at command rest declared rules.Pick = refl
-row_allowed h l at command rest declared rules.Flight = refl
-row_allowed h l at command rest declared rules.Owed = refl
-row_allowed h l at command rest declared rules.End = refl
-
-pub may_take_up : (h : Header) (l : LaneIs) (at : ℕ) (command : Command) → l.course.form ≡ forms.Rest
-    → is_undeclared h command ≡ false → MayDrawOwn h l (whats.Row (l.course.rows + 1) at command) [] []
-may_take_up h l at command rest declared = record {
-  of_lane = refl;
-  allowed = row_allowed h l at command rest declared;
-  carries_masks = refl;
-  carries_figs = refl;
-}
-
--- ---- versions
 same_turn : (k : Kind) → same_kind k k ≡ true
 same_turn kinds.Tick = refl
 same_turn kinds.Idle = refl
@@ -238,3 +270,8 @@ may_use h l v k cpu masks d least = record {
   carries_masks = tt;
   carries_figs = refl;
 }
+
+pub use_in_range : (h : Header) (l : LaneIs) (v : ℕ) (k : Kind) (cpu : ℕ) (masks : List Mask) (figs : List CpuFig)
+    → IsInRange l.course → cpu < MAX_CPUS → IsInRange (own_left h l (whats.Adopt v k cpu) masks figs)
+unfolding course_after
+use_in_range h l v k cpu masks figs r below = record { cpu = below; position = r.position; source = r.source }

@@ -17,21 +17,21 @@ use Rattle.lb_cell.specs.Draws.{MayAnswerUse}
 use Rattle.lb_cell.specs.Own.{DrewOwn}
 use Rattle.lb_cell.specs.Began.{uses}
 
-pub course_used : (h : Header) (l mid : LaneIs) (version cpu : ℕ) (masks : List Mask) (kind : Kind)
-    → DrewOwn h l mid (Adopt version kind cpu) masks [] → mid.course ≡ uses version masks kind cpu l.course
+pub course_used : (h : Header) (l mid : LaneIs) (version cpu ticket : ℕ) (masks : List Mask) (kind : Kind)
+    → DrewOwn h l mid (Adopt version kind cpu) masks [] ticket → mid.course ≡ uses version masks kind cpu l.course
 unfolding course_after
-course_used h l mid version cpu masks kind d = d.course
+course_used h l mid version cpu ticket masks kind d = d.course
 
-pub answers_now : (h : Header) (c : CellIs) (l mid : LaneIs) (version cpu : ℕ) (masks : List Mask) (kind : Kind)
-    → DrewOwn h l mid (Adopt version kind cpu) masks [] → AllBelow l.seat.next c.log.seat.list
+pub answers_now : (h : Header) (c : CellIs) (l mid : LaneIs) (version cpu ticket : ℕ) (masks : List Mask) (kind : Kind)
+    → DrewOwn h l mid (Adopt version kind cpu) masks [] ticket → AllBelow l.seat.next c.log.seat.list
     → waits_for_push kind l.course c.queue.state ≡ false → waits_for_stop kind c.queue.state ≡ false → MayAnswerUse c mid
-answers_now h c l mid version cpu masks kind d below push stop =
-    let course = course_used h l mid version cpu masks kind d in
+answers_now h c l mid version cpu ticket masks kind d below push stop =
+    let course = course_used h l mid version cpu ticket masks kind d in
     let q : QueueState = c.queue.state in
     record {
       before = λ i e lt.
           let b : (get_or c.log.seat.list i e).ticket < l.seat.next = below i e lt in
-          let later = d.later in
+          let later = d.above.0 in
           let held = d.held in
           omega (arith, b, later, held);
       push = subst (λ (x : Course). waits_for_push (turn_kind x) x q ≡ false) (sym course) push;

@@ -38,7 +38,8 @@ pub record TurnAnswered (h : Header) (code : Coded Journal) (c c' : CellIs) (l l
   pub kept : KeepsList l.seat followed
   pub read : followed.read ≡ l.seat.read ++ map (held_of code) c.log.seat.list
   pub mid : LaneIs
-  pub used : DrewOwn h (record l { seat = followed }) mid (Adopt version kind c.log.writer.cpu) masks []
+  pub ticket : ℕ
+  pub used : DrewOwn h (record l { seat = followed }) mid (Adopt version kind c.log.writer.cpu) masks [] ticket
   pub answered : Drew h c c' mid l' (turn_what r)
 
 -- what came of it

@@ -4,6 +4,7 @@ pub mod LastEntries
 pub mod Cells
 pub mod Draws
 pub mod Own
+pub mod Pubs
 pub mod Hands
 pub mod Serving
 pub mod Turns

@@ -9,6 +9,7 @@ use Rattle.lb_journal.specs.Journal.{Journal}
 use Rattle.lb_journal.specs.Merge.{queue_list}
 use Rattle.lb_journal.specs.Owners.{published, ReadsAll}
 use Rattle.lb_board.specs.Board.{Sight, seen_at, see}
+use Rattle.lb_cell.specs.Cells.{LaneIs}
 
 -- the figure was seen under its number, and is of an earlier ticket
 pub record Saw (s : Sight) (ticket : ℕ) (f : CpuFig) : Type 0 where
@@ -38,3 +39,12 @@ SawIsRead =
     (h : Header) (lists : List (List (Drawn Journal))) (s : Sight) (list : List (Drawn Journal)) →
     ((cpu : ℕ) → IsPrefix (seen_at s cpu) (published h cpu (queue_list lists cpu))) → SawAll s list →
     All (ReadsAll h lists) list
+
+-- ---- what a lane may do with its seat between two entries
+-- all but the seat is as it was, and of the seat the list
+pub record SameBut (l l' : LaneIs) : Type 0 where
+  pub number : l'.number ≡ l.number
+  pub course : l'.course ≡ l.course
+  pub known : l'.known ≡ l.known
+  pub landing : l'.landing ≡ l.landing
+  pub list : l'.seat.list ≡ l.seat.list

@@ -1,33 +1,34 @@
-//! The entries of a lane's own list: the rows and the versions that it takes up.
-ghost use Rattle.std.specs.Prelude.{◌≡◌, ◌<◌, ◌≤◌, ◌+◌, ◌^◌, ◌++◌, [], length, map, max, false, OnOk, OnErr};
+//! The entries of a lane's own list.
+ghost use Rattle.std.specs.Prelude.{◌≡◌, ◌<◌, ◌≤◌, ◌++◌, [], length, map, max};
 ghost use Rattle.lb_base.specs.declared.mask.TheConstants.{MAX_CPUS};
+ghost use Rattle.lb_trace.specs.declared.trace.Header.{Header as HeaderIs};
 ghost use Rattle.lb_ticket.specs.Facts.{held_of};
 ghost use Rattle.lb_ticket.specs.Seats.{KeepsList};
 ghost use Rattle.lb_ticket.specs.Tickets.{AllBelow};
-ghost use Rattle.lb_core.specs.declared.course.Form.TheVariants as form;
 ghost use Rattle.lb_core.specs.declared.entry.What.TheVariants as what;
-ghost use Rattle.lb_core.specs.Rules.{is_undeclared};
-ghost use Rattle.lb_cell.specs.Cells.{LaneKeeps};
-ghost use Rattle.lb_cell.specs.Own.{DrewOwn, IsTurnDue, MayDrawOwn, MayFollow, own_left};
+ghost use Rattle.lb_core.specs.Machine.{no_queue};
+ghost use Rattle.lb_core.specs.CourseAfter.{course_by};
+ghost use Rattle.lb_cell.specs.Cells.{IsInRange, LaneKeeps};
+ghost use Rattle.lb_cell.specs.Own.{DrewOwn, IsTurnDue, MayDrawOwn, MayFollow, OwnAsks, own_left, sight_from};
 
 use crate::draw::draw_noted;
 use crate::known::Known;
 use crate::lane::Lane;
 use crate::names::Names;
 use crate::shared::Shared;
-use lb_base::{Items, Kind, NoMemory};
+use lb_base::{Items, Kind};
 use lb_core::{Course, Entry, Figs, Owner, What};
-use lb_course::{asked, taken_up};
+use lb_course::{asked, looked, scanned, taken_up};
 use lb_journal::{Journal, Left};
 use lb_ticket::{Coding, Seat};
-use lb_trace::{Masks, Row};
+use lb_trace::{Command, Masks};
 use std::alloc::Global;
 use std::marker::Model;
 use std::snapshot::Snapshot;
 
 /// The lane as it was before an entry of its own. It has no bytes.
 #[derive(Drop)]
-pub(crate) struct LaneBefore<N: Names> {
+struct LaneBefore<N: Names> {
     lane: Snapshot<Lane<N>>,
     course: Snapshot<Course>,
 }
@@ -46,7 +47,7 @@ impl<N: Names> Model for LaneBefore<N> {
 
 impl<N: Names> LaneBefore<N> {
     /// The lane as it is now.
-    pub(crate) fn of(lane: &Lane<N>) -> LaneBefore<N>
+    fn of(lane: &Lane<N>) -> LaneBefore<N>
         ensures { result ≡ lane.now }
     {
         LaneBefore {
@@ -56,9 +57,9 @@ impl<N: Names> LaneBefore<N> {
     }
 }
 
-/// Draws an entry of a lane's own list, upon the lane as it was before it: its course has made its step. The masks or
-/// figures are those that the entry names.
-pub(crate) fn enter_own<N: Names>(
+/// Draws an entry of a lane's own list, upon the lane as it was before it, and answers its ticket: its course has made
+/// its step. The masks or figures are those that the entry names.
+fn enter_own<N: Names>(
     shared: &Shared<'_, N>,
     before: LaneBefore<N>,
     seat: &mut Seat<Journal>,
@@ -68,7 +69,7 @@ pub(crate) fn enter_own<N: Names>(
     what: What,
     masks: Snapshot<Masks>,
     figs: Snapshot<Figs>,
-)
+) -> u64
     requires lane { (number ≡ before.number) × (seat.old ≡ before.seat) × (known.old ≡ before.known) }
     requires spare { 0 < before.seat.spare }
     requires may { MayDrawOwn N.header before what masks.value figs.value }
@@ -78,7 +79,7 @@ pub(crate) fn enter_own<N: Names>(
         (record { number = number; course = course.now; known = known.new; seat = seat.new; landing = before.landing }) }
     ensures drew { DrewOwn N.header before
         (record { number = number; course = course.now; known = known.new; seat = seat.new; landing = before.landing })
-        what masks.value figs.value }
+        what masks.value figs.value result }
 {
     let LaneBefore {
         lane: _,
@@ -100,44 +101,63 @@ pub(crate) fn enter_own<N: Names>(
         masks,
         figs,
     );
-    draw_noted(shared.book, seat, known, item);
+    draw_noted(shared.book, seat, known, item)
+}
+
+// The course makes the step of an entry that carries these masks or figures. It has its own copy of a row's command.
+fn step(
+    alloc: Global,
+    course: &mut Course,
+    what: &What,
+    command: Option<Command>,
+    masks: Masks,
+    figs: Figs,
+)
+    requires { OwnAsks what.now course.old command }
+    ensures { (h : HeaderIs) → course.new ≡ course_by what.now (sight_from h course.old masks figs) 0 no_queue }
+{
+    match what {
+        What::Row { number, at, .. } => {
+            if let Some(command) = command {
+                asked(course, *number, *at, command);
+            }
+        }
+        What::Adopt { version, kind, cpu } => taken_up(course, *version, masks, *kind, *cpu),
+        What::Look {
+            figures,
+            decision,
+            ..
+        } => looked(course, figures.as_slice(), figs.as_slice(), *decision),
+        What::Scan { figures, target } => {
+            scanned(alloc, course, figures.as_slice(), figs, *target);
+        }
+        _ => unreachable!(),
+    }
 }
 
 impl<N: Names> Lane<N> {
-    /// Makes room for `k` entries of the lane's own list. It refuses for want of memory alone.
-    pub fn reserve(&mut self, k: u32) -> Result<(), NoMemory>
-        requires { length self.old.seat.list + k < 2 ^ 40 }
-        ensures same { (self.new.number ≡ self.old.number) × (self.new.course ≡ self.old.course)
-            × (self.new.known ≡ self.old.known) }
-        ensures list { (self.new.seat.list ≡ self.old.seat.list) × (self.new.seat.read ≡ self.old.seat.read) }
-        ensures ok { OnOk result (k ≤ self.new.seat.spare) }
-    {
-        self.seat.reserve(k as usize)
-    }
-
-    /// Takes up the lane's next row, by a `row`. A refusal changes nothing.
-    #[tactic(auto, unfolding(lb_core::specs::CourseAfter::course_after))]
-    pub fn take_up(
+    /// Draws an entry of the lane's own list, which the lane may draw, and answers its ticket. The entry carries the masks
+    /// of a `use`, or the figures of a look or a scan; `command` is a further copy of a row's command, which the course
+    /// keeps. There has to be room for it, so it takes no memory.
+    pub fn draw(
         &mut self,
         alloc: Global,
         shared: &Shared<'_, N>,
-        row: &Row,
-    ) -> Result<(), NoMemory>
+        what: What,
+        command: Option<Command>,
+        masks: Masks,
+        figs: Figs,
+    ) -> u64
         requires room { 0 < self.old.seat.spare }
-        requires rest { self.old.course.form ≡ form.Rest }
-        requires few { self.old.course.rows + 1 < 2 ^ 64 }
-        requires declared { is_undeclared N.header row.now.command ≡ false }
-        ensures drew { OnOk result
-            (DrewOwn N.header self.old self.new (what.Row (self.old.course.rows + 1) row.now.at row.now.command) [] []) }
-        ensures refused { OnErr result (self.new ≡ self.old) }
+        requires asks { OwnAsks what self.old.course command }
+        requires may { MayDrawOwn N.header self.old what masks figs }
+        requires range { IsInRange (own_left N.header self.old what masks figs) }
+        ensures { DrewOwn N.header self.old self.new what masks figs result }
     {
-        let said = row.command.copy(alloc)?;
-        let command = row.command.copy(alloc)?;
         let before = LaneBefore::of(self);
-        let number = self.course.rows + 1;
-        asked(&mut self.course, number, row.at, command);
-        let masks = Items::new(alloc);
-        let figs = Items::new(alloc);
+        let named_masks = Snapshot::of(&masks);
+        let named_figs = Snapshot::of(&figs);
+        step(alloc, &mut self.course, &what, command, masks, figs);
         enter_own(
             shared,
             before,
@@ -145,20 +165,15 @@ impl<N: Names> Lane<N> {
             self.number,
             &self.course,
             &mut self.known,
-            What::Row {
-                number,
-                at: row.at,
-                command: said,
-            },
-            Snapshot::of(&masks),
-            Snapshot::of(&figs),
-        );
-        Ok(())
+            what,
+            named_masks,
+            named_figs,
+        )
     }
 
-    /// Takes up a version, with its partition masks, for a turn of a CPU that is due, by a `use`. It takes no memory.
-    #[tactic(auto, unfolding(lb_core::specs::CourseAfter::course_after))]
-    pub fn adopt(
+    /// Takes up a version, with its partition masks, for a turn of a CPU that is due, by a `use`, and answers its ticket.
+    /// It takes no memory.
+    pub(crate) fn adopt(
         &mut self,
         alloc: Global,
         shared: &Shared<'_, N>,
@@ -166,28 +181,17 @@ impl<N: Names> Lane<N> {
         masks: Masks,
         kind: Kind,
         cpu: u32,
-    )
+    ) -> u64
         requires room { 0 < self.old.seat.spare }
         requires due { IsTurnDue self.old.course.form self.old.course kind cpu }
         requires version { max self.old.course.named_version 1 ≤ version }
         requires cpu { cpu < MAX_CPUS }
-        ensures { DrewOwn N.header self.old self.new (what.Adopt version kind cpu) masks [] }
+        ensures { DrewOwn N.header self.old self.new (what.Adopt version kind cpu) masks [] result }
     {
-        let before = LaneBefore::of(self);
-        let carried = Snapshot::of(&masks);
-        taken_up(&mut self.course, version, masks, kind, cpu);
+        self.keeps();
+        let what = What::Adopt { version, kind, cpu };
         let figs = Items::new(alloc);
-        enter_own(
-            shared,
-            before,
-            &mut self.seat,
-            self.number,
-            &self.course,
-            &mut self.known,
-            What::Adopt { version, kind, cpu },
-            carried,
-            Snapshot::of(&figs),
-        );
+        self.draw(alloc, shared, what, None, masks, figs)
     }
 
     /// Reads the list of a queue so far: what the lane draws from now on is later than all of it.

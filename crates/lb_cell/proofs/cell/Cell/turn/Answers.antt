@@ -13,7 +13,7 @@ use Rattle.lb_cell.proofs.cell.Cell.turn.Goals as goal
 pub answer_use-reply-requires-clause-due : goal.answer_use-reply-requires-clause-due
 answer_use-reply-requires-clause-due g c =
     let course =
-    course_used g.N.Names.header c.read_list.new.self c.adopt.new.self c.args.version c.cpu-cpu.result c.args.masks c.args.kind
+    course_used g.N.Names.header c.read_list.new.self c.adopt.new.self c.args.version c.cpu-cpu.result c.adopt.result c.args.masks c.args.kind
     c.adopt.ensures in
     record {
       form = ap (λ (x : Course). x.form) course;
@@ -24,7 +24,7 @@ pub answer_use-reply-requires-clause-topology : goal.answer_use-reply-requires-c
 answer_use-reply-requires-clause-topology g c =
     let h = g.N.Names.header in
     let course =
-    course_used h c.read_list.new.self c.adopt.new.self c.args.version c.cpu-cpu.result c.args.masks c.args.kind
+    course_used h c.read_list.new.self c.adopt.new.self c.args.version c.cpu-cpu.result c.adopt.result c.args.masks c.args.kind
     c.adopt.ensures in
     c.requires.topology ∙ ap (λ (x : Course). topology_of h.cpus h.distances x.masks) (sym course)
 
@@ -32,7 +32,7 @@ pub answer_use-reply-requires-clause-counters : goal.answer_use-reply-requires-c
 answer_use-reply-requires-clause-counters g c =
     let h = g.N.Names.header in
     let course =
-    course_used h c.read_list.new.self c.adopt.new.self c.args.version c.cpu-cpu.result c.args.masks c.args.kind
+    course_used h c.read_list.new.self c.adopt.new.self c.args.version c.cpu-cpu.result c.adopt.result c.args.masks c.args.kind
     c.adopt.ensures in
     let cpu : c.args.self.now.log.writer.cpu ≡ c.cpu-cpu.result = search rules in
     c.requires.counters
@@ -43,7 +43,7 @@ pub answer_use-reply-requires-clause-asks : goal.answer_use-reply-requires-claus
 answer_use-reply-requires-clause-asks g c =
     let h = g.N.Names.header in
     let course =
-    course_used h c.read_list.new.self c.adopt.new.self c.args.version c.cpu-cpu.result c.args.masks c.args.kind
+    course_used h c.read_list.new.self c.adopt.new.self c.args.version c.cpu-cpu.result c.adopt.result c.args.masks c.args.kind
     c.adopt.ensures in
     let cpu : c.args.self.now.log.writer.cpu ≡ c.cpu-cpu.result = search rules in
     let same : c.args.lane.now.course ≡ c.read_list.new.self.course = search rules in
@@ -66,5 +66,5 @@ answer_use-reply-requires-clause-answers g c =
     subst (λ (x : Course). waits_for_push c.args.kind x s.queue.state ≡ false) same
     (no_push c.args.kind c.lane.inside.course s.queue.state none) in
     let stop : waits_for_stop c.args.kind s.queue.state ≡ false = search rules in
-    answers_now h cell c.read_list.new.self c.adopt.new.self c.args.version c.cpu-cpu.result c.args.masks c.args.kind
+    answers_now h cell c.read_list.new.self c.adopt.new.self c.args.version c.cpu-cpu.result c.adopt.result c.args.masks c.args.kind
     c.adopt.ensures below push stop
