@@ -1,0 +1,11 @@
+mod Ranging
+mod Vouching
+mod Drawing
+mod Rows
+mod Looking
+mod Deciding
+mod Refusing
+mod Adopting
+mod Choosing
+mod Reading
+mod Versioning

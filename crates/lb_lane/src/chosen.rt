@@ -1,0 +1,12 @@
+use lb_base::Items;
+use lb_domain::Domain;
+use lb_trace::Masks;
+
+/// A version that a lane chose for a turn: its number from 1, its masks, and the domains of the turn's CPU in it.
+#[derive(Drop)]
+pub struct Chosen {
+    pub(crate) version: u64,
+    pub(crate) masks: Masks,
+    pub(crate) cpu: u32,
+    pub(crate) domains: Items<Domain>,
+}
