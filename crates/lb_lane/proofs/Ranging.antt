@@ -9,7 +9,7 @@ use Rattle.lb_base.specs.declared.shape.Kind.{Kind}
 use Rattle.lb_base.specs.declared.shape.Shape.{Shape}
 use Rattle.lb_base.specs.Greatest.{Picks}
 use Rattle.lb_imbalance.specs.declared.decision.Decision.{Decision}
-use Rattle.lb_imbalance.specs.declared.decision.Decision.TheVariants.{NotMine, Balanced, Pull}
+use Rattle.lb_imbalance.specs.declared.decision.Decision.TheVariants.{NotMine, Balanced}
 use Rattle.lb_imbalance.specs.declared.imbalance.Imbalance.{Imbalance}
 use Rattle.lb_imbalance.specs.Choice.{IsPullFrom, IsPull, EvensOut, FollowsBusiest, IsChoice, IsDecision}
 use Rattle.lb_imbalance.specs.Decision.{decision}
