@@ -14,3 +14,4 @@ mod Moving
 mod Turning
 mod Owning
 mod Using
+mod Plain
