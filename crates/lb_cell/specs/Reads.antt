@@ -2,14 +2,16 @@
 -- beginning of what its queue published, those that the queues published under these numbers.
 use Rattle.std.specs.Prelude.{ℕ, ◌≡◌, ◌<◌, List, Some, slice_get, All}
 use mathlib.Core.List.{IsPrefix}
+use base.Stored.{Coded}
 use Rattle.lb_trace.specs.declared.trace.Header.{Header}
 use Rattle.lb_core.specs.declared.entry.CpuFig.{CpuFig}
 use Rattle.lb_ticket.specs.declared.item.Drawn.{Drawn}
+use Rattle.lb_ticket.specs.Seats.{SeatIs}
 use Rattle.lb_journal.specs.Journal.{Journal}
 use Rattle.lb_journal.specs.Merge.{queue_list}
-use Rattle.lb_journal.specs.Owners.{published, ReadsAll}
+use Rattle.lb_journal.specs.Owners.{published, ReadsAll, SeatUses}
 use Rattle.lb_board.specs.Board.{Sight, seen_at, see}
-use Rattle.lb_cell.specs.Cells.{LaneIs}
+use Rattle.lb_cell.specs.Cells.{IsPlain, LaneIs}
 
 -- the figure was seen under its number, and is of an earlier ticket
 pub record Saw (s : Sight) (ticket : ℕ) (f : CpuFig) : Type 0 where
@@ -39,6 +41,13 @@ SawIsRead =
     (h : Header) (lists : List (List (Drawn Journal))) (s : Sight) (list : List (Drawn Journal)) →
     ((cpu : ℕ) → IsPrefix (seen_at s cpu) (published h cpu (queue_list lists cpu))) → SawAll s list →
     All (ReadsAll h lists) list
+
+-- what a cell keeps of its entries is what the merge asks of a queue's seat
+abbrev pub PlainIsKept : Type 0
+PlainIsKept =
+    (h : Header) (code : Coded Journal) (lists : List (List (Drawn Journal))) (s : SeatIs Journal) →
+    All (IsPlain h) s.list →
+    All (λ d. d.item.header ≡ h) s.list × SeatUses h code s × All (ReadsAll h lists) s.list
 
 -- ---- what a lane may do with its seat between two entries
 -- all but the seat is as it was, and of the seat the list
