@@ -8,11 +8,16 @@ use Rattle.lb_base.specs.declared.group.Stats.{Stats}
 use Rattle.lb_base.specs.declared.shape.Kind.{Kind}
 use Rattle.lb_base.specs.declared.shape.Shape.{Shape}
 use Rattle.lb_base.specs.Greatest.{Picks}
+use Rattle.lb_base.specs.Mask.{without}
+use Rattle.lb_busiest.specs.Ranking.{stats_at}
 use Rattle.lb_imbalance.specs.declared.decision.Decision.{Decision}
 use Rattle.lb_imbalance.specs.declared.decision.Decision.TheVariants.{NotMine, Balanced}
 use Rattle.lb_imbalance.specs.declared.imbalance.Imbalance.{Imbalance}
 use Rattle.lb_imbalance.specs.Choice.{IsPullFrom, IsPull, EvensOut, FollowsBusiest, IsChoice, IsDecision}
-use Rattle.lb_imbalance.specs.Decision.{decision}
+use Rattle.lb_imbalance.specs.Decision.{decision, group_at, all_stats, domain_average}
+use Rattle.lb_imbalance.specs.Balance.{is_level}
+use Rattle.lb_imbalance.specs.Amount.{imbalance_of}
+use Rattle.lb_imbalance.specs.Destination.{is_busy, may_balance}
 use Rattle.lb_domain.specs.declared.domain.Domain.{Domain}
 use Rattle.lb_trace.specs.declared.trace.Command.{Command}
 use Rattle.lb_trace.specs.declared.trace.Header.{Header}
@@ -52,13 +57,23 @@ busiest_below : (shape : Shape) (groups : List Mask) (figs : List Fig) (busy : B
     (o : Option ℕ) (d : Decision) → FollowsBusiest shape groups figs busy excluded stats o d → IsBelow d
 busiest_below shape groups figs busy excluded stats None d h = none_below d h
 busiest_below shape groups figs busy excluded stats (Some b) d h =
-    by_test _ (d ≡ Balanced) _ (IsBelow d) (none_below d) (evens_below figs _ _ d) h
+    let average = domain_average stats in
+    let local = stats_at stats 0 in
+    let busiest = stats_at stats b in
+    let group = without (group_at groups b) excluded in
+    let amount = imbalance_of shape busy average local busiest in
+    by_test (is_level shape busy average local busiest) (d ≡ Balanced) (EvensOut figs group amount d) (IsBelow d)
+    (none_below d) (evens_below figs group amount d) h
 
 decision_below : (shape : Shape) (groups : List Mask) (figs : List Fig) (cpu : ℕ) (kind : Kind) (excluded : Mask) (d : Decision)
     → IsDecision shape groups figs cpu kind excluded d → IsBelow d
 decision_below shape groups figs cpu kind excluded d h =
-    by_test _ (IsChoice shape groups figs _ excluded _ d) (d ≡ NotMine) (IsBelow d)
-    (λ (c : IsChoice shape groups figs _ excluded _ d). busiest_below shape groups figs _ excluded _ c.busiest d c.answer)
+    let busy = is_busy kind figs cpu in
+    let stats = all_stats shape groups figs excluded in
+    by_test (may_balance kind figs (group_at groups 0) cpu) (IsChoice shape groups figs busy excluded stats d)
+    (d ≡ NotMine) (IsBelow d)
+    (λ (c : IsChoice shape groups figs busy excluded stats d).
+    busiest_below shape groups figs busy excluded stats c.busiest d c.answer)
     (λ e. subst IsBelow (sym e) (omega arith)) h
 
 -- that each decision is the choice
