@@ -10,8 +10,6 @@ pub mod laws;
 mod mask;
 mod memory;
 mod shape;
-#[cfg(test)]
-mod tests;
 mod view;
 mod weight;
 

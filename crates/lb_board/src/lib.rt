@@ -11,8 +11,6 @@ mod cell;
 mod closing;
 mod posted;
 mod reader;
-#[cfg(test)]
-mod tests;
 mod writer;
 
 pub use board::Board;

@@ -4,8 +4,6 @@
 mod group;
 pub mod laws;
 mod queue;
-#[cfg(test)]
-mod tests;
 
 pub use group::busiest;
 pub use queue::source;

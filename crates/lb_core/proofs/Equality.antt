@@ -1,6 +1,6 @@
--- Where a test says that two values are equal, they are. For callers too.
+-- Where a test says that two values are equal, they are; and of a value and itself it says so. For callers too.
 use Rattle.std.proofs.Common.{◌≡◌, ◌==◌, ℕ, true, ◌&&◌, eqb, List, [], ◌∷◌, Option, Some, None, refl, ap}
-use Rattle.std.proofs.lemmas.Bool.{and_parts, eqb-true}
+use Rattle.std.proofs.lemmas.Bool.{and_from, and_parts, eqb-true}
 use Rattle.lb_base.specs.declared.mask.Mask.{Mask}
 use Rattle.lb_base.specs.declared.shape.Kind.{Kind}
 use Rattle.lb_base.specs.declared.shape.Kind.TheVariants.{Tick as TickTurn, Idle, Nohz}
@@ -99,3 +99,58 @@ reply_is NotHere NotHere h = refl
 reply_is Gone Gone h = refl
 reply_is BadMask BadMask h = refl
 reply_is r s h = absurd (let k : ⊥ = cc in k)
+
+-- ---- a value and itself
+pub equal_itself : (n : ℕ) → eqb n n ≡ true
+equal_itself n = grind arith
+
+pub mask_itself : (m : Mask) → same_mask m m ≡ true
+mask_itself m = equal_itself m.bits
+
+pub numbers_itself : (xs : List ℕ) → same_numbers xs xs ≡ true
+numbers_itself [] = refl
+numbers_itself (x ∷ xs) = and_from (x == x) _ (equal_itself x) (numbers_itself xs)
+
+pub number_itself : (o : Option ℕ) → same_number o o ≡ true
+number_itself None = refl
+number_itself (Some x) = equal_itself x
+
+pub kind_itself : (k : Kind) → same_kind k k ≡ true
+kind_itself TickTurn = refl
+kind_itself Idle = refl
+kind_itself Nohz = refl
+
+pub reply_itself : (r : Reply) → same_reply r r ≡ true
+reply_itself DoneReply = refl
+reply_itself Already = refl
+reply_itself NotHere = refl
+reply_itself Gone = refl
+reply_itself BadMask = refl
+
+pub ask_itself : (r : AskReply) → same_ask r r ≡ true
+ask_itself New = refl
+ask_itself Old = refl
+
+pub cause_itself : (c : OutCause) → same_cause c c ≡ true
+cause_itself WakeOut = refl
+cause_itself StopOut = refl
+cause_itself PullOut = refl
+cause_itself PushOut = refl
+
+pub word_itself : (w : OutcomeWord) → same_word w w ≡ true
+word_itself NotMineWord = refl
+word_itself BalancedWord = refl
+word_itself MovedWord = refl
+word_itself PinnedWord = refl
+word_itself FailedWord = refl
+word_itself AskingWord = refl
+
+move_itself : (k : MoveKind) → same_move k k ≡ true
+move_itself Load = refl
+move_itself Util = refl
+move_itself Tasks = refl
+
+pub decision_itself : (d : Decision) → same_decision d d ≡ true
+decision_itself NotMine = refl
+decision_itself Balanced = refl
+decision_itself (Pull s k i) = and_from _ (i == i) (and_from (s == s) _ (equal_itself s) (move_itself k)) (equal_itself i)

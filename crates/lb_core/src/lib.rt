@@ -17,6 +17,3 @@ pub use lb_queue::TaskRecord;
 pub use lists::{CounterRows, Entries, FigNames, Figs, Ids, Numbers, TaskRecords};
 pub use place::Place;
 pub use rule::Rule;
-
-#[cfg(test)]
-mod tests;

@@ -29,6 +29,3 @@ pub struct Env {
     /// The domain's cache tries: a hot task stays while there are no more failures than these.
     pub tries: u32,
 }
-
-#[cfg(test)]
-mod tests;

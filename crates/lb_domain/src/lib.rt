@@ -5,8 +5,6 @@ mod build;
 mod domain;
 pub mod laws;
 mod ring;
-#[cfg(test)]
-mod tests;
 mod topology;
 
 pub use domain::Domain;

@@ -8,7 +8,8 @@ use Rattle.lb_trace.specs.declared.trace.TheConstants.{MAX_BYTES}
 use Rattle.lb_trace.specs.Grammar.{trace_of, reading_of}
 use Rattle.lb_trace.specs.declared.trace.Row.{Row}
 use Rattle.lb_generator.specs.Generator.{row_drawn, rows_from}
-use Rattle.lb_generator.specs.Text.{lines_text, header_lines, row_line, text_drawn}
+use Rattle.lb_text.specs.Lines.{lines_text}
+use Rattle.lb_generator.specs.Text.{header_lines, row_line, text_drawn}
 use Rattle.lb_generator.specs.Laws.{AreAccepted, MomentsAreSmall}
 use Rattle.lb_generator.proofs.Fields.{is_short_line, cut_lines, lines_length}
 use Rattle.lb_generator.proofs.HeaderLines.{header_read, header_short, header_count, rows_count}

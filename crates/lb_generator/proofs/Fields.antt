@@ -17,7 +17,9 @@ use Rattle.std.specs.Str.Parse.{starts_with_minus}
 use Rattle.lb_trace.specs.Accepted.{is_nice_value}
 use Rattle.lb_fields.specs.Pieces.{is_plain_byte, is_plain}
 use Rattle.lb_text.proofs.Digits.{decimal_digits}
-use Rattle.lb_generator.specs.Text.{commas, line_of, lines_text}
+use Rattle.lb_text.specs.Lines.{lines_text, marked}
+use Rattle.lb_text.specs.declared.marks.TheConstants.{COMMA}
+use Rattle.lb_generator.specs.Text.{line_of}
 
 abbrev pub is_field_byte : ℕ → Bool
 is_field_byte b = is_plain_byte b && not (eqb b 44)
@@ -96,26 +98,26 @@ plain_field text e = plain_bytes text (and_parts (list_all is_field_byte text) _
 both_plain : (a b : List ℕ) → is_plain a ≡ true → is_plain b ≡ true → is_plain (a ++ b) ≡ true
 both_plain a b p q = rw (list_all-append is_plain_byte a b, p, q) refl
 
-commas_plain : (fields : List (List ℕ)) → list_all is_field fields ≡ true → is_plain (commas fields) ≡ true
+commas_plain : (fields : List (List ℕ)) → list_all is_field fields ≡ true → is_plain (marked COMMA fields) ≡ true
 commas_plain [] e = refl
 commas_plain (field ∷ fields) e =
     let p = and_parts (is_field field) _ e in
-    both_plain (44 ∷ field) (commas fields) (plain_field field p.0) (commas_plain fields p.1)
+    both_plain (44 ∷ field) (marked COMMA fields) (plain_field field p.0) (commas_plain fields p.1)
 
 pub line_plain : (word : List ℕ) (fields : List (List ℕ)) → list_all is_field (word ∷ fields) ≡ true
     → is_plain (line_of word fields) ≡ true
 line_plain word fields e =
     let p = and_parts (is_field word) _ e in
-    both_plain word (commas fields) (plain_field word p.0) (commas_plain fields p.1)
+    both_plain word (marked COMMA fields) (plain_field word p.0) (commas_plain fields p.1)
 
 -- ---- the length of a line
-commas_length : (fields : List (List ℕ)) → list_all is_field fields ≡ true → length (commas fields) ≤ 22 * length fields
+commas_length : (fields : List (List ℕ)) → list_all is_field fields ≡ true → length (marked COMMA fields) ≤ 22 * length fields
 commas_length [] e = omega arith
 commas_length (field ∷ fields) e =
     let p = and_parts (is_field field) _ e in
     let one = leb-true (length field) 21 (and_parts (list_all is_field_byte field) _ p.0).1 in
     let more = commas_length fields p.1 in
-    let l = length-append (44 ∷ field) (commas fields) in
+    let l = length-append (44 ∷ field) (marked COMMA fields) in
     omega (arith, one, more, l)
 
 -- a line that may stand in a trace, and is short
@@ -128,7 +130,7 @@ short_line word fields e few =
     let p = and_parts (is_field word) _ e in
     let one = leb-true (length word) 21 (and_parts (list_all is_field_byte word) _ p.0).1 in
     let more = commas_length fields p.1 in
-    let l = length-append word (commas fields) in
+    let l = length-append word (marked COMMA fields) in
     and_from (is_plain (line_of word fields)) _ (line_plain word fields e)
     (le-leb (length (line_of word fields)) 120 (omega (arith, one, more, l, few)))
 

@@ -9,7 +9,8 @@ use Rattle.lb_levels.specs.declared.cpu_row.CpuRow.{CpuRow}
 use Rattle.lb_trace.specs.declared.trace.Row.{Row}
 use Rattle.lb_trace.specs.declared.trace.TaskRow.{TaskRow}
 use Rattle.lb_generator.specs.Generator.{cpu_at, task_at, row_drawn, rows_from}
-use Rattle.lb_generator.specs.Text.{lines_text, cpu_line, task_line, lanes_line, cpu_lines, task_lines, distances_lines, header_lines, row_line}
+use Rattle.lb_text.specs.Lines.{lines_text}
+use Rattle.lb_generator.specs.Text.{cpu_line, task_line, lanes_line, cpu_lines, task_lines, distances_lines, header_lines, row_line}
 
 push_line : (lines : List (List ℕ)) (line : List ℕ) → lines_text (lines ++ line ∷ []) ≡ lines_text lines ++ (line ++ 10 ∷ [])
 push_line lines line =

@@ -2,9 +2,10 @@
 -- fields and a line feed at its end. It has no line `parts`: the partition is all CPUs. No mask is empty.
 use Rattle.std.specs.Prelude.{ℕ, List, [], ◌∷◌, ◌++◌, map, codes, decimal}
 use Rattle.std.specs.Fmt.{signed_decimal}
-use Rattle.std.specs.List.{flat_map, range_with_len}
+use Rattle.std.specs.List.{range_with_len}
 use Rattle.lb_levels.specs.declared.cpu_row.CpuRow.{CpuRow}
-use Rattle.lb_text.specs.declared.marks.TheConstants.{COMMA, LINE_FEED}
+use Rattle.lb_text.specs.declared.marks.TheConstants.{COMMA}
+use Rattle.lb_text.specs.Lines.{lines_text, marked}
 use Rattle.lb_text.specs.Runs.{list_text}
 use Rattle.lb_trace.specs.declared.trace.Command.{Command}
 use Rattle.lb_trace.specs.declared.trace.Command.TheVariants.{Wake, Sleep, Exit, SetMask, Nice, Tick, Rebuild}
@@ -13,17 +14,9 @@ use Rattle.lb_trace.specs.declared.trace.TaskRow.{TaskRow}
 use Rattle.lb_generator.specs.declared.rows.TheConstants.{CPUS, LANES, TASKS}
 use Rattle.lb_generator.specs.Generator.{cpu_at, task_at, distances, rows_from}
 
--- fields with a comma before each
-abbrev pub commas : List (List ℕ) → List ℕ
-commas fields = flat_map (λ field. COMMA ∷ field) fields
-
 -- the line of a word and fields
 abbrev pub line_of : List ℕ → List (List ℕ) → List ℕ
-line_of word fields = word ++ commas fields
-
--- the text of lines
-abbrev pub lines_text : List (List ℕ) → List ℕ
-lines_text lines = flat_map (λ line. line ++ LINE_FEED ∷ []) lines
+line_of word fields = word ++ marked COMMA fields
 
 -- ---- the header
 abbrev pub cpu_line : ℕ → CpuRow → List ℕ

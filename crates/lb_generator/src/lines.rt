@@ -2,7 +2,8 @@
 ghost use Rattle.std.specs.Prelude.{◌≡◌, ◌∷◌, ◌++◌, [], OnOk, map, codes, decimal};
 ghost use Rattle.std.specs.Fmt.{signed_decimal};
 ghost use Rattle.lb_text.specs.Runs.{list_text};
-ghost use Rattle.lb_generator.specs.Text.{commas, cpu_line, distances_line, lanes_line, task_line, row_word, row_fields, row_line};
+ghost use Rattle.lb_text.specs.Lines.{marked};
+ghost use Rattle.lb_generator.specs.Text.{cpu_line, distances_line, lanes_line, task_line, row_word, row_fields, row_line};
 
 use itoa::Buffer;
 use lb_base::{Mask, NoMemory};
@@ -64,7 +65,7 @@ pub(crate) fn put_task(id: u32, task: TaskRow, to: &mut Vec<u8>) -> Result<(), N
 
 // The CPUs of masks, each behind a comma.
 fn put_masks(parts: &[Mask], to: &mut Vec<u8>) -> Result<(), NoMemory>
-    ensures { OnOk result (to.new.items ≡ to.old.items ++ commas (map list_text parts.now)) }
+    ensures { OnOk result (to.new.items ≡ to.old.items ++ marked COMMA (map list_text parts.now)) }
 {
     for part in parts {
         put_cpus(*part, to)?;
@@ -89,7 +90,7 @@ fn row_word(command: &Command) -> &'static str
 
 // What stands behind a row's moment.
 fn put_row_fields(command: &Command, to: &mut Vec<u8>) -> Result<(), NoMemory>
-    ensures { OnOk result (to.new.items ≡ to.old.items ++ commas (row_fields command.now)) }
+    ensures { OnOk result (to.new.items ≡ to.old.items ++ marked COMMA (row_fields command.now)) }
 {
     match command {
         Command::Wake { task } | Command::Sleep { task } | Command::Exit { task } => {

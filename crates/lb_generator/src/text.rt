@@ -1,7 +1,8 @@
 //! The text of a drawn trace: its header, and then its rows.
 ghost use Rattle.std.specs.Prelude.{◌≡◌, ◌≤◌, ◌<◌, ◌++◌, map, IfOk, OnOk};
 ghost use Rattle.lb_generator.specs.Generator.{cpu_at, task_at, rows_from};
-ghost use Rattle.lb_generator.specs.Text.{lines_text, cpu_lines, task_lines, header_lines, row_line, text_drawn};
+ghost use Rattle.lb_text.specs.Lines.{lines_text};
+ghost use Rattle.lb_generator.specs.Text.{cpu_lines, task_lines, header_lines, row_line, text_drawn};
 
 use crate::draws::Draws;
 use crate::lines::{put_cpu, put_row, put_task};

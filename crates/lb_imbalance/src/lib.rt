@@ -7,8 +7,6 @@ mod destination;
 mod imbalance;
 pub mod laws;
 mod levels;
-#[cfg(test)]
-mod tests;
 
 pub use decision::{Decision, decide};
 pub use destination::busy;

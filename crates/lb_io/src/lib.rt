@@ -13,6 +13,3 @@ pub use memory::{MemSink, MemSource};
 pub use standard::{ReadSource, WriteSink};
 pub use stream::{Failed, Sink, Source};
 pub use whole::{ReadError, read_all, write_all};
-
-#[cfg(test)]
-mod tests;

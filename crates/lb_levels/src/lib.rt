@@ -9,8 +9,6 @@ mod machine;
 mod parts;
 mod rows;
 mod span;
-#[cfg(test)]
-mod tests;
 
 pub use cpu_row::CpuRow;
 pub use faults::{MachineError, PartsFault};

@@ -13,8 +13,6 @@ mod record;
 mod stops;
 mod sums;
 mod task;
-#[cfg(test)]
-mod tests;
 mod views;
 
 pub use answers::{AskReply, OpenTurn, OutCause, Reply, Stop, Taken, TurnReply};

@@ -35,7 +35,7 @@ use Rattle.lb_trace.specs.Grammar.{◌>>=◌, after, line_at, ended, on_line, li
 use Rattle.lb_trace.specs.FirstBad.{is_bad}
 use Rattle.lb_trace.specs.Accepted.{is_cpu, is_distance, is_mask, is_task, IsHeader}
 use Rattle.lb_trace.proofs.GoodLine.{IsGood}
-use Rattle.lb_record.specs.Lines.{joined, numbered}
+use Rattle.lb_text.specs.Lines.{joined, numbered}
 use Rattle.lb_record.proofs.Bytes.{over, EachOver, each_weaker, each_map, decimal_over, signed_over}
 use Rattle.lb_record.proofs.Spelled.{runs_over, header_over}
 use Rattle.lb_record.proofs.Cut.{cut_lines, cut_fields}

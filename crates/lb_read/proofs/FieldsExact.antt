@@ -29,7 +29,7 @@ use Rattle.lb_trace.specs.Accepted.{is_mask, is_nice_value}
 use Rattle.lb_core.specs.declared.entry.FigName.{FigName}
 use Rattle.lb_core.specs.declared.entry.Owner.{Owner}
 use Rattle.lb_core.specs.declared.entry.Owner.TheVariants as owners
-use Rattle.lb_record.specs.Lines.{joined}
+use Rattle.lb_text.specs.Lines.{joined}
 use Rattle.lb_record.specs.Fields.{ids_text, figure_text, figures_text, target_text}
 use Rattle.lb_record.specs.Entries.{owner_text}
 use Rattle.lb_record.proofs.Empty.{runs_none, list_some}

@@ -4,7 +4,7 @@ use Rattle.std.specs.Prelude.{codes, not}
 use Rattle.std.proofs.lemmas.List.{append-nil}
 use Rattle.std.proofs.lemmas.Bool.{leb-true, and_parts}
 use Rattle.lb_trace.specs.declared.trace.TheConstants.{MAX_BYTES}
-use Rattle.lb_record.specs.Lines.{lines_text}
+use Rattle.lb_text.specs.Lines.{lines_text}
 use Rattle.lb_read.specs.Repeats.{is_repeated, can_repeat, is_parts, Head, none_of, in_head, has_room, head_of}
 use Rattle.lb_read.specs.Texts.{lines_of, trace_text, head_behind}
 use Rattle.lb_read.proofs.TextFacts.{some_lines}

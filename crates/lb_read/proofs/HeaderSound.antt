@@ -15,7 +15,7 @@ use Rattle.lb_trace.specs.declared.kind.LineKind.TheVariants as kinds
 use Rattle.lb_trace.specs.declared.reading.Reading.{Reading}
 use Rattle.lb_trace.specs.Values.{number, number_at, nice_at, list_at, id_in, lanes_in, cpu_of, distances_in, masks_from, task_of}
 use Rattle.lb_trace.proofs.GoodLine.{IsGood}
-use Rattle.lb_record.specs.Lines.{joined, numbered}
+use Rattle.lb_text.specs.Lines.{joined, numbered}
 use Rattle.lb_read.specs.Repeats.{is_spelled}
 use Rattle.lb_read.proofs.HeaderValues.{number_field, nice_field, list_field, numbers_field, lists_field}
 

@@ -27,7 +27,7 @@ use Rattle.lb_trace.specs.Sound.{AreLanes, AreParts, IsSound}
 use Rattle.lb_trace.proofs.FirstCode.{passes}
 use Rattle.lb_trace.proofs.GoodLine.{IsGood, both_good, good_line}
 use Rattle.lb_trace.proofs.SoundFacts.{sound_start, sound_line}
-use Rattle.lb_record.specs.Lines.{joined}
+use Rattle.lb_text.specs.Lines.{joined}
 use Rattle.lb_read.specs.Repeats.{is_spelled, fields_declare, can_repeat, fields_part, is_parts}
 use Rattle.lb_read.specs.FirstBad.{version_read}
 use Rattle.lb_read.proofs.Common.{or_false, or_true, is_none_from}

@@ -10,7 +10,7 @@ use Rattle.lb_base.specs.Mask.{members}
 use Rattle.lb_fields.specs.Pieces.{is_plain_byte, is_plain}
 use Rattle.lb_text.specs.Lists.{Run}
 use Rattle.lb_text.specs.Runs.{runs_of, run_text, runs_text}
-use Rattle.lb_record.specs.Lines.{joined, marked}
+use Rattle.lb_text.specs.Lines.{joined, marked}
 
 -- each text is plain
 abbrev pub AllPlain : List (List ℕ) → Type 0

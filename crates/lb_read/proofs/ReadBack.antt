@@ -4,7 +4,7 @@ use Rattle.std.specs.List.{list_all}
 use Rattle.lb_core.specs.declared.entry.Entry.{Entry}
 use Rattle.lb_core.specs.declared.history.History.{History}
 use Rattle.lb_core.specs.Ranges.{entry_fits, fit_from}
-use Rattle.lb_record.specs.Lines.{lines_text, numbered}
+use Rattle.lb_text.specs.Lines.{lines_text, numbered}
 use Rattle.lb_record.specs.Header.{header_lines}
 use Rattle.lb_record.specs.Entries.{entry_line}
 use Rattle.lb_record.specs.History.{history_lines, history_text, text_of}

@@ -11,7 +11,7 @@ use Rattle.lb_trace.specs.declared.trace.Header.{Header}
 use Rattle.lb_trace.specs.declared.reading.Reading.{Reading}
 use Rattle.lb_trace.specs.Grammar.{◌>>=◌, line_at, ended, on_line, lines_from, nothing_read, trace_of, reading_of}
 use Rattle.lb_trace.proofs.FirstBadLines.{line_next}
-use Rattle.lb_record.specs.Lines.{lines_text}
+use Rattle.lb_text.specs.Lines.{lines_text}
 use Rattle.lb_read.specs.declared.written.WrittenEntry.{WrittenEntry}
 use Rattle.lb_read.specs.declared.written.Read.{Read}
 use Rattle.lb_read.specs.declared.written.RecordError.{RecordError}

@@ -26,7 +26,7 @@ use Rattle.lb_trace.specs.Grammar.{after_line, line_at, ended, lines_from, nothi
 use Rattle.lb_trace.specs.FirstBad.{is_bad}
 use Rattle.lb_trace.proofs.FirstCode.{passes}
 use Rattle.lb_trace.proofs.GoodLine.{IsGood, both_good, good_line}
-use Rattle.lb_record.specs.Lines.{joined, marked, lines_text, numbered}
+use Rattle.lb_text.specs.Lines.{joined, marked, lines_text, numbered}
 use Rattle.lb_read.proofs.FieldsExact.{joined_is}
 use Rattle.lb_read.proofs.HeaderValues.{number_field, nice_field}
 use Rattle.lb_read.proofs.HeaderSound.{bodies, cpu_body, distances_body, parts_body, lanes_body, task_body, cpu_text, distances_text, lanes_text, four_fields}

@@ -21,7 +21,7 @@ use Rattle.lb_trace.specs.declared.trace.TheConstants.{MAX_BYTES}
 use Rattle.lb_trace.specs.declared.trace.Header.{Header}
 use Rattle.lb_trace.specs.Accepted.{is_cpu, is_distance, is_nice_value, is_task, IsHeader}
 use Rattle.lb_trace.proofs.SoundLists.{all_also}
-use Rattle.lb_record.specs.Lines.{marked, lines_text, numbered}
+use Rattle.lb_text.specs.Lines.{marked, lines_text, numbered}
 use Rattle.lb_read.specs.Texts.{trace_text}
 use Rattle.lb_read.specs.Whole.{trace_lines}
 use Rattle.lb_read.proofs.HeaderSound.{bodies, cpu_body, distances_body, parts_body, lanes_body, task_body}

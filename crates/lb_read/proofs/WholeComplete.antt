@@ -23,7 +23,7 @@ use Rattle.lb_trace.specs.declared.trace.Code.{Code}
 use Rattle.lb_trace.specs.Accepted.{is_mask, is_task, IsHeader}
 use Rattle.lb_trace.specs.Grammar.{reading_of}
 use Rattle.lb_trace.proofs.AcceptedFacts.{reading_is_trace}
-use Rattle.lb_record.specs.Lines.{joined, lines_text, numbered}
+use Rattle.lb_text.specs.Lines.{joined, lines_text, numbered}
 use Rattle.lb_record.specs.Header.{cpu_line, distances_line, parts_line, lanes_line, task_line, header_lines}
 use Rattle.lb_record.specs.Entries.{entry_line}
 use Rattle.lb_record.proofs.Bytes.{over, EachOver, each_weaker, each_append, each_map, decimal_over, signed_over}

@@ -18,7 +18,7 @@ use Rattle.lb_trace.specs.declared.trace.Header.{Header}
 use Rattle.lb_trace.specs.declared.trace.Trace.{Trace}
 use Rattle.lb_trace.specs.declared.reading.Reading.{Reading}
 use Rattle.lb_trace.specs.Grammar.{◌>>=◌, lines_from, nothing_read, trace_of, reading_of}
-use Rattle.lb_record.specs.Lines.{lines_text, numbered}
+use Rattle.lb_text.specs.Lines.{lines_text, numbered}
 use Rattle.lb_record.specs.Header.{cpu_line, distances_line, parts_line, lanes_line, task_line, header_lines}
 use Rattle.lb_read.specs.declared.written.WrittenEntry.{WrittenEntry}
 use Rattle.lb_read.specs.declared.written.Read.{Read}

@@ -1,4 +1,5 @@
--- How it is read what an entry says: the fields behind the word of its kind.
+-- How it is read what an entry says: the fields behind the word of its kind. It is trusted: by Entries, FirstBad and Laws
+-- rest on it.
 use Rattle.std.specs.Prelude.{ℕ, List, Option}
 use Rattle.lb_base.specs.declared.shape.Kind.{Kind}
 use Rattle.lb_queue.specs.declared.answers.Reply.{Reply}

@@ -9,7 +9,7 @@ use Rattle.lb_trace.specs.declared.trace.Code.{Code}
 use Rattle.lb_trace.specs.declared.trace.Header.{Header}
 use Rattle.lb_trace.specs.declared.trace.Trace.{Trace}
 use Rattle.lb_trace.specs.Grammar.{reading_of}
-use Rattle.lb_record.specs.Lines.{lines_text}
+use Rattle.lb_text.specs.Lines.{lines_text}
 use Rattle.lb_read.specs.declared.written.WrittenEntry.{WrittenEntry}
 use Rattle.lb_read.specs.declared.written.Read.{Read}
 use Rattle.lb_read.specs.declared.written.RecordError.{RecordError}

@@ -18,6 +18,7 @@ use Rattle.lb_queue.specs.declared.answers.Reply.{Reply}
 use Rattle.lb_queue.specs.declared.answers.Reply.TheVariants.{Done as DoneReply, Already, NotHere, Gone, BadMask}
 use Rattle.lb_queue.specs.Tasks.{ids}
 use Rattle.lb_queue.specs.Laws.{AskedIsNext}
+use Rattle.lb_core.proofs.Equality.{numbers_itself, cause_itself}
 use Rattle.lb_core.specs.declared.course.Course.{Course}
 use Rattle.lb_core.specs.declared.course.Form.{Form}
 use Rattle.lb_core.specs.declared.entry.FigName.{FigName}
@@ -153,55 +154,6 @@ may_be_added m e h = rw (
   h Owed,
   h EndRule,
 ) refl
-
--- ---- equal things are the same
-pub numbers_itself : (xs : List ℕ) → same_numbers xs xs ≡ true
-numbers_itself [] = refl
-numbers_itself (x ∷ xs) = and_from (x == x) _ (eq-eqb x x refl) (numbers_itself xs)
-
-pub number_itself : (o : Option ℕ) → same_number o o ≡ true
-number_itself None = refl
-number_itself (Some x) = eq-eqb x x refl
-
-pub kind_itself : (k : Kind) → same_kind k k ≡ true
-kind_itself TickTurn = refl
-kind_itself Idle = refl
-kind_itself Nohz = refl
-
-pub reply_itself : (r : Reply) → same_reply r r ≡ true
-reply_itself DoneReply = refl
-reply_itself Already = refl
-reply_itself NotHere = refl
-reply_itself Gone = refl
-reply_itself BadMask = refl
-
-pub ask_itself : (r : AskReply) → same_ask r r ≡ true
-ask_itself New = refl
-ask_itself Old = refl
-
-cause_itself : (c : OutCause) → same_cause c c ≡ true
-cause_itself WakeOut = refl
-cause_itself StopOut = refl
-cause_itself PullOut = refl
-cause_itself PushOut = refl
-
-pub word_itself : (w : OutcomeWord) → same_word w w ≡ true
-word_itself NotMineWord = refl
-word_itself BalancedWord = refl
-word_itself MovedWord = refl
-word_itself PinnedWord = refl
-word_itself FailedWord = refl
-word_itself AskingWord = refl
-
-move_itself : (k : MoveKind) → same_move k k ≡ true
-move_itself Load = refl
-move_itself Util = refl
-move_itself Tasks = refl
-
-pub decision_itself : (d : Decision) → same_decision d d ≡ true
-decision_itself NotMine = refl
-decision_itself Balanced = refl
-decision_itself (Pull s k i) = and_from _ (i == i) (and_from (s == s) _ (eq-eqb s s refl) (move_itself k)) (eq-eqb i i refl)
 
 pub not_not : (b : Bool) → b ≡ true → not b ≡ false
 not_not b h = rw h refl

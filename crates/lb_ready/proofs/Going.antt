@@ -49,7 +49,8 @@ use Rattle.lb_core.specs.Serial.{are_newest}
 use Rattle.lb_ready.specs.Ready.{NamesPublished, HasSizes, Names, FitsForm, unnamed}
 use Rattle.lb_ready.specs.Next.{cpu_of_place, cpu_of_task, cpu_open, cpu_next, queue_next, bare, newest, look_over, scan_over, close_of, out_of, what_by, is_answerable}
 use Rattle.lb_ready.proofs.Counting.{least_found}
-use Rattle.lb_ready.proofs.Due.{seen, Keeps, or_none, numbers_itself, number_itself, kind_itself, reply_itself, ask_itself, word_itself, decision_itself, not_not, Draws, Next, draws_by, Knows, stage_by, same, queue_there, out_goes}
+use Rattle.lb_core.proofs.Equality.{numbers_itself, number_itself, kind_itself, reply_itself, ask_itself, word_itself, decision_itself, mask_itself}
+use Rattle.lb_ready.proofs.Due.{seen, Keeps, or_none, not_not, Draws, Next, draws_by, Knows, stage_by, same, queue_there, out_goes}
 use Rattle.lb_ready.proofs.Steps.{known_answers}
 
 -- ---- landings, ends of turns and requests
@@ -106,9 +107,6 @@ kicking_goes m lane c k h =
     subst (λ (cpu : ℕ). Draws Kicking m lane c cpu (Kick (kick (queue_at m.queues cpu) c.at).0)) e (kicked m lane c t.0 k t.1)
 
 -- ---- the answer to a turn
-mask_itself : (x : Mask) → same_mask x x ≡ true
-mask_itself x = same x.bits
-
 none_some : {A : Type 0} (o : Option A) → is_some o ≡ true → is_none o ≡ false
 none_some None h = absurd (let y : ⊥ = cc in y)
 none_some (Some x) h = refl

@@ -8,7 +8,7 @@ use Rattle.std.proofs.lemmas.Bool.Decides.{nat_tests}
 use Rattle.std.proofs.lemmas.List.Folds.{list_all-append}
 use Rattle.std.proofs.lemmas.List.Sums.{AllPass-from_list_all}
 use Rattle.std.proofs.lemmas.List.Elements.{All-weaker}
-use Rattle.lb_record.specs.Lines.{joined, marked, numbered}
+use Rattle.lb_text.specs.Lines.{joined, marked, numbered}
 
 -- each byte is greater than k
 abbrev pub over : ℕ → List ℕ → Bool

@@ -4,7 +4,7 @@ use Rattle.std.specs.List.{slice_split}
 use Rattle.std.proofs.lemmas.List.{append-nil}
 use Rattle.std.proofs.lemmas.List.Splits.{slice_split_none, slice_split_at}
 use Rattle.std.proofs.lemmas.Bool.{eq-eqb}
-use Rattle.lb_record.specs.Lines.{joined, marked, lines_text}
+use Rattle.lb_text.specs.Lines.{joined, marked, lines_text}
 use Rattle.lb_record.proofs.Bytes.{EachOver, free}
 
 -- lines that have no line feed

@@ -13,7 +13,7 @@ use Rattle.lb_core.specs.declared.entry.Owner.TheVariants as owners
 use Rattle.lb_core.specs.declared.entry.What.{What}
 use Rattle.lb_core.specs.declared.entry.What.TheVariants as whats
 use Rattle.lb_core.specs.declared.entry.Entry.{Entry}
-use Rattle.lb_record.specs.Lines.{joined}
+use Rattle.lb_text.specs.Lines.{joined}
 use Rattle.lb_record.specs.Words.{turn_word, move_word, reply_word, request_word, cause_word, outcome_word}
 use Rattle.lb_record.specs.Fields.{ids_text, figures_text, target_text}
 

@@ -3,7 +3,7 @@
 use Rattle.std.specs.Prelude.{ℕ, Option, Some, None, List, [], ◌∷◌, ◌++◌, map, codes, decimal}
 use Rattle.lb_text.specs.declared.marks.TheConstants.{COLON, COMMA, SEMICOLON}
 use Rattle.lb_core.specs.declared.entry.FigName.{FigName}
-use Rattle.lb_record.specs.Lines.{joined}
+use Rattle.lb_text.specs.Lines.{joined}
 
 -- numbers of tasks
 abbrev pub ids_text : List ℕ → List ℕ

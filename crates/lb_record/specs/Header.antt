@@ -9,7 +9,7 @@ use Rattle.lb_text.specs.declared.marks.TheConstants.{COMMA}
 use Rattle.lb_text.specs.Runs.{runs_text}
 use Rattle.lb_trace.specs.declared.trace.TaskRow.{TaskRow}
 use Rattle.lb_trace.specs.declared.trace.Header.{Header}
-use Rattle.lb_record.specs.Lines.{joined, lines_text, numbered}
+use Rattle.lb_text.specs.Lines.{joined, lines_text, numbered}
 
 -- a line of a trace, as a history repeats it
 abbrev pub repeated : List (List ℕ) → List ℕ

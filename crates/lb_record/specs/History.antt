@@ -4,7 +4,7 @@ use Rattle.std.specs.Prelude.{ℕ, List, ◌++◌}
 use Rattle.lb_trace.specs.declared.trace.Header.{Header}
 use Rattle.lb_core.specs.declared.entry.Entry.{Entry}
 use Rattle.lb_core.specs.declared.history.History.{History}
-use Rattle.lb_record.specs.Lines.{lines_text, numbered}
+use Rattle.lb_text.specs.Lines.{lines_text, numbered}
 use Rattle.lb_record.specs.Header.{header_lines}
 use Rattle.lb_record.specs.Entries.{entry_line}
 

@@ -3,7 +3,7 @@ ghost use Rattle.std.specs.Prelude.{◌≡◌, true, ◌∷◌, ◌++◌, [], On
 ghost use Rattle.lb_text.specs.Runs.{list_text};
 ghost use Rattle.lb_core.specs.declared.entry.What.TheVariants as whats;
 ghost use Rattle.lb_core.specs.Ranges.{entry_fits};
-ghost use Rattle.lb_record.specs.Lines.{joined, marked, StillStands};
+ghost use Rattle.lb_text.specs.Lines.{joined, marked, StillStands};
 ghost use Rattle.lb_record.specs.Entries.{owner_text, command_fields, decision_fields, what_fields, entry_line};
 
 use crate::fields::{

@@ -2,7 +2,7 @@
 ghost use Rattle.std.specs.Prelude.{◌≡◌, ◌∷◌, ◌++◌, OnOk, OnErr, map, decimal};
 ghost use Rattle.std.specs.Fmt.{signed_decimal};
 ghost use Rattle.lb_text.specs.Runs.{list_text, runs_text};
-ghost use Rattle.lb_record.specs.Lines.{marked, StillStands};
+ghost use Rattle.lb_text.specs.Lines.{marked, StillStands};
 ghost use Rattle.lb_record.specs.Fields.{ids_text, figure_text, figures_text, target_text};
 
 use itoa::Buffer;

@@ -3,7 +3,7 @@ ghost use Rattle.std.specs.Prelude.{◌≡◌, ◌∷◌, ◌++◌, [], OnOk, On
 ghost use Rattle.std.specs.Fmt.{signed_decimal};
 ghost use Rattle.lb_text.specs.Runs.{runs_text};
 ghost use Rattle.lb_trace.specs.Accepted.{IsHeader};
-ghost use Rattle.lb_record.specs.Lines.{lines_text, marked, numbered, StillStands};
+ghost use Rattle.lb_text.specs.Lines.{lines_text, marked, numbered, StillStands};
 ghost use Rattle.lb_record.specs.Header.{cpu_line, distances_line, parts_line, lanes_line, task_line, header_text};
 
 use crate::fields::{put_count, put_counts, put_nice, put_runs};

@@ -2,7 +2,7 @@
 ghost use Rattle.std.specs.Prelude.{◌≡◌, ◌++◌, true, IfOk, OnOk};
 ghost use Rattle.lb_trace.specs.Accepted.{IsHeader};
 ghost use Rattle.lb_core.specs.Ranges.{entries_fit};
-ghost use Rattle.lb_record.specs.Lines.{lines_text, numbered};
+ghost use Rattle.lb_text.specs.Lines.{lines_text, numbered};
 ghost use Rattle.lb_record.specs.Entries.{entry_line};
 ghost use Rattle.lb_record.specs.History.{history_text};
 

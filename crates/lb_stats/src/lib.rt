@@ -2,8 +2,6 @@
 #![tactic(auto)]
 
 mod statistics;
-#[cfg(test)]
-mod tests;
 mod types;
 
 pub use statistics::group_stats;

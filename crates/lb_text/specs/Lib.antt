@@ -4,4 +4,5 @@ pub mod Scan
 pub mod Lists
 pub mod Pieces
 pub mod Runs
+pub mod Lines
 pub mod Laws

@@ -14,8 +14,6 @@ mod note;
 mod rule;
 mod seat;
 mod steps;
-#[cfg(test)]
-mod tests;
 mod view;
 
 pub use book::{Book, Lists};

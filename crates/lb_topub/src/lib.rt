@@ -11,8 +11,6 @@ mod history;
 mod looker;
 mod publisher;
 mod shown;
-#[cfg(test)]
-mod tests;
 
 pub use closing::gather;
 pub use looker::{Looked, Looker};

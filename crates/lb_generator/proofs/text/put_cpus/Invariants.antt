@@ -1,5 +1,6 @@
 use Rattle.std.proofs.Common.{◌≡◌, ◌++◌}
-use Rattle.lb_generator.specs.Text.{lines_text, cpu_lines}
+use Rattle.lb_text.specs.Lines.{lines_text}
+use Rattle.lb_generator.specs.Text.{cpu_lines}
 use Rattle.lb_generator.proofs.text.put_cpus.Given as goal
 
 abbrev pub invariant-loop-i : goal.invariant-loop-i

@@ -1,5 +1,6 @@
 use Rattle.std.proofs.Common.{◌≡◌, ℕ, List, ◌++◌, sym, ap, ◌∙◌, codes}
-use Rattle.lb_generator.specs.Text.{lines_text, cpu_lines, task_lines, header_lines}
+use Rattle.lb_text.specs.Lines.{lines_text}
+use Rattle.lb_generator.specs.Text.{cpu_lines, task_lines, header_lines}
 use Rattle.lb_generator.proofs.Growing.{header_text, five_parts}
 use Rattle.lb_generator.proofs.text.put_header.Goals as goal
 

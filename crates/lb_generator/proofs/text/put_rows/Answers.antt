@@ -1,7 +1,8 @@
 use Rattle.std.proofs.Common.{ℕ, ◌+◌, ◌-◌, List, [], ◌∷◌, ◌++◌, map, sym, ap, ◌∙◌, arith}
 use Rattle.std.proofs.lemmas.List.{append-nil}
 use Rattle.lb_generator.specs.Generator.{rows_from}
-use Rattle.lb_generator.specs.Text.{lines_text, row_line}
+use Rattle.lb_text.specs.Lines.{lines_text}
+use Rattle.lb_generator.specs.Text.{row_line}
 use Rattle.lb_generator.proofs.Growing.{rows_end, next_row, one_less}
 use Rattle.lb_generator.proofs.text.put_rows.Goals as goal
 

@@ -1,6 +1,7 @@
 use Rattle.std.proofs.Common.{◌≡◌, ◌-◌, ◌++◌, map}
 use Rattle.lb_generator.specs.Generator.{rows_from}
-use Rattle.lb_generator.specs.Text.{lines_text, row_line}
+use Rattle.lb_text.specs.Lines.{lines_text}
+use Rattle.lb_generator.specs.Text.{row_line}
 use Rattle.lb_generator.proofs.text.put_rows.Given as goal
 
 abbrev pub invariant-loop-i : goal.invariant-loop-i

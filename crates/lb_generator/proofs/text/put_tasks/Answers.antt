@@ -1,6 +1,7 @@
 use Rattle.std.proofs.Common.{ℕ, ◌+◌, List, [], ◌∷◌, ◌++◌, sym, ap, ◌∙◌}
 use Rattle.std.proofs.lemmas.List.{append-nil}
-use Rattle.lb_generator.specs.Text.{lines_text, task_line, task_lines}
+use Rattle.lb_text.specs.Lines.{lines_text}
+use Rattle.lb_generator.specs.Text.{task_line, task_lines}
 use Rattle.lb_generator.proofs.Growing.{no_task_lines, more_task_lines, one_more}
 use Rattle.lb_generator.proofs.text.put_tasks.Goals as goal
 

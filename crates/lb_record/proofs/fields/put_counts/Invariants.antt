@@ -1,5 +1,5 @@
 use Rattle.std.proofs.Common.{◌≡◌, ◌++◌, map, drop, decimal}
-use Rattle.lb_record.specs.Lines.{marked, StillStands}
+use Rattle.lb_text.specs.Lines.{marked, StillStands}
 use Rattle.lb_record.proofs.fields.put_counts.Given as goal
 
 abbrev pub invariant-loop-number : goal.invariant-loop-number

@@ -1,6 +1,6 @@
 use Rattle.std.proofs.Common.{◌≡◌, ◌++◌, map, drop}
 use Rattle.lb_text.specs.Runs.{list_text}
-use Rattle.lb_record.specs.Lines.{marked, StillStands}
+use Rattle.lb_text.specs.Lines.{marked, StillStands}
 use Rattle.lb_record.proofs.fields.put_masks.Given as goal
 
 abbrev pub invariant-loop-mask : goal.invariant-loop-mask

@@ -1,5 +1,5 @@
 use Rattle.std.proofs.Common.{◌≡◌, ◌++◌, map, drop}
-use Rattle.lb_record.specs.Lines.{marked, StillStands}
+use Rattle.lb_text.specs.Lines.{marked, StillStands}
 use Rattle.lb_record.specs.Fields.{figure_text}
 use Rattle.lb_record.proofs.fields.put_more_figures.Given as goal
 

@@ -1,5 +1,5 @@
 use Rattle.std.proofs.Common.{◌≡◌, ◌++◌, drop}
-use Rattle.lb_record.specs.Lines.{lines_text, numbered, StillStands}
+use Rattle.lb_text.specs.Lines.{lines_text, numbered, StillStands}
 use Rattle.lb_record.specs.Header.{cpu_line}
 use Rattle.lb_record.proofs.header.put_cpus.Given as goal
 

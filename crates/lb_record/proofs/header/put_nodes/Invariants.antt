@@ -1,5 +1,5 @@
 use Rattle.std.proofs.Common.{◌≡◌, ◌++◌, map, drop}
-use Rattle.lb_record.specs.Lines.{lines_text, StillStands}
+use Rattle.lb_text.specs.Lines.{lines_text, StillStands}
 use Rattle.lb_record.specs.Header.{distances_line}
 use Rattle.lb_record.proofs.header.put_nodes.Given as goal
 

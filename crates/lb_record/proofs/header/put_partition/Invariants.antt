@@ -1,6 +1,6 @@
 use Rattle.std.proofs.Common.{◌≡◌, ◌++◌, map, drop}
 use Rattle.lb_text.specs.Runs.{runs_text}
-use Rattle.lb_record.specs.Lines.{marked, StillStands}
+use Rattle.lb_text.specs.Lines.{marked, StillStands}
 use Rattle.lb_record.proofs.header.put_partition.Given as goal
 
 abbrev pub invariant-loop-part : goal.invariant-loop-part

@@ -1,6 +1,6 @@
 use Rattle.std.proofs.Common.{◌≡◌, ◌+◌, ◌++◌, true, drop}
 use Rattle.lb_core.specs.Ranges.{fit_from}
-use Rattle.lb_record.specs.Lines.{lines_text, numbered}
+use Rattle.lb_text.specs.Lines.{lines_text, numbered}
 use Rattle.lb_record.specs.Entries.{entry_line}
 use Rattle.lb_record.proofs.history.put_entries.Given as goal
 
