@@ -124,15 +124,13 @@ groups_few cpus table parts cpu position lt = in_groups cpus table (part_of part
 
 pub small : (cpus : List CpuRow) (table : List (List ℕ)) (parts : List Mask) → length (levels_of table) ≤ MAX_LEVELS
     → IsSmall (topology_of cpus table parts)
-small cpus table parts few = record {
-  domains = λ cpu lt. let at = topology_at cpus table parts cpu
-      (omega (arith, lt, length-topology_of cpus table parts)) in omega (arith, ap length at, domains_few cpus table parts cpu, few);
-  groups = λ cpu position lt within.
-      let at = topology_at cpus table parts cpu (omega (arith, lt, length-topology_of cpus table parts)) in
-      omega (
+small cpus table parts few cpu lt =
+    let at = topology_at cpus table parts cpu (omega (arith, lt, length-topology_of cpus table parts)) in
+    record {
+      domains = omega (arith, ap length at, domains_few cpus table parts cpu, few);
+      groups = λ position within. omega (
         arith,
         ap (λ (ds : List Domain). length (domain_at ds position).groups) at,
-        groups_few cpus table parts
-            cpu position (omega (arith, ap length at, within)),
+        groups_few cpus table parts cpu position (omega (arith, ap length at, within)),
       );
-}
+    }

@@ -16,7 +16,11 @@ pub record DomainsWithin : Type 0 where
 abbrev pub domains_within : List CpuRow → List (List ℕ) → List Mask → DomainsWithin
 domains_within cpus table parts = record { masks = parts; all = topology_of cpus table parts }
 
-pub record IsSmall (all : List (List Domain)) : Type 0 where
-  pub domains : (cpu : ℕ) → cpu < length all → length (domains_at all cpu) ≤ MAX_LEVELS
-  pub groups : (cpu position : ℕ) → cpu < length all → position < length (domains_at all cpu)
-      → length (domain_at (domains_at all cpu) position).groups ≤ MAX_CPUS
+-- a CPU has so few domains, each with so few groups
+pub record AreFew (ds : List Domain) : Type 0 where
+  pub domains : length ds ≤ MAX_LEVELS
+  pub groups : (position : ℕ) → position < length ds → length (domain_at ds position).groups ≤ MAX_CPUS
+
+-- so has each CPU
+abbrev pub IsSmall : List (List Domain) → Type 0
+IsSmall all = (cpu : ℕ) → cpu < length all → AreFew (domains_at all cpu)

@@ -3,7 +3,7 @@ ghost use Rattle.std.specs.Prelude.{◌≡◌, ◌<◌, ◌≤◌, ◌⊎◌, le
 ghost use Rattle.std.specs.Option.{option_map};
 ghost use Rattle.lb_levels.specs.Faults.{parts_fault_of};
 ghost use Rattle.lb_domain.specs.Domains.{domains_at, domain_at, group_at};
-ghost use Rattle.lb_domain.specs.Topologies.{domains_within};
+ghost use Rattle.lb_domain.specs.Topologies.{AreFew, domains_within};
 ghost use Rattle.lb_domain.specs.Errors.{as_error};
 ghost use Rattle.lb_domain.specs.declared.topology.BuildError.TheVariants.{NoMemory as no_memory};
 
@@ -112,6 +112,15 @@ impl Topology {
             Err(BuildError::NoMemory) => Err(NoMemory),
             Err(_) => unreachable!(),
         }
+    }
+
+    /// The domains of a CPU, from the bottom: at most `MAX_LEVELS`, each with at most `MAX_CPUS` groups.
+    pub fn domains(&self, cpu: u32) -> &[Domain]
+        requires { cpu < length self.now.all }
+        ensures domains { result.now ≡ domains_at self.now.all cpu }
+        ensures few { AreFew result.now }
+    {
+        self.all.get(cpu as usize).as_slice()
     }
 
     /// How many domains a CPU has, at most `MAX_LEVELS`. Their positions are the numbers below that.
