@@ -7,8 +7,8 @@ use Rattle.lb_base.specs.Figures.{AllHaveFigures}
 use Rattle.lb_imbalance.specs.Decision.{group_at}
 use Rattle.lb_imbalance.specs.Conditions.{IsUnion, HaveSmallSums}
 use Rattle.lb_domain.specs.declared.domain.Domain.{Domain}
-use Rattle.lb_domain.specs.Domains.{topology_of, domains_at}
-use Rattle.lb_domain.specs.Topologies.{DomainsWithin}
+use Rattle.lb_domain.specs.Domains.{topology_of}
+use Rattle.lb_domain.specs.Topologies.{AreFew, DomainsWithin}
 use Rattle.lb_trace.specs.declared.trace.Header.{Header}
 use Rattle.lb_core.specs.declared.course.Course.{Course}
 use Rattle.lb_core.specs.declared.course.Form.{Form}
@@ -25,10 +25,10 @@ pub record IsTurn (h : Header) (t : DomainsWithin) (c : Course) : Type 0 where
   pub all : t.all ≡ topology_of h.cpus h.distances c.masks
   pub turned : c.cpu < length h.cpus
 
--- so the topology shows the domains of the turn's CPU
-pub record ShowsDomains (h : Header) (t : DomainsWithin) (c : Course) : Type 0 where
-  pub there : c.cpu < length t.all
-  pub domains : domains_at t.all c.cpu ≡ turn_domains h c
+-- they are the domains of the turn's CPU
+pub record ShowsDomains (h : Header) (ds : List Domain) (c : Course) : Type 0 where
+  pub domains : ds ≡ turn_domains h c
+  pub few : AreFew ds
 
 -- there is a domain at the position in work
 abbrev pub HasDomain : TurnState → Type 0

@@ -6,7 +6,7 @@ ghost use Rattle.lb_queue.specs.Turns.{counters_at, tries_of};
 
 use lb_base::Shape;
 use lb_core::Course;
-use lb_domain::Topology;
+use lb_domain::{Domain, Topology};
 use lb_interval::Counters;
 use lb_queue::tries;
 use lb_trace::Header;
@@ -19,12 +19,12 @@ mod shapes;
 pub use ends::{flag, word_of};
 pub use shapes::Shapes;
 
-/// The turn of a lane: what the trace declares, the topology of the version that the lane took up last, and
-/// the lane's course. Contracts see the header and the course.
+/// The turn of a lane: what the trace declares, the domains of the turn's CPU in the version that the lane took up
+/// last, and the lane's course. Contracts see the header and the course.
 #[derive(Drop)]
 pub struct Turn<'a> {
     header: &'a Header,
-    topology: &'a Topology,
+    domains: &'a [Domain],
     course: &'a Course,
 }
 
@@ -35,11 +35,11 @@ impl<'a> Model for Turn<'a> {
 
     ghost view = { λ t. record { header = t.header.now; course = t.course.now } };
 
-    ghost invariant = { λ t. ShowsDomains t.header.now t.topology.now t.course.now };
+    ghost invariant = { λ t. ShowsDomains t.header.now t.domains.now t.course.now };
 }
 
 impl<'a> Turn<'a> {
-    ghost use Rattle.lb_turn.specs.Turns.{IsTurn, HasDomain};
+    ghost use Rattle.lb_turn.specs.Turns.{HasDomain, IsTurn, ShowsDomains};
 
     /// The turn of a course, over the topology of the version that it took up.
     pub fn new(header: &'a Header, topology: &'a Topology, course: &'a Course) -> Turn<'a>
@@ -48,7 +48,19 @@ impl<'a> Turn<'a> {
     {
         Turn {
             header,
-            topology,
+            domains: topology.domains(course.cpu),
+            course,
+        }
+    }
+
+    /// The turn of a course, over the domains of its CPU in the version that it took up.
+    pub fn with(header: &'a Header, domains: &'a [Domain], course: &'a Course) -> Turn<'a>
+        requires { ShowsDomains header.now domains.now course.now }
+        ensures { result ≡ record { header = header.now; course = course.now } }
+    {
+        Turn {
+            header,
+            domains,
             course,
         }
     }
@@ -58,7 +70,7 @@ impl<'a> Turn<'a> {
         ensures count { result ≡ length (turn_domains self.now.header self.now.course) }
         ensures few { result ≤ MAX_LEVELS }
     {
-        self.topology.count(self.course.cpu)
+        self.domains.len() as u32
     }
 
     /// Whether the turn's CPU has domains.
@@ -73,7 +85,7 @@ impl<'a> Turn<'a> {
         requires { HasDomain self.now }
         ensures { result ≡ (turn_domain self.now.header self.now.course).shape }
     {
-        self.topology.shape(self.course.cpu, self.course.position)
+        self.domains[self.course.position as usize].shape
     }
 
     /// The cache tries of the domain in work (docs/rules/domains.md).

@@ -1,33 +1,17 @@
 //! What a look reads, and what it decides.
-ghost use Rattle.std.specs.Prelude.{◌≡◌, ◌<◌, length, take};
+ghost use Rattle.std.specs.Prelude.{◌≡◌};
 ghost use Rattle.lb_imbalance.specs.Decision.{decision, group_at};
-ghost use Rattle.lb_domain.specs.Domains.{domains_at, domain_at};
 ghost use Rattle.lb_core.specs.Course.{turn_domain, turn_kind, env_of, looks_again, others_left};
 ghost use Rattle.lb_core.specs.Rules.{figures_due};
 ghost use Rattle.lb_core.specs.Sight.{Sight};
 ghost use Rattle.lb_turn.specs.Turns.{HasDomain, HasDue, MayDecide};
 
 use super::Turn;
-use lb_base::{Fig, Kind, MAX_CPUS, Mask};
+use lb_base::{Fig, Kind, Mask};
 use lb_core::Form;
 use lb_course::{is_all_pinned, turn_kind};
 use lb_detach::Env;
-use lb_domain::Topology;
 use lb_imbalance::{Decision, decide};
-
-// The groups of a domain in a topology, in the first places.
-fn groups_in(topology: &Topology, cpu: u32, position: u32) -> [Mask; MAX_CPUS as usize]
-    requires cpu { cpu < length topology.now.all }
-    requires position { position < length (domains_at topology.now.all cpu) }
-    ensures { take (length (domain_at (domains_at topology.now.all cpu) position).groups) result
-        ≡ (domain_at (domains_at topology.now.all cpu) position).groups }
-{
-    let mut groups = [Mask::none(); MAX_CPUS as usize];
-    for i in 0..topology.groups(cpu, position) {
-        groups[i as usize] = topology.group(cpu, position, i);
-    }
-    groups
-}
 
 impl<'a> Turn<'a> {
     /// The CPUs whose figures are due: of a look those of the domain in work, of a scan those of the widest
@@ -42,7 +26,7 @@ impl<'a> Turn<'a> {
         } else {
             self.course.position
         };
-        let due = self.topology.shape(self.course.cpu, position).span;
+        let due = self.domains[position as usize].shape.span;
         due.without(self.course.excluded)
     }
 
@@ -56,12 +40,10 @@ impl<'a> Turn<'a> {
             (turn_domain self.now.header self.now.course).groups
             figs.now self.now.course.cpu (turn_kind self.now.course) self.now.course.excluded }
     {
-        let shape = self.shape();
-        let count = self.topology.groups(self.course.cpu, self.course.position) as usize;
-        let groups = groups_in(self.topology, self.course.cpu, self.course.position);
+        let domain = &self.domains[self.course.position as usize];
         decide(
-            &shape,
-            &groups[..count],
+            &domain.shape,
+            domain.groups.as_slice(),
             figs,
             self.course.cpu,
             turn_kind(self.course),
@@ -74,11 +56,11 @@ impl<'a> Turn<'a> {
         requires { HasDomain self.now }
         ensures { result ≡ group_at (turn_domain self.now.header self.now.course).groups 0 }
     {
-        let (cpu, position) = (self.course.cpu, self.course.position);
-        if self.topology.groups(cpu, position) == 0 {
+        let groups = self.domains[self.course.position as usize].groups.as_slice();
+        if groups.is_empty() {
             Mask::none()
         } else {
-            self.topology.group(cpu, position, 0)
+            groups[0]
         }
     }
 

@@ -1,12 +1,11 @@
 //! The shapes of the domains of a turn, with which a queue opens it.
-ghost use Rattle.std.specs.Prelude.{◌≡◌, ◌<◌, ◌≤◌, length};
+ghost use Rattle.std.specs.Prelude.{◌≡◌, ◌≤◌, length};
 ghost use Rattle.lb_levels.specs.declared.limits.TheConstants.{MAX_LEVELS};
-ghost use Rattle.lb_domain.specs.Domains.{domains_at};
 ghost use Rattle.lb_core.specs.Course.{turn_domains, shapes_of};
 
 use super::Turn;
 use lb_base::{LevelName, Mask, Shape};
-use lb_domain::Topology;
+use lb_domain::Domain;
 use lb_levels::MAX_LEVELS;
 use std::marker::Model;
 
@@ -38,12 +37,11 @@ impl Shapes {
     }
 }
 
-// The shapes of the domains of a CPU in a topology.
-fn shapes_in(topology: &Topology, cpu: u32) -> Shapes
-    requires { cpu < length topology.now.all }
-    ensures { result ≡ shapes_of (domains_at topology.now.all cpu) }
+// The shapes of domains.
+fn shapes_of(domains: &[Domain]) -> Shapes
+    requires { length domains.now ≤ MAX_LEVELS }
+    ensures { result ≡ shapes_of domains.now }
 {
-    let count = topology.count(cpu);
     let none = Shape {
         name: LevelName::Smt,
         below: None,
@@ -51,12 +49,12 @@ fn shapes_in(topology: &Topology, cpu: u32) -> Shapes
         span: Mask::none(),
     };
     let mut list = [none; MAX_LEVELS as usize];
-    for position in 0..count {
-        list[position as usize] = topology.shape(cpu, position);
+    for i in 0..domains.len() {
+        list[i] = domains[i].shape;
     }
     Shapes {
         list,
-        count: count as usize,
+        count: domains.len(),
     }
 }
 
@@ -66,6 +64,6 @@ impl<'a> Turn<'a> {
         ensures value { result ≡ shapes_of (turn_domains self.now.header self.now.course) }
         ensures few { length (turn_domains self.now.header self.now.course) ≤ MAX_LEVELS }
     {
-        shapes_in(self.topology, self.course.cpu)
+        shapes_of(self.domains)
     }
 }
