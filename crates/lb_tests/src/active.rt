@@ -1,4 +1,5 @@
-use super::*;
+use lb_active::{active_pick, stop_target, wants_active};
+use lb_base::{Kind, Mask, TaskView};
 
 #[test]
 fn chooses_as_the_rule_says(rt: HostRuntime) {

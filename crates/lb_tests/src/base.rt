@@ -1,4 +1,4 @@
-use crate::{Buffer, Items, Mask};
+use lb_base::{Buffer, Items, Mask};
 use std::test::Fail;
 
 #[test]

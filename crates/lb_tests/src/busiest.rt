@@ -1,5 +1,5 @@
-use crate::{busiest, source};
 use lb_base::{Fig, GroupType, Mask, MoveKind, Stats};
+use lb_busiest::{busiest, source};
 use std::test::Fail;
 
 #[test]

@@ -1,5 +1,5 @@
-use super::*;
-use lb_base::{Mask, TaskView};
+use lb_base::{Mask, MoveKind, TaskView};
+use lb_detach::{Env, Picked, picks};
 use std::test::Fail;
 
 fn task(id: u32, running: bool, hot: bool, cpu: u64) -> TaskView {

@@ -3,8 +3,8 @@ ghost use Rattle.std.specs.Prelude.{◌≡◌, ◌+◌, nat_lt};
 ghost use Rattle.std.specs.List.{list_all};
 ghost use Rattle.lb_levels.specs.Rows.{nodes_in_range, distances_in_range};
 
-use crate::{BuildError, Topology};
 use lb_base::{Items, MAX_CPUS, Mask};
+use lb_domain::{BuildError, Topology};
 use lb_levels::{CpuRow, MAX_DISTANCE, MAX_NODES, Machine, MachineError};
 use std::alloc::Global;
 use std::process::Abort;

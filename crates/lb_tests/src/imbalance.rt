@@ -1,7 +1,7 @@
 ghost use Rattle.std.specs.Prelude.{◌≡◌, ◌<◌, ◌^◌};
 
-use crate::{Decision, decide};
 use lb_base::{Fig, Kind, LevelName, Mask, MoveKind, Shape};
+use lb_imbalance::{Decision, decide};
 use std::test::Fail;
 
 #[test]

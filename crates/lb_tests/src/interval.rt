@@ -1,4 +1,5 @@
-use super::*;
+use lb_base::Kind;
+use lb_interval::{Counters, Outcome, after, due, fresh};
 
 #[test]
 fn counts_as_the_rule_says(rt: HostRuntime) {

@@ -1,6 +1,8 @@
 ghost use Rattle.std.specs.Prelude.{◌≤◌, IfOk};
 
-use super::*;
+use lb_io::{
+    Failed, MemSink, MemSource, ReadError, ReadSource, Sink, Source, WriteSink, read_all, write_all,
+};
 use std::alloc::{AllocError, Global};
 use std::io;
 use std::test::Fail;

@@ -2,9 +2,9 @@ ghost use Rattle.std.specs.Prelude.{◌≡◌, ◌+◌, nat_lt};
 ghost use Rattle.std.specs.List.{list_all};
 ghost use Rattle.lb_levels.specs.Rows.{nodes_in_range, distances_in_range};
 
-use crate::MachineError::{BadCpu, BadDistance, NotNested};
-use crate::{CpuRow, MAX_DISTANCE, MAX_NODES, Machine, MachineError};
 use lb_base::{Items, MAX_CPUS, NoMemory};
+use lb_levels::MachineError::{BadCpu, BadDistance, NotNested};
+use lb_levels::{CpuRow, MAX_DISTANCE, MAX_NODES, Machine, MachineError};
 use std::alloc::Global;
 use std::process::Abort;
 use std::test::Fail;

@@ -1,4 +1,4 @@
-use super::*;
+use lb_newidle::{idle_average, next_level};
 
 #[test]
 fn spends_and_averages_as_the_rule_says(rt: HostRuntime) {

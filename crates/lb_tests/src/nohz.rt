@@ -1,4 +1,5 @@
-use super::*;
+use lb_base::{Fig, Mask};
+use lb_nohz::{kick_target, turns};
 
 #[test]
 fn kicks_as_the_rule_says(rt: HostRuntime) {

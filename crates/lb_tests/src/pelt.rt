@@ -1,4 +1,4 @@
-use super::*;
+use lb_pelt::{Run, Signal, Value, advance, decay, value_at};
 
 #[test]
 fn decays_as_the_rule_says(rt: HostRuntime) {

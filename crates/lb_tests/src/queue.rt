@@ -2,9 +2,9 @@ ghost use Rattle.std.specs.Prelude.{◌≡◌, ◌≤◌, All, IsTrue, false, le
 ghost use Rattle.lb_base.specs.Sets.{is_below};
 ghost use Rattle.lb_queue.specs.Queue.{knows};
 
-use super::*;
 use lb_base::{MAX_CPUS, Mask, MoveKind, NoMemory};
 use lb_detach::{Env, Picked};
+use lb_queue::{Hand, OutCause, Queue, Reply};
 use std::alloc::Global;
 use std::process::Abort;
 use std::test::Fail;
@@ -65,7 +65,7 @@ fn wake(rt: &impl Abort, q: &mut Queue, id: u32) {
 }
 
 // A hand with one task at most lands.
-#[tactic(auto, using(crate::proofs::Trials::one_differs))]
+#[tactic(auto, using(lb_queue::proofs::Trials::one_differs))]
 fn land(rt: &impl Abort, q: &mut Queue, hand: Hand)
     requires { hand.to ≡ q.old.state.cpu }
 {
@@ -74,7 +74,7 @@ fn land(rt: &impl Abort, q: &mut Queue, hand: Hand)
     q.land(0, OutCause::Pull, hand);
 }
 
-#[tactic(auto, using(crate::proofs::Trials::one_unknown))]
+#[tactic(auto, using(lb_queue::proofs::Trials::one_unknown))]
 fn is_unknown(q: &Queue, hand: &Hand) -> bool
     requires { length hand.now.tasks ≤ 1 }
     ensures { IsTrue result → All (λ t. knows q.now.state t.id ≡ false) hand.now.tasks }

@@ -1,7 +1,7 @@
 ghost use Rattle.std.specs.Prelude.{◌≡◌};
 
-use crate::{classify, group_stats};
 use lb_base::{Fig, GroupType, Mask, Stats};
+use lb_stats::{classify, group_stats};
 use std::test::Fail;
 
 #[test]
