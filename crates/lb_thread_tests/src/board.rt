@@ -1,5 +1,6 @@
-use crate::{Board, gather};
+//! A lane reads the figure that it published itself.
 use lb_base::Fig;
+use lb_board::{Board, gather};
 use std::test::Fail;
 
 #[test]

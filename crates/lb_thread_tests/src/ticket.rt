@@ -1,7 +1,8 @@
+//! Two owners draw from a ticket book, one after the other and at the same time.
 ghost use Rattle.std.specs.Prelude.{Option, ℕ, ◌≡◌, ◌≤◌};
 
-use crate::{Book, Item, Seat};
-use std::test::Fail;
+use crate::seats::{in_order, two_seats};
+use lb_ticket::{Book, Item, Lists, Seat};
 use std::thread::join;
 
 // An item that may quote any entry of its lane, and fits any list.
@@ -40,83 +41,52 @@ impl Item for Plain {
     }
 }
 
-#[test]
-fn a_note_is_quoted(rt: HostRuntime) -> Result<(), Fail> {
-    let (book, mut seats) = Book::<Plain>::new(rt.alloc(), 2)?;
-    let Some(mut second) = seats.pop() else {
-        panic!(rt; "no seat")
-    };
-    let Some(mut first) = seats.pop() else {
-        panic!(rt; "no seat")
-    };
-    first.reserve(1)?;
-    second.reserve(1)?;
-    let one = first.draw(
-        &book,
-        Plain {
-            owner: 0,
-            lane: 3,
-            quoted: None,
-            left: 7,
-        },
-    );
-    let note = first.note(&book, one);
-    second.learn(&book, note);
-    let mark = second.mark(&book);
-    let two = second.draw(
-        &book,
-        Plain {
-            owner: 1,
-            lane: 3,
-            quoted: Some((one, 7)),
-            left: 8,
-        },
-    );
-    assert!(rt; one == 1 && mark == 2 && two == 2);
-    assert!(rt; first.len() == 1 && second.number() == 1);
-    seats.push(first)?;
-    seats.push(second)?;
-    let lists = book.close(seats);
-    let [of_first, of_second] = lists.of.as_slice() else {
-        return Err(Fail::new("two lists"));
-    };
-    assert!(rt; of_first.len() == 1 && of_second.len() == 1);
-    assert!(rt; of_first[0].ticket == 1 && of_second[0].ticket == 2);
-    Ok(())
+// An item of lane 3.
+fn plain(owner: u32, quoted: Option<(u64, u32)>) -> Plain
+    ensures { result ≡ record { owner = owner; lane = 3; quoted = quoted; left = 7 } }
+{
+    Plain {
+        owner,
+        lane: 3,
+        quoted,
+        left: 7,
+    }
 }
 
 #[test]
-fn a_seat_follows_another(rt: HostRuntime) -> Result<(), Fail> {
-    let (book, mut seats) = Book::<Plain>::new(rt.alloc(), 2)?;
-    let Some(mut second) = seats.pop() else {
-        panic!(rt; "no seat")
-    };
-    let Some(mut first) = seats.pop() else {
-        panic!(rt; "no seat")
-    };
-    first.reserve(1)?;
-    second.reserve(1)?;
-    let ahead = second.draw(
-        &book,
-        Plain {
-            owner: 1,
-            lane: 3,
-            quoted: None,
-            left: 8,
-        },
-    );
+fn a_note_is_quoted(rt: HostRuntime) {
+    let (book, mut first, mut second) = two_seats(&rt, rt.alloc(), 1);
+    let one = first.draw(&book, plain(0, None));
+    let note = first.note(&book, one);
+    second.learn(&book, note);
+    let mark = second.mark(&book);
+    let two = second.draw(&book, plain(1, Some((one, 7))));
+    assert!(rt; one == 1 && mark == 2 && two == 2);
+    assert!(rt; first.len() == 1 && second.number() == 1);
+    let seats = in_order(&rt, rt.alloc(), first, second);
+    assert!(rt; has_one_and_two(book.close(seats)));
+}
+
+#[test]
+fn a_seat_follows_another(rt: HostRuntime) {
+    let (book, mut first, mut second) = two_seats(&rt, rt.alloc(), 1);
+    let ahead = second.draw(&book, plain(1, None));
     first.follow(&book, &mut second);
-    let behind = first.draw(
-        &book,
-        Plain {
-            owner: 0,
-            lane: 4,
-            quoted: None,
-            left: 9,
-        },
-    );
+    let behind = first.draw(&book, plain(0, None));
     assert!(rt; ahead == 1 && behind == 2);
-    Ok(())
+}
+
+// Whether the first owner's list has the ticket 1, and the second's the ticket 2.
+fn has_one_and_two(lists: Lists<Plain>) -> bool {
+    match lists.of.as_slice() {
+        [first, second] => {
+            first.len() == 1
+                && second.len() == 1
+                && first[0].ticket == 1
+                && second[0].ticket == 2
+        }
+        _ => false,
+    }
 }
 
 fn draw_many(book: &Book<Plain>, mut seat: Seat<Plain>, owner: u32, count: usize) -> Seat<Plain>
@@ -124,30 +94,14 @@ fn draw_many(book: &Book<Plain>, mut seat: Seat<Plain>, owner: u32, count: usize
     ensures { (result.table ≡ seat.table) × (result.number ≡ seat.number) }
 {
     for turn in 0..count {
-        seat.draw(
-            book,
-            Plain {
-                owner,
-                lane: owner,
-                quoted: None,
-                left: 0,
-            },
-        );
+        seat.draw(book, plain(owner, None));
     }
     seat
 }
 
 #[test]
-fn two_threads_draw(rt: HostRuntime) -> Result<(), Fail> {
-    let (book, mut seats) = Book::<Plain>::new(rt.alloc(), 2)?;
-    let Some(mut second) = seats.pop() else {
-        panic!(rt; "no seat")
-    };
-    let Some(mut first) = seats.pop() else {
-        panic!(rt; "no seat")
-    };
-    first.reserve(1000)?;
-    second.reserve(1000)?;
+fn two_threads_draw(rt: HostRuntime) {
+    let (book, first, second) = two_seats(&rt, rt.alloc(), 1000);
     let shared = &book;
     let (first, second) = join(
         &rt,
@@ -160,14 +114,18 @@ fn two_threads_draw(rt: HostRuntime) -> Result<(), Fail> {
             ensures { (result.table ≡ second.table) × (result.number ≡ second.number) }
         { draw_many(shared, second, 1, 1000) },
     );
-    seats.push(first)?;
-    seats.push(second)?;
-    // the lists have each ticket from 1 on once
-    let lists = book.close(seats);
-    let [of_first, of_second] = lists.of.as_slice() else {
-        return Err(Fail::new("two lists"));
-    };
-    assert!(rt; of_first.len() == 1000 && of_second.len() == 1000);
-    assert!(rt; of_first[999].ticket == 2000 || of_second[999].ticket == 2000);
-    Ok(())
+    let seats = in_order(&rt, rt.alloc(), first, second);
+    assert!(rt; has_all_of_2000(book.close(seats)));
+}
+
+// Whether each owner has half of the tickets up to 2000, so that the last stands at the end of a list.
+fn has_all_of_2000(lists: Lists<Plain>) -> bool {
+    match lists.of.as_slice() {
+        [first, second] => {
+            first.len() == 1000
+                && second.len() == 1000
+                && (first[999].ticket == 2000 || second[999].ticket == 2000)
+        }
+        _ => false,
+    }
 }

@@ -1,11 +1,10 @@
 //! A looker finds the version that it was told of.
 ghost use Rattle.std.specs.Prelude.{◌≡◌};
 
-use crate::looker::Looker;
-use crate::{Publisher, gather};
 use lb_base::{Items, Mask};
 use lb_domain::Topology;
 use lb_levels::{CpuRow, Machine};
+use lb_topub::{Looker, Publisher, gather};
 use std::alloc::Global;
 use std::sync::Wait;
 use std::test::Fail;
