@@ -43,6 +43,14 @@ fn the_first_of_those_with_spare(rt: HostRuntime) {
 
 #[test]
 fn the_first_of_the_sources(rt: HostRuntime) {
+    assert!(rt; source_of_four(MoveKind::Load, 900) == Some(1));
+    assert!(rt; source_of_four(MoveKind::Load, 899) == Some(2));
+    assert!(rt; source_of_four(MoveKind::Util, 1) == Some(2));
+    assert!(rt; source_of_four(MoveKind::Tasks, 1) == Some(2));
+}
+
+// The source among four CPUs beside a busier one that is not of the group.
+fn source_of_four(kind: MoveKind, imbalance: u64) -> Option<u32> {
     let figs = [
         fig(9, 9_000, 900),
         fig(1, 900, 300),
@@ -50,11 +58,7 @@ fn the_first_of_the_sources(rt: HostRuntime) {
         fig(2, 800, 0),
         fig(0, 5_000, 700),
     ];
-    let group = Mask { bits: 0b11110 };
-    assert!(rt; source(&figs, group, MoveKind::Load, 900) == Some(1));
-    assert!(rt; source(&figs, group, MoveKind::Load, 899) == Some(2));
-    assert!(rt; source(&figs, group, MoveKind::Util, 1) == Some(2));
-    assert!(rt; source(&figs, group, MoveKind::Tasks, 1) == Some(2));
+    source(&figs, Mask { bits: 0b11110 }, kind, imbalance)
 }
 
 fn group(group: GroupType, avg: u64, idle: u32, nr: u64) -> Stats {

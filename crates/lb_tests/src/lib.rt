@@ -31,4 +31,6 @@ mod pelt;
 #[cfg(test)]
 mod queue;
 #[cfg(test)]
+mod rules;
+#[cfg(test)]
 mod stats;
