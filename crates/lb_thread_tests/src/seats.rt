@@ -7,7 +7,7 @@ use std::alloc::Global;
 use std::process::Abort;
 
 /// A book of two owners and their seats, which have room for so many entries.
-pub fn two_seats<I: Item>(
+pub fn two_seats<I: Item + Drop>(
     rt: &impl Abort,
     alloc: Global,
     room: usize,
@@ -32,7 +32,7 @@ pub fn two_seats<I: Item>(
 }
 
 /// The two seats by their numbers.
-pub fn in_order<I: Item>(
+pub fn in_order<I: Item + Drop>(
     rt: &impl Abort,
     alloc: Global,
     first: Seat<I>,

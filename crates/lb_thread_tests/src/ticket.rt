@@ -42,7 +42,7 @@ impl Item for Plain {
 }
 
 // An item of lane 3.
-fn plain(owner: u32, quoted: Option<(u64, u32)>) -> Plain
+fn item_of(owner: u32, quoted: Option<(u64, u32)>) -> Plain
     ensures { result ≡ record { owner = owner; lane = 3; quoted = quoted; left = 7 } }
 {
     Plain {
@@ -56,11 +56,11 @@ fn plain(owner: u32, quoted: Option<(u64, u32)>) -> Plain
 #[test]
 fn a_note_is_quoted(rt: HostRuntime) {
     let (book, mut first, mut second) = two_seats(&rt, rt.alloc(), 1);
-    let one = first.draw(&book, plain(0, None));
+    let one = first.draw(&book, item_of(0, None));
     let note = first.note(&book, one);
     second.learn(&book, note);
     let mark = second.mark(&book);
-    let two = second.draw(&book, plain(1, Some((one, 7))));
+    let two = second.draw(&book, item_of(1, Some((one, 7))));
     assert!(rt; one == 1 && mark == 2 && two == 2);
     assert!(rt; first.len() == 1 && second.number() == 1);
     let seats = in_order(&rt, rt.alloc(), first, second);
@@ -70,9 +70,9 @@ fn a_note_is_quoted(rt: HostRuntime) {
 #[test]
 fn a_seat_follows_another(rt: HostRuntime) {
     let (book, mut first, mut second) = two_seats(&rt, rt.alloc(), 1);
-    let ahead = second.draw(&book, plain(1, None));
+    let ahead = second.draw(&book, item_of(1, None));
     first.follow(&book, &mut second);
-    let behind = first.draw(&book, plain(0, None));
+    let behind = first.draw(&book, item_of(0, None));
     assert!(rt; ahead == 1 && behind == 2);
 }
 
@@ -94,7 +94,7 @@ fn draw_many(book: &Book<Plain>, mut seat: Seat<Plain>, owner: u32, count: usize
     ensures { (result.table ≡ seat.table) × (result.number ≡ seat.number) }
 {
     for turn in 0..count {
-        seat.draw(book, plain(owner, None));
+        seat.draw(book, item_of(owner, None));
     }
     seat
 }
