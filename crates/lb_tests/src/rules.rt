@@ -2,19 +2,27 @@
 use lb_core::Rule;
 
 #[test]
-fn each_rule_is_printed_as_its_name(rt: HostRuntime) {
-    assert!(rt; Rule::Ticket.name() == "ticket");
-    assert!(rt; Rule::Prev.name() == "prev");
-    assert!(rt; Rule::Stage.name() == "stage");
-    assert!(rt; Rule::Row.name() == "row");
-    assert!(rt; Rule::Place.name() == "place");
-    assert!(rt; Rule::Reply.name() == "reply");
-    assert!(rt; Rule::Version.name() == "version");
-    assert!(rt; Rule::Figure.name() == "figure");
-    assert!(rt; Rule::Decision.name() == "decision");
-    assert!(rt; Rule::Pick.name() == "pick");
-    assert!(rt; Rule::Flight.name() == "flight");
-    assert!(rt; Rule::Counters.name() == "counters");
-    assert!(rt; Rule::Owed.name() == "owed");
-    assert!(rt; Rule::End.name() == "end");
+fn each_rule_of_the_order_is_printed_as_its_name(rt: HostRuntime) {
+    assert!(rt; is_named(Rule::Ticket, "ticket"));
+    assert!(rt; is_named(Rule::Prev, "prev"));
+    assert!(rt; is_named(Rule::Stage, "stage"));
+    assert!(rt; is_named(Rule::Row, "row"));
+    assert!(rt; is_named(Rule::Place, "place"));
+    assert!(rt; is_named(Rule::Reply, "reply"));
+    assert!(rt; is_named(Rule::Version, "version"));
+}
+
+#[test]
+fn each_rule_of_the_values_is_printed_as_its_name(rt: HostRuntime) {
+    assert!(rt; is_named(Rule::Figure, "figure"));
+    assert!(rt; is_named(Rule::Decision, "decision"));
+    assert!(rt; is_named(Rule::Pick, "pick"));
+    assert!(rt; is_named(Rule::Flight, "flight"));
+    assert!(rt; is_named(Rule::Counters, "counters"));
+    assert!(rt; is_named(Rule::Owed, "owed"));
+    assert!(rt; is_named(Rule::End, "end"));
+}
+
+fn is_named(rule: Rule, name: &str) -> bool {
+    rule.name() == name
 }
