@@ -1,7 +1,7 @@
 use Rattle.std.proofs.Common.{rules, ◌≡◌, [], sym, subst}
 use Rattle.lb_journal.specs.Journal.{Fits}
-use Rattle.lb_journal_rows.proofs.Drawing.{row_of, row_fits}
-use Rattle.lb_journal_rows.proofs.tests.row_item.Goals as goal
+use Rattle.lb_thread_tests.proofs.Drawing.{row_of, row_fits}
+use Rattle.lb_thread_tests.proofs.journal.row_item.Goals as goal
 
 pub returns-clause-fits : goal.returns-clause-fits
 returns-clause-fits c =

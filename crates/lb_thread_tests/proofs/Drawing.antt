@@ -1,4 +1,4 @@
--- The items that the test draws fit the empty list.
+-- The items that the test of a journal draws fit the empty list.
 use Rattle.std.proofs.Common.{◌≡◌, ℕ, ◌<◌, false, [], length, refl, arith}
 use Rattle.std.proofs.lemmas.List.Elements.{All-nil}
 use Rattle.lb_base.specs.Sets.{are_apart, is_below}
@@ -13,7 +13,7 @@ use Rattle.lb_core.specs.Stage.{draws, stage_allows}
 use Rattle.lb_core.specs.Rules.{breaks_here}
 use Rattle.lb_core.specs.CourseAfter.{comes_to_rest, course_after}
 use Rattle.lb_journal.specs.Journal.{Journal, Fits, sight_in}
-use Rattle.lb_journal_rows.specs.Drawing.{asked_course}
+use Rattle.lb_thread_tests.specs.Drawing.{asked_course}
 
 -- lane 0 takes up its row
 abbrev pub row_of : Header → Journal

@@ -1,7 +1,7 @@
 use Rattle.std.proofs.Common.{◌≡◌, ℕ, zero, suc, ◌<◌, List, [], ◌∷◌, length, map, replicate, get_or, slice_get, set, refl, ap, sym, subst, arith, ◌∙◌}
 use Rattle.atomic_table.specs.Seated.{TableId}
 use Rattle.lb_board.specs.Board.{IsOfBoard, Sight, WriterIs, first_writer, first_writers, sight_of_all}
-use Rattle.lb_board.proofs.tests.a_lane_reads_its_own_work.Goals as goal
+use Rattle.lb_thread_tests.proofs.board.a_lane_reads_its_own_work.Goals as goal
 
 -- a board of one CPU: its cell and its writer
 record Single (board : List TableId) (writers : List WriterIs) : Type 0 where

@@ -3,7 +3,7 @@ use Rattle.std.proofs.lemmas.Bool.{both_ways, cases_lt}
 use Rattle.lb_base.specs.declared.mask.Mask.{Mask}
 use Rattle.lb_base.specs.Mask.{has}
 use Rattle.lb_base.proofs.Bits.{bit_set_above}
-use Rattle.lb_busiest.proofs.tests.the_first_of_the_sources.Goals as goal
+use Rattle.lb_tests.proofs.busiest.source_of_four.Goals as goal
 
 four : Mask
 four = record { bits = 30 }
@@ -18,4 +18,4 @@ below cpu here = elim (cases_lt cpu 5) [
 
 pub source-requires : goal.source-requires
 unfolding four
-source-requires g c = below
+source-requires c = below

@@ -1,19 +1,19 @@
+//! A lane and the publisher draw an entry each, and the closed book gives them by their tickets.
 ghost use Rattle.std.specs.Prelude.{◌≡◌, ◌<◌, [], Some, length};
 ghost use Rattle.lb_trace.specs.declared.trace.Command.TheVariants.{Rebuild};
 ghost use Rattle.lb_core.specs.declared.entry.Owner.TheVariants.{Lane, Publisher};
 ghost use Rattle.lb_core.specs.Course.{opening_course};
 ghost use Rattle.lb_journal.specs.Journal.{Fits};
-ghost use Rattle.lb_journal_rows.specs.Drawing.{asked_course};
+ghost use Rattle.lb_thread_tests.specs.Drawing.{asked_course};
 
+use crate::seats::{in_order, two_seats};
 use lb_base::Items;
-use lb_core::{Course, Entry, Owner, What};
+use lb_core::{Course, Entries, Entry, Owner, What};
 use lb_course::{asked, opening_course, published};
 use lb_journal::{Journal, close_in_order};
-use lb_ticket::Book;
 use lb_trace::{Command, Header};
 use std::alloc::Global;
 use std::snapshot::Snapshot;
-use std::test::Fail;
 
 // The header of a machine of one lane, without CPUs.
 fn one_lane(alloc: Global) -> Header
@@ -100,32 +100,30 @@ fn pub_item(alloc: Global, header: &Header, course: &mut Course, row: u64) -> Jo
 }
 
 #[test]
-fn entries_come_by_their_tickets(rt: HostRuntime) -> Result<(), Fail> {
-    let (book, mut seats) = Book::<Journal>::new(rt.alloc(), 2)?;
-    let Some(mut of_lane) = seats.pop() else {
-        panic!(rt; "no seat")
-    };
-    let Some(mut of_publisher) = seats.pop() else {
-        panic!(rt; "no seat")
-    };
-    of_lane.reserve(1)?;
-    of_publisher.reserve(1)?;
+fn entries_come_by_their_tickets(rt: HostRuntime) {
+    let (book, mut of_publisher, mut of_lane) = two_seats(&rt, rt.alloc(), 1);
     let header = one_lane(rt.alloc());
-    let mut course = opening_course(rt.alloc(), 0)?;
+    let Ok(mut course) = opening_course(rt.alloc(), 0) else {
+        panic!(rt; "no course")
+    };
     let item = row_item(rt.alloc(), &header, &mut course);
     let row = of_lane.draw(&book, item);
     let note = of_lane.note(&book, row);
     of_publisher.learn(&book, note);
     let item = pub_item(rt.alloc(), &header, &mut course, row);
     let answer = of_publisher.draw(&book, item);
-    seats.push(of_publisher)?;
-    seats.push(of_lane)?;
-    let entries = close_in_order(rt.alloc(), book, seats)?;
-    // the publisher's list comes first, and its ticket second
-    let [first, second] = entries.as_slice() else {
-        return Err(Fail::new("two entries"));
-    };
     assert!(rt; row == 1 && answer == 2);
-    assert!(rt; first.prev == 0 && second.prev == 1);
-    Ok(())
+    let seats = in_order(&rt, rt.alloc(), of_publisher, of_lane);
+    let Ok(entries) = close_in_order(rt.alloc(), book, seats) else {
+        panic!(rt; "no room")
+    };
+    assert!(rt; are_row_and_answer(&entries));
+}
+
+// The publisher's list comes first, and its ticket second.
+fn are_row_and_answer(entries: &Entries) -> bool {
+    match entries.as_slice() {
+        [first, second] => first.prev == 0 && second.prev == 1,
+        _ => false,
+    }
 }

@@ -1,4 +1,4 @@
--- The row that the test draws.
+-- The row that the test of a journal draws.
 use Rattle.std.specs.Prelude.{ℕ, Some, []}
 use Rattle.lb_trace.specs.declared.trace.Command.TheVariants.{Rebuild}
 use Rattle.lb_core.specs.declared.course.Course.{Course}
