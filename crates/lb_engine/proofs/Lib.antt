@@ -9,6 +9,7 @@ pub mod Starting
 pub mod Turning
 pub mod Figures
 pub mod Booking
+pub mod Counted
 pub mod Answering
 pub mod Taking
 pub mod Hands
