@@ -1,5 +1,5 @@
 use Rattle.std.proofs.Common.{◌≡◌, length, take}
-use Rattle.lb_engine.proofs.engine.hands.note.Given as goal
+use Rattle.lb_act.proofs.hands.note_records.Given as goal
 
 abbrev pub invariant-loop-i : goal.invariant-loop-i
 invariant-loop-i l = record {

@@ -4,8 +4,8 @@ use Rattle.lb_base.specs.Sets.{least}
 use Rattle.lb_queue.specs.Queue.{QueueState}
 use Rattle.lb_queue.specs.Turns.{opened, shut, turn}
 use Rattle.lb_core.specs.CourseAfter.{goes_to}
-use Rattle.lb_engine.proofs.Found.{found_length}
-use Rattle.lb_engine.proofs.engine.turns.open_turn.Goals as goal
+use Rattle.lb_act.proofs.Found.{found_length}
+use Rattle.lb_act.proofs.turns.open_turn.Goals as goal
 
 pub note_counters-requires : goal.note_counters-requires
 unfolding turn
@@ -14,8 +14,8 @@ note_counters-requires c =
     let at = c.args.course.now.at in
     let version = c.args.course.now.version in
     let shapes = c.args.shapes.now in
-    let st : c.turn-reply.new.self.state ≡ opened q at c.args.lane c.turn_kind-kind.result version shapes =
-    ap (λ p. p.1) c.turn-reply.ensures.step
+    let st : c.turn-opened.new.self.state ≡ opened q at c.args.lane c.turn_kind-kind.result version shapes =
+    ap (λ p. p.1) c.turn-opened.ensures.step
     ∙ ap (λ (b : Bool). if b then shut q at c.turn_kind-kind.result
     else opened q at c.args.lane c.turn_kind-kind.result version shapes) c.requires.closed in
     c.requires.counters ∙ sym (found_length q at version shapes c.requires.fit)
@@ -28,7 +28,7 @@ returns-clause-queue c =
     let at = c.args.course.now.at in
     let version = c.args.course.now.version in
     let shapes = c.args.shapes.now in
-    ap (λ p. p.1) c.turn-reply.ensures.step
+    ap (λ p. p.1) c.turn-opened.ensures.step
     ∙ ap (λ (b : Bool). if b then shut q at c.turn_kind-kind.result
     else opened q at c.args.lane c.turn_kind-kind.result version shapes) c.requires.closed
     ∙ ap (λ k. opened q at c.args.lane k version shapes) c.turn_kind-kind.ensures
@@ -40,8 +40,8 @@ returns-clause-course c =
     let at = c.args.course.now.at in
     let version = c.args.course.now.version in
     let shapes = c.args.shapes.now in
-    let st : c.turn-reply.new.self.state ≡ opened q at c.args.lane c.turn_kind-kind.result version shapes =
-    ap (λ p. p.1) c.turn-reply.ensures.step
+    let st : c.turn-opened.new.self.state ≡ opened q at c.args.lane c.turn_kind-kind.result version shapes =
+    ap (λ p. p.1) c.turn-opened.ensures.step
     ∙ ap (λ (b : Bool). if b then shut q at c.turn_kind-kind.result
     else opened q at c.args.lane c.turn_kind-kind.result version shapes) c.requires.closed in
     c.turn_opens.ensures

@@ -4,8 +4,8 @@ use Rattle.std.proofs.Math.Seq.{take-length}
 use Rattle.std.proofs.lemmas.List.{length-map}
 use Rattle.lb_queue.specs.Queue.{clock_at}
 use Rattle.lb_queue.specs.Values.{views, view_at}
-use Rattle.lb_due.proofs.Lists.{take_get}
-use Rattle.lb_due.proofs.leaving.views_of.Goals as goal
+use Rattle.lb_act.proofs.Lists.{take_get}
+use Rattle.lb_act.proofs.pulls.views_of.Goals as goal
 
 pub loop-i-preserved : goal.loop-i-preserved
 loop-i-preserved c =

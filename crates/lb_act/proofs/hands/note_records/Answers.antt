@@ -1,9 +1,9 @@
 use Rattle.std.proofs.Common.{◌≡◌, ◌<◌, ◌+◌, length, take, sym, ap, ◌∙◌, arith}
 use Rattle.std.proofs.Math.ListN.{length-set}
 use Rattle.std.proofs.lemmas.Option.{get_or_from_slice_get}
-use Rattle.lb_engine.proofs.Filling.{copied_more}
+use Rattle.lb_turn.proofs.Filling.{filled_more}
 use Rattle.std.specs.List.{slice_index_or}
-use Rattle.lb_engine.proofs.engine.hands.note.Goals as goal
+use Rattle.lb_act.proofs.hands.note_records.Goals as goal
 
 pub loop-i-preserved : goal.loop-i-preserved
 loop-i-preserved c =
@@ -19,5 +19,5 @@ loop-i-preserved c =
     record {
       room = ap (λ l. length l) c.set.ensures ∙ length-set c.loop-i.records i x ∙ room;
       so_far = ap (λ l. take (i + 1) l) c.set.ensures
-          ∙ copied_more tasks c.loop-i.records i x inside there read c.loop-i.invariant.so_far;
+          ∙ filled_more tasks c.loop-i.records i x x inside there read c.loop-i.invariant.so_far;
     }
