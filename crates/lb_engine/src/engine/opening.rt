@@ -204,11 +204,7 @@ impl Engine {
     {
         let layout = header.machine(alloc)?;
         let versions = opening_version(alloc, header, &layout)?;
-        let CpuParts {
-            queues,
-            figures,
-            ticked,
-        } = opening_cpus(alloc, header)?;
+        let cpus = opening_cpus(alloc, header)?;
         let places = opening_places(alloc, header)?;
         let header = header.copy(alloc)?;
         let LaneParts {
@@ -216,6 +212,11 @@ impl Engine {
             last,
             hands,
         } = opening_lanes(alloc, &header)?;
+        let CpuParts {
+            queues,
+            figures,
+            ticked,
+        } = cpus;
         Ok(Engine {
             header,
             layout,

@@ -1,4 +1,4 @@
-use Rattle.std.proofs.Common.{ℕ, List, [], ◌∷◌, length, map, replicate, None, refl, sym, ap, ◌∙◌}
+use Rattle.std.proofs.Common.{List, [], ◌∷◌, length, map, replicate, None, refl, sym, ap, ◌∙◌}
 use Rattle.std.proofs.lemmas.List.{length-map}
 use Rattle.lb_domain.specs.Topologies.{DomainsWithin}
 use Rattle.lb_queue.specs.Figures.{figure}
@@ -13,7 +13,7 @@ use Rattle.lb_engine.proofs.engine.Engine.start.Goals as goal
 pub returns-clause-machine : goal.returns-clause-machine
 returns-clause-machine c =
     let h = c.args.header.now in
-    let cpus = c.in_ok-queues.ensures in
+    let cpus = c.in_ok-cpus.ensures in
     let lanes = c.in_ok-courses.ensures in
     let same = c.in_ok-header.ensures in
     start_is h _ _ _ _ _ _ _ _ same
@@ -28,7 +28,7 @@ returns-clause-machine c =
 pub returns-clause-hands : goal.returns-clause-hands
 returns-clause-hands c =
     let h = c.args.header.now in
-    let cpus = c.in_ok-queues.ensures in
+    let cpus = c.in_ok-cpus.ensures in
     let lanes = c.in_ok-courses.ensures in
     let same = c.in_ok-header.ensures in
     fit_start _ h.lanes (opening_course (length h.cpus))
