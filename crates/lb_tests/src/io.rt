@@ -96,18 +96,10 @@ impl io::Write for Ending {
 fn adapts_the_readers_of_std(rt: HostRuntime) {
     let mut buf = [0; 2];
     let mut src = ReadSource::new(Ending { calls: 0 });
-    let moved = [
-        src.read(&mut buf),
-        src.read(&mut buf),
-        src.read(&mut buf),
-    ];
+    let moved = [src.read(&mut buf), src.read(&mut buf), src.read(&mut buf)];
     assert!(rt; moved == [Ok(1), Ok(0), Err(Failed)]);
     let mut src = ReadSource::new(b"abc".as_slice());
-    let moved = [
-        src.read(&mut buf),
-        src.read(&mut buf),
-        src.read(&mut buf),
-    ];
+    let moved = [src.read(&mut buf), src.read(&mut buf), src.read(&mut buf)];
     assert!(rt; moved == [Ok(2), Ok(1), Ok(0)]);
 }
 

@@ -20,20 +20,8 @@ fn each_rule_is_printed_as_its_name(rt: HostRuntime) {
         Rule::End.name(),
     ];
     let wanted = [
-        "ticket",
-        "prev",
-        "stage",
-        "row",
-        "place",
-        "reply",
-        "version",
-        "figure",
-        "decision",
-        "pick",
-        "flight",
-        "counters",
-        "owed",
-        "end",
+        "ticket", "prev", "stage", "row", "place", "reply", "version", "figure", "decision",
+        "pick", "flight", "counters", "owed", "end",
     ];
     assert!(rt; names == wanted);
 }
