@@ -43,10 +43,13 @@ fn the_first_of_those_with_spare(rt: HostRuntime) {
 
 #[test]
 fn the_first_of_the_sources(rt: HostRuntime) {
-    assert!(rt; source_of_four(MoveKind::Load, 900) == Some(1));
-    assert!(rt; source_of_four(MoveKind::Load, 899) == Some(2));
-    assert!(rt; source_of_four(MoveKind::Util, 1) == Some(2));
-    assert!(rt; source_of_four(MoveKind::Tasks, 1) == Some(2));
+    let sources = [
+        source_of_four(MoveKind::Load, 900),
+        source_of_four(MoveKind::Load, 899),
+        source_of_four(MoveKind::Util, 1),
+        source_of_four(MoveKind::Tasks, 1),
+    ];
+    assert!(rt; sources == [Some(1), Some(2), Some(2), Some(2)]);
 }
 
 // The source among four CPUs beside a busier one that is not of the group.

@@ -57,15 +57,13 @@ fn leaves_running_and_hot_tasks(rt: HostRuntime) {
         ..PULL
     };
     picks(&list, &hot_stays, &mut picked);
-    assert!(rt; is_picked(&picked, &[3], &[2, 1]) && picked.left == 0);
-    assert!(rt; !picked.some_pinned && !picked.all_pinned);
+    assert!(rt; is_picked(&picked, &[3], &[2, 1], 0) && is_free(&picked));
     let hot_goes = Env {
         failures: 2,
         ..PULL
     };
     picks(&list, &hot_goes, &mut picked);
-    assert!(rt; is_picked(&picked, &[2], &[1, 3]) && picked.left == 0);
-    assert!(rt; !picked.some_pinned && !picked.all_pinned);
+    assert!(rt; is_picked(&picked, &[2], &[1, 3], 0) && is_free(&picked));
     // No CPU has the number 64, so every task is pinned elsewhere.
     picks(&list, &Env { to: 64, ..PULL }, &mut picked);
     assert!(rt; picked.ids.is_empty() && picked.some_pinned && picked.all_pinned);
@@ -77,8 +75,7 @@ fn ends_after_32(rt: HostRuntime) {
         panic!(rt; "no room")
     };
     picks(&many(true), &PULL, &mut picked);
-    assert!(rt; is_picked(&picked, &[], &turned()) && picked.left == 1);
-    assert!(rt; !picked.some_pinned && !picked.all_pinned);
+    assert!(rt; is_picked(&picked, &[], &turned(), 1) && is_free(&picked));
 }
 
 #[test]
@@ -91,9 +88,14 @@ fn goes_on_while_all_are_pinned(rt: HostRuntime) {
     assert!(rt; picked.some_pinned && !picked.all_pinned);
 }
 
-// Whether these tasks are taken, and those stay.
-fn is_picked(picked: &Picked, ids: &[u32], order: &[u32]) -> bool {
-    picked.ids.as_slice() == ids && picked.order.as_slice() == order
+// Whether these tasks are taken, and those stay, and so much is left to move.
+fn is_picked(picked: &Picked, ids: &[u32], order: &[u32], left: u64) -> bool {
+    picked.ids.as_slice() == ids && picked.order.as_slice() == order && picked.left == left
+}
+
+// Whether each examined task may run at the destination.
+fn is_free(picked: &Picked) -> bool {
+    !picked.some_pinned && !picked.all_pinned
 }
 
 // Whether the task 32 is taken, and all others stay.

@@ -16,10 +16,16 @@ fn masks_make_a_topology(rt: HostRuntime) {
 #[test]
 fn the_first_bad_mask_is_refused(rt: HostRuntime) {
     let machine = three_cores(&rt, rt.alloc());
-    let past = fault(rt.alloc(), &machine, [0b001, 0b1001, 0b001]);
-    assert!(rt; past == Some(BuildError::NoSuchCpu { part: 1 }));
-    let overlap = fault(rt.alloc(), &machine, [0b001, 0b010, 0b011]);
-    assert!(rt; overlap == Some(BuildError::Overlap { first: 0, second: 2 }));
+    let faults = [
+        fault(rt.alloc(), &machine, [0b001, 0b1001, 0b001]),
+        fault(rt.alloc(), &machine, [0b001, 0b010, 0b011]),
+    ];
+    let past = BuildError::NoSuchCpu { part: 1 };
+    let overlap = BuildError::Overlap {
+        first: 0,
+        second: 2,
+    };
+    assert!(rt; faults == [Some(past), Some(overlap)]);
 }
 
 // Three cores of one cache.

@@ -11,11 +11,15 @@ use std::process::Abort;
 // The first read gives the bytes, the second the end.
 #[test]
 fn reads_fail_at_the_listed_calls(rt: HostRuntime) {
-    assert!(rt; refusal(&rt, rt.alloc(), 3, 0).is_none());
-    assert!(rt; refusal(&rt, rt.alloc(), 2, 0) == Some(ReadError::TooLong));
-    assert!(rt; refusal(&rt, rt.alloc(), 3, 1) == Some(ReadError::ReadFault));
-    assert!(rt; refusal(&rt, rt.alloc(), 3, 2) == Some(ReadError::ReadFault));
-    assert!(rt; refusal(&rt, rt.alloc(), 3, 3).is_none());
+    let refusals = [
+        refusal(&rt, rt.alloc(), 3, 0),
+        refusal(&rt, rt.alloc(), 2, 0),
+        refusal(&rt, rt.alloc(), 3, 1),
+        refusal(&rt, rt.alloc(), 3, 2),
+        refusal(&rt, rt.alloc(), 3, 3),
+    ];
+    let fault = Some(ReadError::ReadFault);
+    assert!(rt; refusals == [None, Some(ReadError::TooLong), fault, fault, None]);
 }
 
 // Why three bytes are not read, of which at most `max` are asked for, where the call `fail_at` fails.
@@ -44,9 +48,12 @@ fn writes_fail_at_the_listed_calls(rt: HostRuntime) {
         panic!(rt; "no room")
     };
     let mut out = MemSink::new(rt.alloc(), calls);
-    assert!(rt; write_all(&mut out, b"ab").is_ok());
-    assert!(rt; write_all(&mut out, b"cd").is_err());
-    assert!(rt; write_all(&mut out, b"ef").is_ok());
+    let written = [
+        write_all(&mut out, b"ab"),
+        write_all(&mut out, b"cd"),
+        write_all(&mut out, b"ef"),
+    ];
+    assert!(rt; written == [Ok(()), Err(Failed), Ok(())]);
     assert!(rt; out.bytes() == b"abef".as_slice());
 }
 
@@ -89,20 +96,17 @@ impl io::Write for Ending {
 fn adapts_the_readers_of_std(rt: HostRuntime) {
     let mut buf = [0; 2];
     let mut src = ReadSource::new(Ending { calls: 0 });
-    assert!(rt; src.read(&mut buf) == Ok(1));
-    assert!(rt; src.read(&mut buf) == Ok(0));
-    assert!(rt; src.read(&mut buf) == Err(Failed));
+    let moved = [src.read(&mut buf), src.read(&mut buf), src.read(&mut buf)];
+    assert!(rt; moved == [Ok(1), Ok(0), Err(Failed)]);
     let mut src = ReadSource::new(b"abc".as_slice());
-    assert!(rt; src.read(&mut buf) == Ok(2));
-    assert!(rt; src.read(&mut buf) == Ok(1));
-    assert!(rt; src.read(&mut buf) == Ok(0));
+    let moved = [src.read(&mut buf), src.read(&mut buf), src.read(&mut buf)];
+    assert!(rt; moved == [Ok(2), Ok(1), Ok(0)]);
 }
 
 #[test]
 fn adapts_the_writers_of_std(rt: HostRuntime) {
     let mut out = WriteSink::new(Ending { calls: 0 });
-    assert!(rt; out.write(b"ab") == Ok(1));
-    assert!(rt; out.write(b"ab") == Err(Failed));
-    assert!(rt; out.write(b"ab") == Err(Failed));
+    let moved = [out.write(b"ab"), out.write(b"ab"), out.write(b"ab")];
+    assert!(rt; moved == [Ok(1), Err(Failed), Err(Failed)]);
     assert!(rt; WriteSink::new(rt.stdout()).write(b"abc") == Ok(3));
 }

@@ -27,16 +27,19 @@ fn the_first_bad_cpu_is_refused(rt: HostRuntime) {
 
 #[test]
 fn the_first_bad_distance_is_refused(rt: HostRuntime) {
-    let second = Some(BadDistance { row: 1 });
     let one = [(0, 0, 0)];
     let two = [(0, 0, 0), (1, 1, 1)];
-    // a row too many, and one of the wrong size below a bad entry
-    assert!(rt; fault(&rt, rt.alloc(), &one, &[&[10], &[10]]) == second);
-    assert!(rt; fault(&rt, rt.alloc(), &two, &[&[20, 10], &[20]]) == second);
-    // another own distance, and another distance back
-    assert!(rt; fault(&rt, rt.alloc(), &two, &[&[10, 20], &[20, 11]]) == second);
-    assert!(rt; fault(&rt, rt.alloc(), &two, &[&[10, 20], &[30, 10]]) == second);
-    assert!(rt; fault(&rt, rt.alloc(), &two, &[&[10, 20], &[20, 10]]).is_none());
+    let faults = [
+        // a row too many, and one of the wrong size below a bad entry
+        fault(&rt, rt.alloc(), &one, &[&[10], &[10]]),
+        fault(&rt, rt.alloc(), &two, &[&[20, 10], &[20]]),
+        // another own distance, and another distance back
+        fault(&rt, rt.alloc(), &two, &[&[10, 20], &[20, 11]]),
+        fault(&rt, rt.alloc(), &two, &[&[10, 20], &[30, 10]]),
+        fault(&rt, rt.alloc(), &two, &[&[10, 20], &[20, 10]]),
+    ];
+    let second = Some(BadDistance { row: 1 });
+    assert!(rt; faults == [second, second, second, second, None]);
 }
 
 #[test]

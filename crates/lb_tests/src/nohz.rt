@@ -4,10 +4,19 @@ use lb_nohz::{kick_target, turns};
 
 #[test]
 fn kicks_as_the_rule_says(rt: HostRuntime) {
-    assert!(rt; kicked([1, 0, 257], Mask { bits: 3 }) == (Some(0), Mask { bits: 1 }));
-    assert!(rt; kicked([0, 256, 256], Mask { bits: 7 }) == (None, Mask { bits: 0 }));
-    assert!(rt; kicked([0, 257, 1], Mask { bits: 7 }) == (Some(1), Mask { bits: 6 }));
-    assert!(rt; kicked([1, 0, 1], Mask { bits: 6 }) == (Some(2), Mask { bits: 4 }));
+    let kicks = [
+        kicked([1, 0, 257], Mask { bits: 3 }),
+        kicked([0, 256, 256], Mask { bits: 7 }),
+        kicked([0, 257, 1], Mask { bits: 7 }),
+        kicked([1, 0, 1], Mask { bits: 6 }),
+    ];
+    let wanted = [
+        (Some(0), Mask { bits: 1 }),
+        (None, Mask { bits: 0 }),
+        (Some(1), Mask { bits: 6 }),
+        (Some(2), Mask { bits: 4 }),
+    ];
+    assert!(rt; kicks == wanted);
 }
 
 fn kicked(flags: [u64; 3], span: Mask) -> (Option<u32>, Mask) {

@@ -3,10 +3,13 @@ use lb_pelt::{Run, Signal, Value, advance, decay, value_at};
 
 #[test]
 fn decays_as_the_rule_says(rt: HostRuntime) {
-    assert!(rt; decay(u64::MAX, 2015) == 1);
-    assert!(rt; decay(u64::MAX, 2016) == 0);
-    assert!(rt; decay(u64::MAX, 2017) == 0);
-    assert!(rt; decay(47742, 32) == 23870);
+    let left = [
+        decay(u64::MAX, 2015),
+        decay(u64::MAX, 2016),
+        decay(u64::MAX, 2017),
+        decay(47742, 32),
+    ];
+    assert!(rt; left == [1, 0, 0, 23870]);
 }
 
 #[test]
@@ -28,10 +31,19 @@ fn reads_as_the_rule_says(rt: HostRuntime) {
         load_sum: 46718,
         ..zero
     };
-    assert!(rt; value_at(&zero, Run::Waiting, 1024, 1048576) == unused(21, 21));
-    assert!(rt; value_at(&zero, Run::Waiting, 1024, 33554432) == unused(512, 512));
-    assert!(rt; value_at(&full, Run::Asleep, 88761, 0) == unused(88761, 0));
-    assert!(rt; value_at(&full, Run::Asleep, 15, 0) == unused(15, 0));
+    let values = [
+        value_at(&zero, Run::Waiting, 1024, 1048576),
+        value_at(&zero, Run::Waiting, 1024, 33554432),
+        value_at(&full, Run::Asleep, 88761, 0),
+        value_at(&full, Run::Asleep, 15, 0),
+    ];
+    let wanted = [
+        unused(21, 21),
+        unused(512, 512),
+        unused(88761, 0),
+        unused(15, 0),
+    ];
+    assert!(rt; values == wanted);
 }
 
 // The value of a task that never ran.

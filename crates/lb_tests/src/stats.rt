@@ -7,14 +7,20 @@ use lb_stats::{classify, group_stats};
 
 #[test]
 fn groups_at_the_edges_of_their_types(rt: HostRuntime) {
-    assert!(rt; classify(2, 1, 1_024, 875, 875, false, 117) == HasSpare);
-    assert!(rt; classify(2, 1, 1_024, 876, 876, false, 117) == Overloaded);
-    assert!(rt; classify(1, 1, 1_024, 876, 876, false, 117) == FullyBusy);
-    assert!(rt; classify(1, 1, 1_024, 876, 876, true, 117) == Imbalanced);
-    assert!(rt; classify(2, 1, 1_024, 0, 1_198, false, 117) == HasSpare);
-    assert!(rt; classify(2, 1, 1_024, 0, 1_199, false, 117) == Overloaded);
-    assert!(rt; classify(1, 2, 2_048, 2_000, 2_000, false, 110) == HasSpare);
-    assert!(rt; classify(5, 0, 0, 0, 0, true, 117) == HasSpare);
+    let types = [
+        classify(2, 1, 1_024, 875, 875, false, 117),
+        classify(2, 1, 1_024, 876, 876, false, 117),
+        classify(1, 1, 1_024, 876, 876, false, 117),
+        classify(1, 1, 1_024, 876, 876, true, 117),
+        classify(2, 1, 1_024, 0, 1_198, false, 117),
+        classify(2, 1, 1_024, 0, 1_199, false, 117),
+        classify(1, 2, 2_048, 2_000, 2_000, false, 110),
+        classify(5, 0, 0, 0, 0, true, 117),
+    ];
+    let wanted = [
+        HasSpare, Overloaded, FullyBusy, Imbalanced, HasSpare, Overloaded, HasSpare, HasSpare,
+    ];
+    assert!(rt; types == wanted);
 }
 
 #[test]

@@ -80,10 +80,7 @@ fn a_seat_follows_another(rt: HostRuntime) {
 fn has_one_and_two(lists: Lists<Plain>) -> bool {
     match lists.of.as_slice() {
         [first, second] => {
-            first.len() == 1
-                && second.len() == 1
-                && first[0].ticket == 1
-                && second[0].ticket == 2
+            first.len() == 1 && second.len() == 1 && first[0].ticket == 1 && second[0].ticket == 2
         }
         _ => false,
     }
