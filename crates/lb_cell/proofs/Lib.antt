@@ -15,3 +15,4 @@ mod Turning
 mod Owning
 mod PubEntries
 mod Plain
+mod Staying

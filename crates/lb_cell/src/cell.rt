@@ -1,6 +1,7 @@
 use crate::log::Log;
 use crate::names::Names;
 use lb_queue::Queue;
+use lb_queue::laws::calls_keep_rest;
 use std::marker::{Model, PhantomData};
 
 /// What stands behind the lock of a queue: the queue, its entries with its figures, and for how many entries room is
@@ -35,8 +36,11 @@ impl<N: Names> Cell<N> {
 
     /// The CPU of the queue.
     pub fn cpu(&self) -> u32
-        ensures { result ≡ self.now.log.writer.cpu }
+        ensures cpu { result ≡ self.now.log.writer.cpu }
+        ensures own { self.now.queue.state.cpu ≡ result }
     {
+        // whatever entries the queue drew, it is that of its CPU
+        calls_keep_rest();
         self.log.writer.cpu()
     }
 }

@@ -1,11 +1,13 @@
 //! The tasks of a hand land at a queue.
-ghost use Rattle.std.specs.Prelude.{◌≡◌, ◌≤◌, ◌<◌, ◌+◌, ◌-◌, length};
+ghost use Rattle.std.specs.Prelude.{◌≡◌, ◌≤◌, ◌<◌, ◌+◌, ◌-◌, ◌↔◌, not, IsTrue, length};
+ghost use Rattle.std.specs.List.{list_all};
+ghost use Rattle.lb_queue.specs.Queue.{knows};
 ghost use Rattle.lb_queue.specs.Tasks.{ids};
 ghost use Rattle.lb_core.specs.declared.course.Form.TheVariants as form;
 ghost use Rattle.lb_core.specs.declared.entry.What.TheVariants as what;
 ghost use Rattle.lb_core.specs.Asks.{LandingAsks};
 ghost use Rattle.lb_cell.specs.Draws.{Drew, IsDueAt};
-ghost use Rattle.lb_cell.specs.Hands.{IsLoaded};
+ghost use Rattle.lb_cell.specs.Hands.{CanLand, IsLoaded};
 
 use crate::before::Before;
 use crate::cell::Cell;
@@ -16,12 +18,29 @@ use crate::shared::Shared;
 use lb_base::Items;
 use lb_core::What;
 use lb_course::{cause_of, landed};
-use lb_queue::Hand;
+use lb_queue::{Hand, Queue, TaskRecord};
 use std::alloc::Global;
 use std::mem;
 use std::sync::Wait;
 
+// Whether a queue knows none of these tasks.
+fn knows_none(queue: &Queue, tasks: &[TaskRecord]) -> bool
+    ensures { result ≡ list_all (λ t. not (knows queue.now.state t.id)) tasks.now }
+{
+    tasks.iter().all(|task| !queue.knows(task.id))
+}
+
 impl<N: Names> Cell<N> {
+    /// Whether what a landing of the lane's hand asks of this queue holds: room and the landings are booked, the tasks
+    /// come to this CPU, and none of them is known here. It takes no memory.
+    pub fn can_land(&self, lane: &Lane<N>, hand: &Hand) -> bool
+        ensures { IsTrue result ↔ CanLand self.now lane.now.course hand.now }
+    {
+        let is_booked = self.room > 0 && hand.len() as u64 <= self.queue.booked();
+        let course = &lane.course;
+        is_booked && course.to == self.cpu() && knows_none(&self.queue, course.hand.as_slice())
+    }
+
     /// The tasks of the lane's hand land here, by an `in`, for which room and the landings are booked. It has no refusal
     /// and takes no memory: the lane has kept the list of the ids since they left.
     pub fn land<R: Wait>(
