@@ -31,14 +31,23 @@ fn knows_none(queue: &Queue, tasks: &[TaskRecord]) -> bool
 }
 
 impl<N: Names> Cell<N> {
+    // Whether room for a landing is booked, and the landing of so many tasks.
+    fn has_booked(&self, tasks: usize) -> bool
+        ensures { IsTrue result ↔ ((0 < self.now.room) × (tasks ≤ self.now.queue.booked)) }
+    {
+        self.room > 0 && tasks as u64 <= self.queue.booked()
+    }
+
     /// Whether what a landing of the lane's hand asks of this queue holds: room and the landings are booked, the tasks
     /// come to this CPU, and none of them is known here. It takes no memory.
     pub fn can_land(&self, lane: &Lane<N>, hand: &Hand) -> bool
         ensures { IsTrue result ↔ CanLand self.now lane.now.course hand.now }
     {
-        let is_booked = self.room > 0 && hand.len() as u64 <= self.queue.booked();
         let course = &lane.course;
-        is_booked && course.to == self.cpu() && knows_none(&self.queue, course.hand.as_slice())
+        if !self.has_booked(hand.len()) || course.to != self.cpu() {
+            return false;
+        }
+        knows_none(&self.queue, course.hand.as_slice())
     }
 
     /// The tasks of the lane's hand land here, by an `in`, for which room and the landings are booked. It has no refusal

@@ -70,7 +70,8 @@ impl<N: Names> Lane<N> {
     pub fn follow_queue(&mut self, shared: &Shared<'_, N>, cell: &mut Cell<N>)
         ensures cell { cell.new ≡ cell.old }
         ensures same { SameBut self.old self.new }
-        ensures read { self.new.seat.read ≡ self.old.seat.read ++ map (held_of ⟦<Journal as Coding>⟧.coding) cell.old.log.seat.list }
+        ensures read { self.new.seat.read
+            ≡ self.old.seat.read ++ map (held_of ⟦<Journal as Coding>⟧.coding) cell.old.log.seat.list }
         ensures below { AllBelow self.new.seat.next cell.old.log.seat.list }
         ensures later { self.old.seat.next ≤ self.new.seat.next }
         ensures spare { self.new.seat.spare ≡ self.old.seat.spare }
@@ -82,7 +83,8 @@ impl<N: Names> Lane<N> {
     /// figure is written, and takes no memory.
     pub fn read<R: Wait>(&mut self, rt: &R, shared: &Shared<'_, N>, cpu: u32) -> Fig
         requires { cpu < length N.board }
-        ensures same { (self.new.seat ≡ self.old.seat) × (self.new.course ≡ self.old.course) × (self.new.number ≡ self.old.number) }
+        ensures same { (self.new.seat ≡ self.old.seat) × (self.new.course ≡ self.old.course)
+            × (self.new.number ≡ self.old.number) }
         ensures known { (self.new.known.ticket ≡ self.old.known.ticket) × (self.new.landing ≡ self.old.landing) }
         ensures others { self.new.known.reader ≡ see self.old.known.reader cpu (seen_at self.new.known.reader cpu) }
         ensures later { IsPrefix (seen_at self.old.known.reader cpu) (seen_at self.new.known.reader cpu) }
