@@ -36,9 +36,9 @@ impl<N: Names> Cell<N> {
     pub fn can_land(&self, lane: &Lane<N>, hand: &Hand) -> bool
         ensures { IsTrue result ↔ CanLand self.now lane.now.course hand.now }
     {
-        let is_booked = self.room > 0 && hand.len() as u64 <= self.queue.booked();
-        let course = &lane.course;
-        is_booked && course.to == self.cpu() && knows_none(&self.queue, course.hand.as_slice())
+        let is_booked = self.parts.room > 0 && hand.len() as u64 <= self.parts.queue.booked();
+        let course = &lane.parts.course;
+        is_booked && course.to == self.cpu() && knows_none(&self.parts.queue, course.hand.as_slice())
     }
 
     /// The tasks of the lane's hand land here, by an `in`, for which room and the landings are booked. It has no refusal
@@ -59,23 +59,18 @@ impl<N: Names> Cell<N> {
         ensures used { (self.new.queue.booked ≡ self.old.queue.booked - length hand.tasks) × (self.new.room + 1 ≡ self.old.room) }
     {
         let before = Before::of(self, lane);
-        self.room -= 1;
-        self.queue
-            .land(lane.course.at, cause_of(&lane.course), hand);
-        landed(alloc, &mut lane.course);
-        let ids = mem::replace(&mut lane.landing, Items::new(alloc));
+        self.parts.room -= 1;
+        let course = &mut lane.parts.course;
+        self.parts.queue.land(course.at, cause_of(course), hand);
+        landed(alloc, course);
+        let ids = mem::replace(&mut lane.parts.landing, Items::new(alloc));
         enter(
             rt,
             alloc,
             shared,
             before,
-            &self.queue,
-            &mut self.log,
-            self.room,
-            lane.number,
-            &mut lane.course,
-            &mut lane.known,
-            &lane.landing,
+            &mut self.parts,
+            &mut lane.parts,
             What::Landed { ids },
         );
     }
