@@ -2,6 +2,7 @@ use Rattle.std.proofs.Common.{subst, sym, ap, ◌∙◌}
 use Rattle.lb_queue.specs.Tasks.{ids}
 use Rattle.lb_core.specs.declared.course.Course.{Course}
 use Rattle.lb_core.specs.declared.entry.What.TheVariants.{Out}
+use Rattle.lb_cell.specs.Cells.{LaneIs}
 use Rattle.lb_cell.specs.Draws.{MayDraw}
 use Rattle.lb_cell.proofs.Moving.{may_out, noted}
 use Rattle.lb_cell.proofs.leaving.depart.Goals as goal
@@ -18,9 +19,8 @@ pub enter-requires-clause-course : goal.enter-requires-clause-course
 enter-requires-clause-course g c =
     let b = c.args.before in
     noted g.N.Names.header b.cell b.lane c.args.why c.args.taken c.args.hand.now c.args.cell.now.queue.state c.fill.new.self.records
-    c.to-to.result c.moment.result c.args.lane.now.course c.taken_off.new.course c.requires.left c.requires.lane.1
-    c.fill.ensures.records
-    c.to-to.ensures c.moment.ensures c.taken_off.ensures
+    c.to-to.result c.moment.result c.args.lane.now.course c.taken_off.new.course c.requires.left
+    (ap (λ (x : LaneIs). x.course) c.requires.lane) c.fill.ensures.records c.to-to.ensures c.moment.ensures c.taken_off.ensures
 
 pub enter-requires-clause-landing : goal.enter-requires-clause-landing
 enter-requires-clause-landing g c =

@@ -28,7 +28,7 @@ new-item-requires g c =
     let b = c.args.before in
     let k : LaneKeeps n.header n.book n.board the_row.coded b =
     subst (λ x. LaneKeeps n.header n.book n.board the_row.coded x) c.before-2.view_is c.before-2.invariant.0 in
-    let owner : c.number-owner.result ≡ c.args.number + 1 =
+    let owner : c.number-owner.result ≡ c.args.lane.now.number + 1 =
     c.number-owner.ensures
     ∙ (ap (λ x. x.number) c.requires.lane.1 ∙ (k.owner ∙ ap (λ (i : ℕ). i + 1) (sym c.requires.lane.0))) in
     subst (λ (m : ℕ). m < 4294967296) owner (search rules)
