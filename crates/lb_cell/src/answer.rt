@@ -57,15 +57,15 @@ impl<N: Names> Cell<N> {
         ensures booked { Keeps self.old self.new }
     {
         let before = Before::of(self, lane);
-        let was = self.queue.len();
-        let reply = obey(&mut self.queue, lane.course.at, &lane.course.command);
-        let awake = self.queue.len();
+        let was = self.parts.queue.len();
+        let reply = obey(&mut self.parts.queue, lane.parts.course.at, &lane.parts.course.command);
+        let awake = self.parts.queue.len();
         // fewer are awake now: the task was
         let was_awake = awake < was;
         answered(
             alloc,
-            &mut lane.course,
-            self.log.writer.cpu(),
+            &mut lane.parts.course,
+            self.parts.log.writer.cpu(),
             was_awake,
             awake,
         );
@@ -74,13 +74,8 @@ impl<N: Names> Cell<N> {
             alloc,
             shared,
             before,
-            &self.queue,
-            &mut self.log,
-            self.room,
-            lane.number,
-            &mut lane.course,
-            &mut lane.known,
-            &lane.landing,
+            &mut self.parts,
+            &mut lane.parts,
             What::Did { reply },
         );
         reply

@@ -94,26 +94,21 @@ impl<N: Names> Cell<N> {
         ensures booked { Keeps self.old self.new }
     {
         let before = Before::of(self, lane);
-        let position = lane.course.position;
-        let imb = flag(&lane.course);
-        let turn = Turn::with(shared.header, domains, &lane.course);
+        let position = lane.parts.course.position;
+        let imb = flag(&lane.parts.course);
+        let turn = Turn::with(shared.header, domains, &lane.parts.course);
         let shape = turn.shape();
         let outcome = turn.outcome();
-        let left = counters_left(&self.queue, lane.course.at, &shape, outcome, imb);
-        self.queue.close_look(lane.course.at, &shape, outcome, imb);
-        close(&mut lane.course, word_of(outcome));
+        let left = counters_left(&self.parts.queue, lane.parts.course.at, &shape, outcome, imb);
+        self.parts.queue.close_look(lane.parts.course.at, &shape, outcome, imb);
+        close(&mut lane.parts.course, word_of(outcome));
         enter(
             rt,
             alloc,
             shared,
             before,
-            &self.queue,
-            &mut self.log,
-            self.room,
-            lane.number,
-            &mut lane.course,
-            &mut lane.known,
-            &lane.landing,
+            &mut self.parts,
+            &mut lane.parts,
             What::Close {
                 position,
                 outcome: word_of(outcome),
@@ -142,21 +137,16 @@ impl<N: Names> Cell<N> {
         ensures booked { Keeps self.old self.new }
     {
         let before = Before::of(self, lane);
-        let has_domains = Turn::with(shared.header, domains, &lane.course).has_domains();
-        self.queue.end_turn(lane.course.at);
-        turn_ends(alloc, &mut lane.course, has_domains);
+        let has_domains = Turn::with(shared.header, domains, &lane.parts.course).has_domains();
+        self.parts.queue.end_turn(lane.parts.course.at);
+        turn_ends(alloc, &mut lane.parts.course, has_domains);
         enter(
             rt,
             alloc,
             shared,
             before,
-            &self.queue,
-            &mut self.log,
-            self.room,
-            lane.number,
-            &mut lane.course,
-            &mut lane.known,
-            &lane.landing,
+            &mut self.parts,
+            &mut lane.parts,
             What::Over,
         );
     }

@@ -35,7 +35,7 @@ impl<N: Names> Cell<N> {
     fn has_booked(&self, tasks: usize) -> bool
         ensures { IsTrue result ↔ ((0 < self.now.room) × (tasks ≤ self.now.queue.booked)) }
     {
-        self.room > 0 && tasks as u64 <= self.queue.booked()
+        self.parts.room > 0 && tasks as u64 <= self.parts.queue.booked()
     }
 
     /// Whether what a landing of the lane's hand asks of this queue holds: room and the landings are booked, the tasks
@@ -43,11 +43,11 @@ impl<N: Names> Cell<N> {
     pub fn can_land(&self, lane: &Lane<N>, hand: &Hand) -> bool
         ensures { IsTrue result ↔ CanLand self.now lane.now.course hand.now }
     {
-        let course = &lane.course;
+        let course = &lane.parts.course;
         if !self.has_booked(hand.len()) || course.to != self.cpu() {
             return false;
         }
-        knows_none(&self.queue, course.hand.as_slice())
+        knows_none(&self.parts.queue, course.hand.as_slice())
     }
 
     /// The tasks of the lane's hand land here, by an `in`, for which room and the landings are booked. It has no refusal
@@ -68,23 +68,18 @@ impl<N: Names> Cell<N> {
         ensures used { (self.new.queue.booked ≡ self.old.queue.booked - length hand.tasks) × (self.new.room + 1 ≡ self.old.room) }
     {
         let before = Before::of(self, lane);
-        self.room -= 1;
-        self.queue
-            .land(lane.course.at, cause_of(&lane.course), hand);
-        landed(alloc, &mut lane.course);
-        let ids = mem::replace(&mut lane.landing, Items::new(alloc));
+        self.parts.room -= 1;
+        let course = &mut lane.parts.course;
+        self.parts.queue.land(course.at, cause_of(course), hand);
+        landed(alloc, course);
+        let ids = mem::replace(&mut lane.parts.landing, Items::new(alloc));
         enter(
             rt,
             alloc,
             shared,
             before,
-            &self.queue,
-            &mut self.log,
-            self.room,
-            lane.number,
-            &mut lane.course,
-            &mut lane.known,
-            &lane.landing,
+            &mut self.parts,
+            &mut lane.parts,
             What::Landed { ids },
         );
     }

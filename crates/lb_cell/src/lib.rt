@@ -23,6 +23,7 @@ mod making;
 mod names;
 mod opening;
 mod own;
+mod parts;
 mod publish;
 mod pulling;
 mod reading;

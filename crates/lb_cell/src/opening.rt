@@ -145,9 +145,9 @@ impl<N: Names> Cell<N> {
     {
         let before = Before::of(self, lane);
         begin(
-            &mut self.queue,
-            &mut lane.course,
-            lane.number,
+            &mut self.parts.queue,
+            &mut lane.parts.course,
+            lane.parts.number,
             shapes,
             positions,
             counters,
@@ -157,13 +157,8 @@ impl<N: Names> Cell<N> {
             alloc,
             shared,
             before,
-            &self.queue,
-            &mut self.log,
-            self.room,
-            lane.number,
-            &mut lane.course,
-            &mut lane.known,
-            &lane.landing,
+            &mut self.parts,
+            &mut lane.parts,
             What::Turn { positions },
         );
     }
@@ -191,9 +186,9 @@ impl<N: Names> Cell<N> {
         let before = Before::of(self, lane);
         refuse(
             alloc,
-            &mut self.queue,
-            &mut lane.course,
-            lane.number,
+            &mut self.parts.queue,
+            &mut lane.parts.course,
+            lane.parts.number,
             shapes,
             has_domains,
         );
@@ -202,13 +197,8 @@ impl<N: Names> Cell<N> {
             alloc,
             shared,
             before,
-            &self.queue,
-            &mut self.log,
-            self.room,
-            lane.number,
-            &mut lane.course,
-            &mut lane.known,
-            &lane.landing,
+            &mut self.parts,
+            &mut lane.parts,
             What::Shut,
         );
     }
@@ -237,15 +227,17 @@ impl<N: Names> Cell<N> {
         ensures booked { Keeps self.old self.new }
     {
         // reads a field of it, so that what it keeps is known
-        let _room = self.room;
-        let turn = Turn::with(shared.header, domains, &lane.course);
+        let _room = self.parts.room;
+        let turn = Turn::with(shared.header, domains, &lane.parts.course);
         let list = turn.shapes();
         let has_domains = turn.has_domains();
         let shapes = list.as_slice();
-        let kind = turn_kind(&lane.course);
+        let kind = turn_kind(&lane.parts.course);
+        let course = &lane.parts.course;
         let reply = self
+            .parts
             .queue
-            .opens(lane.course.at, kind, lane.course.version, shapes);
+            .opens(course.at, kind, course.version, shapes);
         match reply {
             TurnReply::Opened(positions) => {
                 self.open_turn(rt, alloc, shared, lane, shapes, positions, counters);

@@ -78,22 +78,17 @@ impl<N: Names> Cell<N> {
     {
         // what is picked leaves
         pulls_follow_picks();
-        let mut picked = picks_of(alloc, &self.queue, lane.course.at, env)?;
+        let mut picked = picks_of(alloc, &self.parts.queue, lane.parts.course.at, env)?;
         let lists = HandLists::new(alloc, picked.ids.len())?;
         let before = Before::of(self, lane);
-        let taken = self.queue.take(lane.course.at, env, &mut picked, hand);
+        let taken = self.parts.queue.take(lane.parts.course.at, env, &mut picked, hand);
         depart(
             rt,
             alloc,
             shared,
             before,
-            &self.queue,
-            &mut self.log,
-            self.room,
-            lane.number,
-            &mut lane.course,
-            &mut lane.known,
-            &mut lane.landing,
+            &mut self.parts,
+            &mut lane.parts,
             hand,
             lists,
             OutCause::Pull,

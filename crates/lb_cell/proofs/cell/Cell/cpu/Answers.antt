@@ -7,7 +7,7 @@ use Rattle.lb_cell.proofs.cell.Cell.cpu.Goals as goal
 
 pub returns-clause-own : goal.returns-clause-own
 returns-clause-own g c =
-    let s = c.self.inside in
+    let s = c.self.inside.parts in
     let own = replay_stays c.calls_keep_rest.ensures g.N.Names.header s.log.writer.cpu (map pair s.log.seat.list) in
     ap (λ (x : CellIs). x.queue.state.cpu) (sym c.self.view_is)
     ∙ (ap (λ (q : QueueState). q.cpu) c.self.invariant.replayed ∙ (own ∙ sym c.cpu.ensures))
