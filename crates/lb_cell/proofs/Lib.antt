@@ -9,7 +9,6 @@ mod Answering
 mod Seeing
 mod Asking
 mod Closing
-mod Filling
 mod Moving
 mod Turning
 mod Owning

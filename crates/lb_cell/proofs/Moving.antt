@@ -339,10 +339,6 @@ came q at n moved hand now is empty many =
 pub are_for : (n m : ℕ) (lists : HandLists) → m ≡ n → AreFor n lists → AreFor m lists
 are_for n m lists e f = subst (λ (k : ℕ). AreFor k lists) (sym e) f
 
-pub views_length : (q : QueueState) (at : ℕ) → length (views q at) ≡ length q.awake
-unfolding views
-views_length q at = length-map q.awake (view_at (clock_at q at))
-
 pub few_pushed : (b : Bool) (n : ℕ) → n ≡ (if b then 1 else 0) → n < 4294967296
 few_pushed true n e = omega (arith, e)
 few_pushed false n e = omega (arith, e)

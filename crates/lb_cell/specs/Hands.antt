@@ -33,12 +33,6 @@ pub record AreOf (tasks : List TaskRecord) (lists : HandLists) : Type 0 where
   pub landing : lists.landing ≡ ids tasks
 
 -- ---- a hand
--- the hand is that of the course: where its tasks go, when they left, and which they are
-pub record IsLoaded (hand : HandState) (c : Course) : Type 0 where
-  pub to : hand.to ≡ c.to
-  pub moment : hand.moment ≡ c.moment
-  pub tasks : hand.tasks ≡ c.hand
-
 -- of what the landing of a hand asks, all that is known behind the lock of the queue: room and the landings are booked, the
 -- tasks come to its CPU, and it does not know them
 pub record CanLand (c : CellIs) (course : Course) (hand : HandState) : Type 0 where

@@ -7,7 +7,8 @@ ghost use Rattle.lb_core.specs.declared.course.Form.TheVariants as form;
 ghost use Rattle.lb_core.specs.declared.entry.What.TheVariants as what;
 ghost use Rattle.lb_core.specs.Asks.{LandingAsks};
 ghost use Rattle.lb_cell.specs.Draws.{Drew, IsDueAt};
-ghost use Rattle.lb_cell.specs.Hands.{CanLand, IsLoaded};
+ghost use Rattle.lb_act.specs.Hands.{IsLoaded};
+ghost use Rattle.lb_cell.specs.Hands.{CanLand};
 
 use crate::before::Before;
 use crate::cell::Cell;
@@ -15,9 +16,9 @@ use crate::enter::enter;
 use crate::lane::Lane;
 use crate::names::Names;
 use crate::shared::Shared;
+use lb_act::arrive;
 use lb_base::Items;
 use lb_core::What;
-use lb_course::{cause_of, landed};
 use lb_queue::{Hand, Queue, TaskRecord};
 use std::alloc::Global;
 use std::mem;
@@ -69,9 +70,7 @@ impl<N: Names> Cell<N> {
     {
         let before = Before::of(self, lane);
         self.parts.room -= 1;
-        let course = &mut lane.parts.course;
-        self.parts.queue.land(course.at, cause_of(course), hand);
-        landed(alloc, course);
+        arrive(alloc, &mut self.parts.queue, &mut lane.parts.course, hand);
         let ids = mem::replace(&mut lane.parts.landing, Items::new(alloc));
         enter(
             rt,

@@ -3,9 +3,10 @@ ghost use Rattle.std.specs.Prelude.{◌≡◌, ◌<◌, ◌+◌, ◌^◌, [], le
 ghost use Rattle.lb_queue.specs.Tasks.{ids};
 ghost use Rattle.lb_queue.specs.declared.answers.OutCause.TheVariants as cause;
 ghost use Rattle.lb_core.specs.declared.entry.What.TheVariants as what;
+ghost use Rattle.lb_act.specs.Hands.{IsLoaded};
 ghost use Rattle.lb_cell.specs.Cells.{CellKeeps, HasRoom, LaneKeeps, cell_of, lane_of};
 ghost use Rattle.lb_cell.specs.Draws.{Drew, Keeps};
-ghost use Rattle.lb_cell.specs.Hands.{AreFor, HasLeft, IsLoaded, WakesElsewhere};
+ghost use Rattle.lb_cell.specs.Hands.{AreFor, HasLeft, WakesElsewhere};
 
 use crate::before::Before;
 use crate::cell::Cell;

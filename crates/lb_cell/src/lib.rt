@@ -37,6 +37,5 @@ pub use known::Known;
 pub use lane::Lane;
 pub use log::Log;
 pub use names::Names;
-pub use opening::blank_counters;
 pub use rooms::MAX_ENTRIES;
 pub use shared::Shared;

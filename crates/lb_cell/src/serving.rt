@@ -7,9 +7,10 @@ ghost use Rattle.lb_queue.specs.declared.answers.OutCause.TheVariants as cause;
 ghost use Rattle.lb_core.specs.declared.course.Form.TheVariants as form;
 ghost use Rattle.lb_core.specs.declared.entry.What.TheVariants as what;
 ghost use Rattle.lb_core.specs.Stage.{push_is_due};
+ghost use Rattle.lb_act.specs.Hands.{IsLoaded};
 ghost use Rattle.lb_cell.specs.Cells.{HasRoom};
 ghost use Rattle.lb_cell.specs.Draws.{Drew, IsDueAt, Keeps};
-ghost use Rattle.lb_cell.specs.Hands.{AreFor, IsLoaded};
+ghost use Rattle.lb_cell.specs.Hands.{AreFor};
 ghost use Rattle.lb_cell.specs.Serving.{out_cause, out_target};
 
 use crate::before::Before;
