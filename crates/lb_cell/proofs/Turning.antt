@@ -1,14 +1,11 @@
 -- The answer of a queue to a `use` may be drawn: a turn opens, or is shut where one is open.
-use Rattle.std.proofs.Common.{ℕ, ◌≡◌, Bool, true, false, not, ◌&&◌, Option, Some, None, is_some, is_none, List, length, if◌then◌else◌, MatchOption, refl, sym, subst, ap, arith, inl, inr}
-use Rattle.std.proofs.lemmas.List.{length-map}
-use Rattle.std.proofs.lemmas.Bool.{cases_eq, eq-eqb, ne_eqb}
+use Rattle.std.proofs.Common.{ℕ, ◌≡◌, Bool, true, false, not, ◌&&◌, Option, Some, None, is_some, is_none, List, if◌then◌else◌, refl, sym, subst, ap}
 use Rattle.lb_base.specs.declared.mask.Mask.{Mask}
 use Rattle.lb_base.specs.declared.shape.Shape.{Shape}
-use Rattle.lb_interval.specs.declared.Counters.{Counters}
 use Rattle.lb_base.specs.declared.shape.Kind.{Kind}
 use Rattle.lb_queue.specs.declared.answers.TurnReply.TheVariants.{Opened, TurnOpen}
-use Rattle.lb_queue.specs.Queue.{QueueState, clock_at, milliseconds}
-use Rattle.lb_queue.specs.Turns.{counters_found, counters_or_fresh, fresh_at, positions_found, opens, FitCounters}
+use Rattle.lb_queue.specs.Queue.{QueueState}
+use Rattle.lb_queue.specs.Turns.{positions_found, opens}
 use Rattle.lb_trace.specs.declared.trace.Header.{Header}
 use Rattle.lb_core.specs.declared.course.Form.{Form}
 use Rattle.lb_core.specs.declared.course.Form.TheVariants as forms
@@ -21,28 +18,12 @@ use Rattle.lb_core.specs.Course.{turn_kind, turn_domains, shapes_of}
 use Rattle.lb_core.specs.Elsewhere.{is_rest}
 use Rattle.lb_core.specs.Stage.{is_queue, queue_due, draws, stage_allows}
 use Rattle.lb_core.specs.Rules.{breaks_here}
+use Rattle.lb_core.proofs.Equality.{mask_itself}
 use Rattle.lb_cell.specs.Cells.{CellIs, LaneIs}
 use Rattle.lb_cell.specs.Draws.{IsDueAt, MayDraw, MayAnswerUse, sight_at, entry_at}
 use Rattle.lb_cell.proofs.Asking.{is_here}
 
--- ---- how many counters a turn finds
-or_fresh : (cs : Option (List Counters)) (shapes : List Shape)
-    → MatchOption cs (Unit {0}) (λ cs. length shapes ≡ length cs) → length (counters_or_fresh cs shapes) ≡ length shapes
-or_fresh None shapes fit = length-map shapes (fresh_at 0)
-or_fresh (Some cs) shapes fit = sym fit
-
-pub found_length : (q : QueueState) (at version : ℕ) (shapes : List Shape) → FitCounters q version shapes
-    → length (counters_found q at version shapes) ≡ length shapes
-unfolding counters_found
-found_length q at version shapes fit = elim (cases_eq version q.version) [
-  | inl e ↦ rw (eq-eqb version q.version e) (or_fresh q.counters shapes (fit e))
-  | inr d ↦ rw (ne_eqb version q.version d) (length-map shapes (fresh_at (milliseconds (clock_at q at))))
-]
-
 -- ---- a turn opens
-same_self : (m : Mask) → same_mask m m ≡ true
-same_self m = grind arith
-
 turn_stage : (h : Header) (c : CellIs) (l : LaneIs) (ps : Mask) → IsDueAt forms.Used l.course c.log.writer.cpu
     → not (stage_allows (sight_at h c l) (entry_at c l (Turn ps))) ≡ false
 unfolding stage_allows draws
@@ -62,7 +43,7 @@ turn_allowed h c l ps due closed is rules.Reply = closed
 turn_allowed h c l ps due closed is rules.Counters =
     let found : Mask =
     positions_found c.queue.state l.course.at (turn_kind l.course) l.course.version (shapes_of (turn_domains h l.course)) in
-    subst (λ (m : Mask). not (same_mask m found) ≡ false) (sym is) (rw (same_self found) refl)
+    subst (λ (m : Mask). not (same_mask m found) ≡ false) (sym is) (rw (mask_itself found) refl)
 turn_allowed h c l ps due closed is rules.Ticket = refl
 turn_allowed h c l ps due closed is rules.Prev = refl
 turn_allowed h c l ps due closed is rules.Row = refl

@@ -1,26 +1,20 @@
 //! The entries of a lane's own list.
-ghost use Rattle.std.specs.Prelude.{◌≡◌, ◌<◌, ◌≤◌, ◌++◌, [], length, map, max};
-ghost use Rattle.lb_base.specs.declared.mask.TheConstants.{MAX_CPUS};
+ghost use Rattle.std.specs.Prelude.{◌≡◌, ◌<◌};
 ghost use Rattle.lb_trace.specs.declared.trace.Header.{Header as HeaderIs};
-ghost use Rattle.lb_ticket.specs.Facts.{held_of};
-ghost use Rattle.lb_ticket.specs.Seats.{KeepsList};
-ghost use Rattle.lb_ticket.specs.Tickets.{AllBelow};
-ghost use Rattle.lb_core.specs.declared.entry.What.TheVariants as what;
 ghost use Rattle.lb_core.specs.Machine.{no_queue};
 ghost use Rattle.lb_core.specs.CourseAfter.{course_by};
-ghost use Rattle.lb_cell.specs.Cells.{IsInRange, LaneKeeps};
-ghost use Rattle.lb_cell.specs.Own.{DrewOwn, IsTurnDue, MayDrawOwn, MayFollow, OwnAsks, own_left, sight_from};
+ghost use Rattle.lb_cell.specs.Cells.{IsInRange, LaneKeeps, lane_of};
+ghost use Rattle.lb_cell.specs.Own.{DrewOwn, MayDrawOwn, MayFollow, OwnAsks, own_left, sight_from};
 
 use crate::draw::draw_noted;
-use crate::known::Known;
 use crate::lane::Lane;
 use crate::names::Names;
+use crate::parts::LaneParts;
 use crate::shared::Shared;
-use lb_base::{Items, Kind};
 use lb_core::{Course, Entry, Figs, Owner, What};
 use lb_course::{asked, looked, scanned, taken_up};
 use lb_journal::{Journal, Left};
-use lb_ticket::{Coding, Seat};
+use lb_ticket::Coding;
 use lb_trace::{Command, Masks};
 use std::alloc::Global;
 use std::marker::Model;
@@ -52,7 +46,7 @@ impl<N: Names> LaneBefore<N> {
     {
         LaneBefore {
             lane: Snapshot::of(lane),
-            course: Snapshot::of(&lane.course),
+            course: Snapshot::of(&lane.parts.course),
         }
     }
 }
@@ -62,46 +56,41 @@ impl<N: Names> LaneBefore<N> {
 fn enter_own<N: Names>(
     shared: &Shared<'_, N>,
     before: LaneBefore<N>,
-    seat: &mut Seat<Journal>,
-    number: u32,
-    course: &Course,
-    known: &mut Known,
+    lane: &mut LaneParts,
     what: What,
     masks: Snapshot<Masks>,
     figs: Snapshot<Figs>,
 ) -> u64
-    requires lane { (number ≡ before.number) × (seat.old ≡ before.seat) × (known.old ≡ before.known) }
+    requires lane { (lane.old.number ≡ before.number) × (lane.old.seat ≡ before.seat) × (lane.old.known ≡ before.known)
+        × (lane.old.landing ≡ before.landing) }
     requires spare { 0 < before.seat.spare }
     requires may { MayDrawOwn N.header before what masks.value figs.value }
-    requires course { course.now ≡ own_left N.header before what masks.value figs.value }
-    requires next { MayFollow N.header course.now }
-    ensures lane { LaneKeeps N.header N.book N.board ⟦<Left as Coding>⟧.coding
-        (record { number = number; course = course.now; known = known.new; seat = seat.new; landing = before.landing }) }
-    ensures drew { DrewOwn N.header before
-        (record { number = number; course = course.now; known = known.new; seat = seat.new; landing = before.landing })
-        what masks.value figs.value result }
+    requires course { lane.old.course ≡ own_left N.header before what masks.value figs.value }
+    requires next { MayFollow N.header lane.old.course }
+    ensures lane { LaneKeeps N.header N.book N.board ⟦<Left as Coding>⟧.coding (lane_of lane.new) }
+    ensures drew { DrewOwn N.header before (lane_of lane.new) what masks.value figs.value result }
 {
     let LaneBefore {
         lane: _,
         course: quoted,
     } = before;
     // as an owner the lane has its seat's number, the next one, so that fits its type
-    let _owner = seat.number();
+    let _owner = lane.seat.number();
     let entry = Entry {
-        owner: Owner::Lane(number),
-        lane: number,
-        prev: known.ticket,
+        owner: Owner::Lane(lane.number),
+        lane: lane.number,
+        prev: lane.known.ticket,
         what,
     };
     let item = Journal::new(
         entry,
         Snapshot::of(shared.header),
         quoted,
-        Snapshot::of(course),
+        Snapshot::of(&lane.course),
         masks,
         figs,
     );
-    draw_noted(shared.book, seat, known, item)
+    draw_noted(shared.book, &mut lane.seat, &mut lane.known, item)
 }
 
 // The course makes the step of an entry that carries these masks or figures. It has its own copy of a row's command.
@@ -157,52 +146,14 @@ impl<N: Names> Lane<N> {
         let before = LaneBefore::of(self);
         let named_masks = Snapshot::of(&masks);
         let named_figs = Snapshot::of(&figs);
-        step(alloc, &mut self.course, &what, command, masks, figs);
+        step(alloc, &mut self.parts.course, &what, command, masks, figs);
         enter_own(
             shared,
             before,
-            &mut self.seat,
-            self.number,
-            &self.course,
-            &mut self.known,
+            &mut self.parts,
             what,
             named_masks,
             named_figs,
         )
-    }
-
-    /// Takes up a version, with its partition masks, for a turn of a CPU that is due, by a `use`, and answers its ticket.
-    /// It takes no memory.
-    pub(crate) fn adopt(
-        &mut self,
-        alloc: Global,
-        shared: &Shared<'_, N>,
-        version: u64,
-        masks: Masks,
-        kind: Kind,
-        cpu: u32,
-    ) -> u64
-        requires room { 0 < self.old.seat.spare }
-        requires due { IsTurnDue self.old.course.form self.old.course kind cpu }
-        requires version { max self.old.course.named_version 1 ≤ version }
-        requires cpu { cpu < MAX_CPUS }
-        ensures { DrewOwn N.header self.old self.new (what.Adopt version kind cpu) masks [] result }
-    {
-        self.keeps();
-        let what = What::Adopt { version, kind, cpu };
-        let figs = Items::new(alloc);
-        self.draw(alloc, shared, what, None, masks, figs)
-    }
-
-    /// Reads the list of a queue so far: what the lane draws from now on is later than all of it.
-    pub(crate) fn read_list(&mut self, shared: &Shared<'_, N>, other: &mut Seat<Journal>)
-        requires { other.old.table ≡ N.book }
-        ensures other { other.new ≡ other.old }
-        ensures lane { self.new ≡ record self.old { seat = self.new.seat } }
-        ensures seat { KeepsList self.old.seat self.new.seat }
-        ensures read { self.new.seat.read ≡ self.old.seat.read ++ map (held_of ⟦<Journal as Coding>⟧.coding) other.old.list }
-        ensures below { AllBelow self.new.seat.next other.old.list }
-    {
-        self.seat.follow(shared.book, other);
     }
 }

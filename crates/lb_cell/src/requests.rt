@@ -8,7 +8,6 @@ ghost use Rattle.lb_cell.specs.Draws.{Drew, IsDueAt, Keeps};
 
 use crate::before::Before;
 use crate::cell::Cell;
-use crate::enter::enter;
 use crate::lane::Lane;
 use crate::names::Names;
 use crate::shared::Shared;
@@ -35,22 +34,11 @@ impl<N: Names> Cell<N> {
         ensures booked { Keeps self.old self.new }
     {
         let before = Before::of(self, lane);
-        let reply = self.queue.ask_active(lane.course.at, lane.course.cpu);
-        go_on(&mut lane.course);
-        enter(
-            rt,
-            alloc,
-            shared,
-            before,
-            &self.queue,
-            &mut self.log,
-            self.room,
-            lane.number,
-            &mut lane.course,
-            &mut lane.known,
-            &lane.landing,
-            What::Ask { reply },
-        );
+        let course = &lane.parts.course;
+        let reply = self.parts.queue.ask_active(course.at, course.cpu);
+        go_on(&mut lane.parts.course);
+        let what = What::Ask { reply };
+        before.enter(rt, alloc, shared, &mut self.parts, &mut lane.parts, what);
         reply
     }
 
@@ -69,22 +57,10 @@ impl<N: Names> Cell<N> {
         ensures booked { Keeps self.old self.new }
     {
         let before = Before::of(self, lane);
-        let reply = self.queue.kick(lane.course.at);
-        kicked(alloc, &mut lane.course, reply);
-        enter(
-            rt,
-            alloc,
-            shared,
-            before,
-            &self.queue,
-            &mut self.log,
-            self.room,
-            lane.number,
-            &mut lane.course,
-            &mut lane.known,
-            &lane.landing,
-            What::Kick { reply },
-        );
+        let reply = self.parts.queue.kick(lane.parts.course.at);
+        kicked(alloc, &mut lane.parts.course, reply);
+        let what = What::Kick { reply };
+        before.enter(rt, alloc, shared, &mut self.parts, &mut lane.parts, what);
         reply
     }
 }
