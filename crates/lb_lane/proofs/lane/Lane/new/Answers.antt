@@ -1,5 +1,5 @@
 use Rattle.lb_journal.specs.contracts.journal.Journal.{the_row}
-use Rattle.lb_lane.proofs.Making.{new_lane}
+use Rattle.lb_lane.proofs.Opening.{new_lane}
 use Rattle.lb_lane.proofs.lane.Lane.new.Goals as goal
 
 pub invariant_of-result : goal.invariant_of-result
