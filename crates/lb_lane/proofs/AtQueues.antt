@@ -9,7 +9,6 @@ use mathlib.Core.Logic.{dite}
 use native.Mathlib.Decide.{ℕ_discrete}
 use Rattle.logbook.specs.Pages.{Book}
 use Rattle.atomic_table.specs.Seated.{TableId}
-use Rattle.lb_base.specs.declared.mask.Mask.{Mask}
 use Rattle.lb_base.specs.declared.shape.Kind.{Kind}
 use Rattle.lb_base.specs.declared.shape.Kind.TheVariants.{Tick as TickTurn, Idle, Nohz}
 use Rattle.lb_base.specs.Sets.{least}
@@ -32,7 +31,7 @@ use Rattle.lb_core.specs.declared.entry.OutcomeWord.TheVariants as words
 use Rattle.lb_core.specs.declared.entry.What.{What}
 use Rattle.lb_core.specs.declared.entry.What.TheVariants as whats
 use Rattle.lb_core.specs.Course.{named_at, is_tick, is_newly, turn_kind}
-use Rattle.lb_core.specs.CourseAfter.{after_sleep, answered, closes, comes_to_rest, course_after, course_by, goes_on, goes_to, is_due_at, kicked, kicks_next, lands, left_idle, takes_off, turn_ends, turn_ends_by}
+use Rattle.lb_core.specs.CourseAfter.{after_sleep, answered, closes, comes_to_rest, course_after, course_by, goes_to, is_due_at, kicked, kicks_next, lands, left_idle, takes_off, turn_ends, turn_ends_by}
 use Rattle.lb_core.specs.Leaving.{Leaving, leaving}
 use Rattle.lb_core.specs.OfTrace.{rows_drawn}
 use Rattle.lb_core.specs.QueueAfter.{cause_of, queue_after}
@@ -42,7 +41,7 @@ use Rattle.lb_ticket.specs.Tickets.{pair}
 use Rattle.lb_journal.specs.Journal.{Journal}
 use Rattle.lb_journal.specs.Merge.{is_end}
 use Rattle.lb_journal.specs.Owners.{SeatUses}
-use Rattle.lb_board.specs.Board.{Sight, seen_at}
+use Rattle.lb_board.specs.Board.{seen_at}
 use Rattle.lb_seen.proofs.Beginnings.{prefix_length}
 use Rattle.lb_cell.specs.Kinds.{is_of_queue}
 use Rattle.lb_cell.specs.Cells.{CellIs, CellKeeps, LaneIs as SideIs}

@@ -1,5 +1,5 @@
 -- What a lane and the publisher behind its lock keep before any entry.
-use Rattle.std.proofs.Common.{ℕ, ◌≡◌, ◌+◌, ◌<◌, ◌≤◌, false, List, [], ◌∷◌, Some, length, map, get_or, replicate, slice_get, take, refl, sym, subst, ap, ◌∙◌, arith, inl, All}
+use Rattle.std.proofs.Common.{ℕ, ◌≡◌, ◌<◌, ◌≤◌, false, List, [], ◌∷◌, Some, length, map, slice_get, take, refl, sym, subst, ap, ◌∙◌, arith, inl, All}
 use Rattle.std.proofs.lemmas.List.{get_or-replicate}
 use Rattle.std.proofs.lemmas.List.Elements.{All-nil}
 use Rattle.std.proofs.lemmas.Option.{slice_get_within}
@@ -7,7 +7,6 @@ use base.Stored.{Coded}
 use Rattle.logbook.specs.Pages.{Book}
 use Rattle.atomic_table.specs.Seated.{TableId}
 use Rattle.lb_levels.specs.Faults.{CanBeRead}
-use Rattle.lb_domain.specs.declared.domain.Domain.{Domain}
 use Rattle.lb_domain.specs.Domains.{domains_of}
 use Rattle.lb_domain.specs.Topologies.{AreFew, DomainsWithin, domains_within}
 use Rattle.lb_topub.specs.Versions.{VersionsSeen}
@@ -27,7 +26,7 @@ use Rattle.lb_board.specs.Board.{seen_at}
 use Rattle.lb_cell.specs.Cells.{LaneIs as SideIs}
 use Rattle.lb_cell.specs.Reads.{Saw}
 use Rattle.lb_lane.specs.Lanes.{LaneKeeps}
-use Rattle.lb_lane.specs.Publishers.{PublisherIs, PublisherKeeps}
+use Rattle.lb_lane.specs.Publishers.{PublisherKeeps}
 use Rattle.lb_lane.specs.Vouched.{Vouches}
 
 -- a lane that took up no version has no domains

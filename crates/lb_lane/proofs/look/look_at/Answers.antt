@@ -1,4 +1,4 @@
-use Rattle.std.proofs.Common.{rules, ◌≡◌, ◌∙◌, ◌≤◌, [], true, false, sym, ap, subst, arith}
+use Rattle.std.proofs.Common.{rules, ◌≡◌, ◌∙◌, [], true, false, sym, ap, subst, arith}
 use Rattle.lb_base.specs.Mask.{has, members}
 use Rattle.lb_domain.specs.declared.domain.Domain.{Domain}
 use Rattle.lb_core.specs.declared.entry.What.{What}

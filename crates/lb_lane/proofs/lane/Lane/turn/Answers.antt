@@ -1,4 +1,4 @@
-use Rattle.std.proofs.Common.{rules, ◌≡◌, ◌∙◌, None, false, if◌then◌else◌, length, subst, sym, ap}
+use Rattle.std.proofs.Common.{rules, ◌≡◌, ◌∙◌, None, if◌then◌else◌, subst, sym}
 use Rattle.lb_core.specs.declared.course.Form.TheVariants as forms
 use Rattle.lb_core.specs.Asks.{OpeningAsks}
 use Rattle.lb_core.specs.Stage.{waits_for_push}
