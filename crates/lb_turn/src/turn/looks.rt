@@ -56,7 +56,9 @@ impl<'a> Turn<'a> {
         requires { HasDomain self.now }
         ensures { result ≡ group_at (turn_domain self.now.header self.now.course).groups 0 }
     {
-        let groups = self.domains[self.course.position as usize].groups.as_slice();
+        let groups = self.domains[self.course.position as usize]
+            .groups
+            .as_slice();
         if groups.is_empty() {
             Mask::none()
         } else {

@@ -4,7 +4,6 @@ use Rattle.std.proofs.Math.ListN.{length-set}
 use Rattle.std.proofs.lemmas.List.{length-map, get_or-map}
 use Rattle.lb_base.specs.declared.shape.Shape.{Shape}
 use Rattle.lb_domain.specs.declared.domain.Domain.{Domain}
-use Rattle.lb_domain.specs.Domains.{no_domain}
 use Rattle.lb_core.specs.Course.{shapes_of}
 use Rattle.lb_turn.proofs.Filling.{filled_more}
 use Rattle.lb_turn.proofs.turn.shapes.shapes_of.Goals as goal
@@ -17,10 +16,11 @@ loop-i-preserved c =
     let inside : l.i < length l.list = omega arith in
     let there : l.i < length ds = omega arith in
     let many : l.i < length (shapes_of ds) = omega (arith, there, length-map ds f) in
-    let read = sym (get_or-map f ds l.i no_domain no_domain.shape there) in
+    let none = c.index-domains-i.result in
+    let read = sym (get_or-map f ds l.i none none.shape there) in
     record {
       room = length-set l.list l.i _ ∙ l.invariant.room;
-      so_far = filled_more (shapes_of ds) l.list l.i _ no_domain.shape inside many read l.invariant.so_far;
+      so_far = filled_more (shapes_of ds) l.list l.i _ none.shape inside many read l.invariant.so_far;
     }
 
 pub returns : goal.returns
