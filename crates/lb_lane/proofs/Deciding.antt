@@ -133,12 +133,11 @@ look_allowed h l m a b n names d figs same due numbers inside are en ed rule =
 pub look_asks : (l m : SideIs) (n : ℕ) (names : List FigName) (d : Decision) (p : ℕ) (x : Mask) (figs : List CpuFig)
     → m.course ≡ l.course → n ≤ 64 → l.course.cpu < n → n ≤ length l.course.named → All (λ f. f.cpu < n) figs
     → names ≡ names_of figs → OwnAsks (Look p x names d) m.course None
-look_asks l m n names d p x figs same few cpu named inside en =
-    (
-      subst (λ (c : Course). c.cpu < 64) (sym same) (omega (arith, few, cpu)),
-      subst (λ (t : Type 0). t) (λ i. All (λ f. f.cpu < length (sym same i).named) (sym en i))
-          (names_inside n l.course.named figs named inside),
-    )
+look_asks l m n names d p x figs same few cpu named inside en = (
+  subst (λ (c : Course). c.cpu < 64) (sym same) (omega (arith, few, cpu)),
+  subst (λ (t : Type 0). t) (λ i. All (λ f. f.cpu < length (sym same i).named) (sym en i))
+      (names_inside n l.course.named figs named inside),
+)
 
 -- ---- what is kept
 look_left : (h : Header) (l : SideIs) (domain : Domain) (figs : List CpuFig)
@@ -188,4 +187,3 @@ may_look h board versions code l k named asks part inside =
       named = omega (arith, named, cells);
       numbers = λ j lt. k.numbers j (subst (λ n. j < n) cells lt);
     }
-

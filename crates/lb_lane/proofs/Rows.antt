@@ -2,7 +2,7 @@
 use Rattle.std.proofs.Common.{ℕ, ◌≡◌, ◌+◌, ◌<◌, ◌≤◌, false, not, List, [], ◌∷◌, ◌++◌, Option, Some, length, get_or, slice_get, take, unwrap_or, refl, sym, subst, ap, ◌∙◌, arith, All}
 use Rattle.std.proofs.lemmas.List.{take_more}
 use Rattle.std.proofs.lemmas.List.Elements.{All-nil}
-use Rattle.std.proofs.lemmas.Option.{slice_get-get_or}
+use Rattle.std.proofs.lemmas.Option.{same_Some, slice_get-get_or}
 use base.Stored.{Coded}
 use mathlib.Core.List.{IsPrefix}
 use Rattle.logbook.specs.Pages.{Book}
@@ -57,20 +57,17 @@ allowed h l at command rest declared CountersRule = refl
 allowed h l at command rest declared Owed = refl
 allowed h l at command rest declared End = refl
 
-unwrap_same : (a b : TraceRow) → Some a ≡ Some b → a ≡ b
-unwrap_same a b e = ap (λ (o : Option TraceRow). unwrap_or o a) e
-
 -- what holds of all rows holds of the one at a place
 pub at_place : (P : TraceRow → Type 0) (rows : List TraceRow) (n : ℕ) (row : TraceRow) → All P rows → slice_get rows n ≡ Some row
     → n < length rows → P row
 at_place P rows n row all here lt =
-    subst P (unwrap_same _ _ (sym (slice_get-get_or rows n row lt) ∙ here)) (all n row lt)
+    subst P (same_Some _ _ (sym (slice_get-get_or rows n row lt) ∙ here)) (all n row lt)
 
 -- one row more
 pub row_more : (rows : List TraceRow) (n lane : ℕ) (row : TraceRow) → slice_get rows n ≡ Some row → row.lane ≡ lane → n < length rows
     → take n rows ++ row_of (Row (n + 1) row.at row.command) lane ≡ take (n + 1) rows
 row_more rows n lane row here own lt =
-    let is : get_or rows n row ≡ row = unwrap_same _ _ (sym (slice_get-get_or rows n row lt) ∙ here) in
+    let is : get_or rows n row ≡ row = same_Some _ _ (sym (slice_get-get_or rows n row lt) ∙ here) in
     let mine : record { lane = lane; at = row.at; command = row.command } ≡ get_or rows n row =
     (λ i. record { lane = sym own i; at = row.at; command = row.command }) ∙ sym is in
     ap (λ (r : TraceRow). take n rows ++ r ∷ []) mine ∙ sym (take_more rows n row lt)
