@@ -178,7 +178,8 @@ module _ (h : Header) (book : TableId) (board : List TableId) (versions : Book) 
   numbers : (l : LaneIs) (side : SideIs) (c c' : CellIs) (w : What) → LaneKeeps h board versions code l
       → length l.side.course.named ≡ length h.cpus → CellKeeps h book board c → Drew h c c' l.side side w
       → SeesMore l.side.known.reader side.known.reader
-      → side.course.named ≡ set l.side.course.named c.log.writer.cpu (length c.log.seat.list + 1) → (cpu : ℕ) → cpu < length h.cpus
+      → side.course.named ≡ set l.side.course.named c.log.writer.cpu (length c.log.seat.list + 1) → (cpu : ℕ)
+      → cpu < length h.cpus
       → named_at side.course cpu < length (seen_at side.known.reader cpu)
   numbers l side c c' w k long keeps drew sees named cpu lt =
       let own = c.log.writer.cpu in
@@ -204,7 +205,8 @@ module _ (h : Header) (book : TableId) (board : List TableId) (versions : Book) 
       let grows = prefix_length (seen_at l.side.known.reader cpu) (seen cpu) (sees cpu) in
       subst (λ (v : ℕ). v < length (seen cpu)) (sym (get_or-set_other ns own cpu n 0 ne)) (omega (arith, was, grows))))
 
-  pub at_queue : (l : LaneIs) (side : SideIs) (c c' : CellIs) (w : What) → LookSeesMore → SawStays → LaneKeeps h board versions code l
+  pub at_queue : (l : LaneIs) (side : SideIs) (c c' : CellIs) (w : What) → LookSeesMore → SawStays
+      → LaneKeeps h board versions code l
       → length l.side.course.named ≡ length h.cpus → CellKeeps h book board c → is_of_queue w ≡ true
       → is_due l.side.course.form ≡ false → Drew h c c' l.side side w → LaneKeeps h board versions code (record l { side = side })
   at_queue l side c c' w looks stay k long keeps kind due drew =
@@ -241,9 +243,11 @@ module _ (h : Header) (book : TableId) (board : List TableId) (versions : Book) 
       }
 
   -- or it was refused, and nothing was drawn
-  pub at_queue_if : {A E : Type 0} (X : Type 0) (r : Result A E) (l : LaneIs) (side : SideIs) (c c' : CellIs) (w : What) → LookSeesMore → SawStays
+  pub at_queue_if : {A E : Type 0} (X : Type 0) (r : Result A E) (l : LaneIs) (side : SideIs) (c c' : CellIs) (w : What)
+      → LookSeesMore → SawStays
       → LaneKeeps h board versions code l → length l.side.course.named ≡ length h.cpus → CellKeeps h book board c
-      → is_of_queue w ≡ true → is_due l.side.course.form ≡ false → OnOk r (Drew h c c' l.side side w) → OnErr r ((c' ≡ c) × (side ≡ l.side) × X)
+      → is_of_queue w ≡ true → is_due l.side.course.form ≡ false → OnOk r (Drew h c c' l.side side w)
+      → OnErr r ((c' ≡ c) × (side ≡ l.side) × X)
       → LaneKeeps h board versions code (record l { side = side })
   at_queue_if X (Ok x) l side c c' w looks stay k long keeps kind due drew same =
       at_queue l side c c' w looks stay k long keeps kind due drew

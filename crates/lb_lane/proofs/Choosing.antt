@@ -33,12 +33,14 @@ module _ (h : Header) (board : List TableId) (versions : Book) (code : Coded Jou
   pub sees_versions : (l : LaneIs) (looker : VersionsSeen) → LaneKeeps h board versions code l → looker.book ≡ l.looker.book
       → IsPrefix l.looker.topologies looker.topologies → LaneKeeps h board versions code (record l { looker = looker })
   sees_versions l looker k book front =
-      let more : length l.looker.topologies ≤ length looker.topologies = prefix_length l.looker.topologies looker.topologies front in
+      let more : length l.looker.topologies ≤ length looker.topologies =
+      prefix_length l.looker.topologies looker.topologies front in
       record {
         machine = k.machine;
         cells = k.cells;
         looker = book ∙ k.looker;
-        vouches = vouches_more h code l.side.seat.read l.side.seat.next l.looker.topologies looker.topologies l.vouched front k.vouches;
+        vouches =
+            vouches_more h code l.side.seat.read l.side.seat.next l.looker.topologies looker.topologies l.vouched front k.vouches;
         some = k.some;
         seen = let s = k.seen in omega (arith, s, more);
         version = let s = k.version in omega (arith, s, more);

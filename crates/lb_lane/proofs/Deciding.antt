@@ -159,7 +159,8 @@ look_adds h board versions code l side d k asks room x =
     (look_not_due c.form h c asks.due) refl tt refl
 
 -- ---- a lane may look where its domains were copied
-pub may_look : (h : Header) (board : List TableId) (versions : Book) (code : Coded Journal) (l : LaneIs) → LaneKeeps h board versions code l
+pub may_look : (h : Header) (board : List TableId) (versions : Book) (code : Coded Journal) (l : LaneIs)
+    → LaneKeeps h board versions code l
     → length l.side.course.named ≡ length h.cpus → LookAsks h l → GroupsPart → LieInside → MayLook h (length board) l.side
 may_look h board versions code l k named asks part inside =
     let c = l.side.course in

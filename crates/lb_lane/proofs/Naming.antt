@@ -133,5 +133,6 @@ names_add h board versions code l side due what k room x left late none uses goe
           let below : All (λ f. f.fig.n < length (seen f.cpu)) figs =
           λ i e li. slice_get_within (seen (get_or figs i e).cpu) _ _ (x.read.read i e li).is in
           subst (λ (ns : List ℕ). get_or ns cpu 0 < length (seen cpu)) (sym left.4)
-          (raised figs c.named side.known.reader (length board) room more x.inside below cpu (subst (λ n. cpu < n) (sym k.cells) lt));
+          (raised figs c.named side.known.reader (length board) room more x.inside below cpu
+          (subst (λ n. cpu < n) (sym k.cells) lt));
     }

@@ -52,13 +52,15 @@ vouches_one h code read next topologies first v one here =
       source = inl (is, refl);
     }
 
-pub new_lane : (h : Header) (board : List TableId) (versions : Book) (code : Coded Journal) (side : SideIs) (looker : VersionsSeen)
+pub new_lane : (h : Header) (board : List TableId) (versions : Book) (code : Coded Journal) (side : SideIs)
+    (looker : VersionsSeen)
     (rows : List TraceRow) → CanBeRead h.cpus h.distances → length board ≡ length h.cpus
     → side.course ≡ opening_course (length h.cpus) → side.seat.list ≡ []
     → ((cpu : ℕ) → cpu < length h.cpus → 0 < length (seen_at side.known.reader cpu)) → looker.book ≡ versions
     → slice_get looker.topologies 0 ≡ Some (domains_within h.cpus h.distances h.parts) → All (λ r. r.lane ≡ side.number) rows
     → All (λ r. is_undeclared h r.command ≡ false) rows → length rows ≤ 100000
-    → LaneKeeps h board versions code (record { side = side; looker = looker; rows = rows; vouched = 1; turned = 0; domains = [] })
+    → LaneKeeps h board versions code
+    (record { side = side; looker = looker; rows = rows; vouched = 1; turned = 0; domains = [] })
 new_lane h board versions code side looker rows machine cells course list seen book first owned declared short =
     let Seen : Drawn Journal → Type 0 = λ d. All (Saw side.known.reader d.ticket) d.item.figs in
     let GoesOn : Drawn Journal → Type 0 = λ d. is_end d.item.entry.what ≡ false in

@@ -42,7 +42,8 @@ pub allowed : (h : Header) (l : SideIs) (at : ℕ) (command : Command) → l.cou
 unfolding stage_allows draws
 allowed h l at command rest declared Stage =
     rw (equal_itself l.number)
-    (subst (λ (f : Form). not (draws f h l.course no_queue l.number (Row (l.course.rows + 1) at command)) ≡ false) (sym rest) refl)
+    (subst (λ (f : Form). not (draws f h l.course no_queue l.number (Row (l.course.rows + 1) at command)) ≡ false) (sym rest)
+    refl)
 allowed h l at command rest declared RowRule = rw (equal_itself (l.course.rows + 1)) declared
 allowed h l at command rest declared Ticket = refl
 allowed h l at command rest declared Prev = refl
@@ -64,7 +65,8 @@ at_place P rows n row all here lt =
     subst P (same_Some _ _ (sym (slice_get-get_or rows n row lt) ∙ here)) (all n row lt)
 
 -- one row more
-pub row_more : (rows : List TraceRow) (n lane : ℕ) (row : TraceRow) → slice_get rows n ≡ Some row → row.lane ≡ lane → n < length rows
+pub row_more : (rows : List TraceRow) (n lane : ℕ) (row : TraceRow) → slice_get rows n ≡ Some row → row.lane ≡ lane
+    → n < length rows
     → take n rows ++ row_of (Row (n + 1) row.at row.command) lane ≡ take (n + 1) rows
 row_more rows n lane row here own lt =
     let is : get_or rows n row ≡ row = same_Some _ _ (sym (slice_get-get_or rows n row lt) ∙ here) in
@@ -83,11 +85,13 @@ allowed_as h l rows at command masks figs rest declared er em ef rule =
 
 -- ---- what is kept
 row_left : (h : Header) (l : SideIs) (n at : ℕ) (command : Command) (masks : List Mask) (figs : List CpuFig)
-    → own_left h l (Row n at command) masks figs ≡ record l.course { form = forms.Asked; rows = n; at = at; command = Some command }
+    → own_left h l (Row n at command) masks figs
+    ≡ record l.course { form = forms.Asked; rows = n; at = at; command = Some command }
 unfolding course_after
 row_left h l n at command masks figs = refl
 
-pub row_adds : (h : Header) (board : List TableId) (versions : Book) (code : Coded Journal) (l : LaneIs) (side : SideIs) (rows at : ℕ)
+pub row_adds : (h : Header) (board : List TableId) (versions : Book) (code : Coded Journal) (l : LaneIs) (side : SideIs)
+    (rows at : ℕ)
     (command : Command) (row : TraceRow) (masks : List Mask) (figs : List CpuFig) (ticket : ℕ) → LaneKeeps h board versions code l
     → Drew h l.side side (Row (rows + 1) at command) masks figs ticket → rows ≡ l.side.course.rows → rows < length l.rows
     → slice_get l.rows rows ≡ Some row → at ≡ row.at → command ≡ row.command → figs ≡ []
@@ -118,7 +122,8 @@ row_adds h board versions code l side rows at command row masks figs ticket k dr
       turns = λ e. k.turns (ap is_due rest) ∙ sym (ap (λ (c : Course). c.cpu) left);
       few = k.few;
       numbers = λ cpu lt.
-          subst (λ (t : Type 0). t) (λ i. named_at (record l.side.course { named = named i }) cpu < length (seen_at (sym es i) cpu))
+          subst (λ (t : Type 0). t) (λ i. named_at (record l.side.course { named = named i })
+          cpu < length (seen_at (sym es i) cpu))
           (k.numbers cpu lt);
       goes_on = refl;
     }

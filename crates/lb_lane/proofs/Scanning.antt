@@ -90,7 +90,8 @@ scan_adds h board versions code l side target k due room x =
     (ap is_due due) refl tt refl
 
 -- ---- a lane may scan where its turn's CPU has domains
-pub may_scan : (h : Header) (board : List TableId) (versions : Book) (code : Coded Journal) (l : LaneIs) → LaneKeeps h board versions code l
+pub may_scan : (h : Header) (board : List TableId) (versions : Book) (code : Coded Journal) (l : LaneIs)
+    → LaneKeeps h board versions code l
     → length l.side.course.named ≡ length h.cpus → ScanAsks h l → LieInside → MayScan h (length board) l.side
 may_scan h board versions code l k named asks inside =
     let c = l.side.course in

@@ -65,7 +65,8 @@ in_order [] at all i = tt
 in_order (d ∷ ds) at all zero = all 0 (omega arith)
 in_order (d ∷ ds) at all (suc i) = in_order ds (λ p. at (suc p)) (λ p lt. all (suc p) (omega (arith, lt))) i
 
-pub opening_asks : (h : Header) (c : CellIs) (l m : LaneIs) (x : Chosen) (kind : Kind) (ticket : ℕ) → Adopted h c l m x kind ticket
+pub opening_asks : (h : Header) (c : CellIs) (l m : LaneIs) (x : Chosen) (kind : Kind) (ticket : ℕ)
+    → Adopted h c l m x kind ticket
     → IsChosen h l x → TurnAsks c l x kind → StandInOrder → OpeningAsks h c.queue.state m.side.course
 opening_asks h c l m x kind ticket a chosen asks stand =
     let q : QueueState = c.queue.state in
@@ -80,7 +81,8 @@ opening_asks h c l m x kind ticket a chosen asks stand =
       fit = λ e. rw is at asks.fit e;
     })
 
-pub counters_fit : (h : Header) (c : CellIs) (l m : LaneIs) (x : Chosen) (kind : Kind) (ticket : ℕ) → Adopted h c l m x kind ticket
+pub counters_fit : (h : Header) (c : CellIs) (l m : LaneIs) (x : Chosen) (kind : Kind) (ticket : ℕ)
+    → Adopted h c l m x kind ticket
     → IsChosen h l x → length (turn_domains h m.side.course) ≡ length x.domains
 counters_fit h c l m x kind ticket a chosen =
     ap (λ y. length (turn_domains h y)) (used h c l m x kind ticket a) ∙ ap length (sym chosen.copy.domains)
