@@ -24,6 +24,7 @@ impl<N: Names> Model for Cell<N> {
 
 impl<N: Names> Cell<N> {
     ghost use Rattle.std.specs.Prelude.{◌≡◌};
+    ghost use Rattle.lb_cell.specs.Cells.{CellKeeps};
 
     /// The queue.
     pub fn queue(&self) -> &Queue
@@ -40,5 +41,13 @@ impl<N: Names> Cell<N> {
         // whatever entries the queue drew, it is that of its CPU
         calls_keep_rest();
         self.parts.log.writer.cpu()
+    }
+
+    /// What every cell keeps.
+    pub fn keeps(&self)
+        ensures { CellKeeps N.header N.book N.board self.now }
+    {
+        // reads a field of it, so that what it keeps is known
+        let _room = self.parts.room;
     }
 }

@@ -58,7 +58,8 @@ impl<N: Names + Versions> PublisherCell<N> {
         ensures told { IsPrefix self.old.publisher.topologies lane.new.looker.topologies }
         ensures side { SameBut lane.old.side lane.new.side }
         ensures later { lane.old.side.seat.next ≤ lane.new.side.seat.next }
-        ensures rest { (lane.new.rows ≡ lane.old.rows) × (lane.new.turned ≡ lane.old.turned) × (lane.new.domains ≡ lane.old.domains) }
+        ensures rest { (lane.new.rows ≡ lane.old.rows) × (lane.new.turned ≡ lane.old.turned)
+            × (lane.new.domains ≡ lane.old.domains) }
     {
         // what the lane saw and read stays
         saw_stays();
