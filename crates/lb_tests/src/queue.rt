@@ -23,13 +23,7 @@ const PULL: Env = Env {
 // The calls that take memory, with enough of it, and those that write to a caller's vectors.
 #[test]
 fn a_pulled_task_lands_where_it_is_booked(rt: HostRuntime) {
-    let Ok(mut from) = Queue::new(rt.alloc(), 1, 2) else {
-        panic!(rt; "no room")
-    };
-    declare(&rt, &mut from, 3);
-    declare(&rt, &mut from, 4);
-    wake(&rt, &mut from, 3);
-    wake(&rt, &mut from, 4);
+    let mut from = two_awake(&rt, rt.alloc());
     let Ok(mut to) = Queue::new(rt.alloc(), 0, 2) else {
         panic!(rt; "no room")
     };
@@ -46,6 +40,18 @@ fn a_pulled_task_lands_where_it_is_booked(rt: HostRuntime) {
     assert!(rt; picked.ids.as_slice() == [4].as_slice());
     land(&rt, &mut to, hand);
     assert!(rt; to.knows(4) && !from.knows(4) && to.clock() == 7 && to.booked() == 0);
+}
+
+// The queue of CPU 1 with the tasks 3 and 4 awake.
+fn two_awake(rt: &impl Abort, alloc: Global) -> Queue {
+    let Ok(mut queue) = Queue::new(alloc, 1, 2) else {
+        panic!(rt; "no room")
+    };
+    declare(rt, &mut queue, 3);
+    declare(rt, &mut queue, 4);
+    wake(rt, &mut queue, 3);
+    wake(rt, &mut queue, 4);
+    queue
 }
 
 // A task of nice value 0 that may run on the first two CPUs.
