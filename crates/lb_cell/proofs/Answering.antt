@@ -1,7 +1,7 @@
 -- The answer of a queue that knows the command's task may be drawn, and how the course goes on.
-use Rattle.std.proofs.Common.{ℕ, pos, ◌≡◌, Bool, true, false, not, ◌&&◌, ◌||◌, ltb, eqb, [], ◌∷◌, Option, Some, None, is_some, IfSome, length, refl, sym, subst, ap, ◌∙◌, arith}
+use Rattle.std.proofs.Common.{ℕ, pos, ◌≡◌, Bool, true, false, not, ◌&&◌, ◌||◌, ltb, [], ◌∷◌, Option, Some, None, is_some, IfSome, length, refl, sym, subst, ap, ◌∙◌}
 use Rattle.lb_queue.specs.declared.answers.Reply.{Reply}
-use Rattle.lb_queue.specs.declared.answers.Reply.TheVariants.{Done, Already, NotHere, Gone, BadMask}
+use Rattle.lb_queue.specs.declared.answers.Reply.TheVariants.{NotHere}
 use Rattle.lb_queue.specs.declared.awake.Awake.{Awake}
 use Rattle.lb_queue.specs.declared.awake.StopRequest.TheVariants.{Free}
 use Rattle.lb_base.specs.Mask.{no_cpus}
@@ -27,18 +27,12 @@ use Rattle.lb_core.specs.Stage.{is_queue, queue_due, draws, stage_allows}
 use Rattle.lb_core.specs.Rules.{leaves_instead, breaks_here}
 use Rattle.lb_core.specs.QueueAfter.{answer_to}
 use Rattle.lb_core.specs.CourseAfter.{answered}
+use Rattle.lb_core.proofs.Equality.{equal_itself, reply_itself}
 use Rattle.lb_course.specs.Answers.{WasAwake}
 use Rattle.lb_cell.specs.Cells.{CellIs, LaneIs}
 use Rattle.lb_cell.specs.Draws.{MayDraw, sight_at, entry_at}
 use Rattle.lb_cell.specs.Commands.{CanAnswer, answers_at}
 use Rattle.lb_cell.proofs.Falling.{falls_asleep, ends_awake}
-
-same_self : (r : Reply) → same_reply r r ≡ true
-same_self Done = refl
-same_self Already = refl
-same_self NotHere = refl
-same_self Gone = refl
-same_self BadMask = refl
 
 -- ---- the commands that a queue answers
 may_did : (o : Option Command) (cpu : ℕ) → answers_at o cpu ≡ true
@@ -160,7 +154,7 @@ allowed h c l r can is ReplyRule =
     (λ (x : Reply). (leaves_instead l.course.command c.queue.state || same_reply x NotHere || not (same_reply x a)) ≡ false)
     (sym is)
     (rw (stays l.course.command c.queue.state can.asks)
-    (rw (here c.queue.state c.log.writer.cpu l.course can) (rw (same_self a) refl)))
+    (rw (here c.queue.state c.log.writer.cpu l.course can) (rw (reply_itself a) refl)))
 allowed h c l r can is Owed = none_owed l.course.command c.queue.state can.asks
 allowed h c l r can is Ticket = refl
 allowed h c l r can is Prev = refl
@@ -184,15 +178,12 @@ may_answer h c l r can is = record {
 }
 
 -- ---- the course
-same_number : (n : ℕ) → eqb n n ≡ true
-same_number n = grind arith
-
 -- some queue where the task is awake, or is not
 witness : (t : ℕ) (b : Bool) → (q : QueueState) × (is_awake q t ≡ b)
 witness t false = (empty_queue 0 0, refl)
 witness t true = (
   record (empty_queue 0 0) { awake = record { task = new_task t (pos 0) no_cpus; running = false; stop = Free } ∷ [] },
-  rw (same_number t) refl,
+  rw (equal_itself t) refl,
 )
 
 -- whether the command's task was awake is told by how many are

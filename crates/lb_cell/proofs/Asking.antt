@@ -1,7 +1,6 @@
--- What a lane asks of a queue may be drawn.
-use Rattle.std.proofs.Common.{ℕ, ◌≡◌, true, false, not, ◌&&◌, eqb, Option, Some, is_some, refl, sym, subst, ap, ◌∙◌, arith}
+-- The entries `ask` and `kick`, by which a lane asks something of a queue, may be drawn where they are due.
+use Rattle.std.proofs.Common.{ℕ, ◌≡◌, true, false, not, ◌&&◌, Option, Some, is_some, refl, sym, subst, ap, ◌∙◌}
 use Rattle.lb_queue.specs.declared.answers.AskReply.{AskReply}
-use Rattle.lb_queue.specs.declared.answers.AskReply.TheVariants.{New, Old}
 use Rattle.lb_queue.specs.Requests.{ask_active, kick}
 use Rattle.lb_trace.specs.declared.trace.Header.{Header}
 use Rattle.lb_core.specs.declared.course.Form.{Form}
@@ -14,19 +13,13 @@ use Rattle.lb_core.specs.Same.{same_ask}
 use Rattle.lb_core.specs.Elsewhere.{is_rest}
 use Rattle.lb_core.specs.Stage.{is_queue, queue_due, target_of, draws, stage_allows}
 use Rattle.lb_core.specs.Rules.{breaks_here}
+use Rattle.lb_core.proofs.Equality.{equal_itself, ask_itself}
 use Rattle.lb_cell.specs.Cells.{CellIs, LaneIs}
 use Rattle.lb_cell.specs.Draws.{IsDueAt, MayDraw, sight_at, entry_at}
 
-same_number : (n : ℕ) → eqb n n ≡ true
-same_number n = grind arith
-
-same_reply : (r : AskReply) → same_ask r r ≡ true
-same_reply New = refl
-same_reply Old = refl
-
 -- the queue that is due is this one
 pub is_here : (o : Option ℕ) (cpu : ℕ) → o ≡ Some cpu → is_queue (Queue cpu) o ≡ true
-is_here o cpu e = ap (is_queue (Queue cpu)) e ∙ same_number cpu
+is_here o cpu e = ap (is_queue (Queue cpu)) e ∙ equal_itself cpu
 
 ask_stage : (h : Header) (c : CellIs) (l : LaneIs) (r : AskReply) → IsDueAt forms.Closed l.course c.log.writer.cpu
     → not (stage_allows (sight_at h c l) (entry_at c l (Ask r))) ≡ false
@@ -43,7 +36,7 @@ ask_allowed : (h : Header) (c : CellIs) (l : LaneIs) (r : AskReply) → IsDueAt 
 ask_allowed h c l r due is rules.Stage = ask_stage h c l r due
 ask_allowed h c l r due is rules.Reply =
     subst (λ (x : AskReply). not (same_ask x (ask_active c.queue.state l.course.at l.course.cpu).0) ≡ false) (sym is)
-    (rw (same_reply (ask_active c.queue.state l.course.at l.course.cpu).0) refl)
+    (rw (ask_itself (ask_active c.queue.state l.course.at l.course.cpu).0) refl)
 ask_allowed h c l r due is rules.Ticket = refl
 ask_allowed h c l r due is rules.Prev = refl
 ask_allowed h c l r due is rules.Row = refl
@@ -82,7 +75,7 @@ kick_allowed : (h : Header) (c : CellIs) (l : LaneIs) (r : AskReply) → IsDueAt
 kick_allowed h c l r due is rules.Stage = kick_stage h c l r due
 kick_allowed h c l r due is rules.Reply =
     subst (λ (x : AskReply). not (same_ask x (kick c.queue.state l.course.at).0) ≡ false) (sym is)
-    (rw (same_reply (kick c.queue.state l.course.at).0) refl)
+    (rw (ask_itself (kick c.queue.state l.course.at).0) refl)
 kick_allowed h c l r due is rules.Ticket = refl
 kick_allowed h c l r due is rules.Prev = refl
 kick_allowed h c l r due is rules.Row = refl

@@ -1,35 +1,23 @@
 -- The close of a position that is done, and the end of a turn, may be drawn.
-use Rattle.std.proofs.Common.{ℕ, ◌≡◌, true, false, not, ◌&&◌, eqb, refl, sym, subst, ap, arith}
+use Rattle.std.proofs.Common.{ℕ, ◌≡◌, true, false, not, ◌&&◌, refl, sym, subst, ap}
 use Rattle.lb_trace.specs.declared.trace.Header.{Header}
 use Rattle.lb_core.specs.declared.course.Course.{Course}
 use Rattle.lb_core.specs.declared.course.Form.{Form}
 use Rattle.lb_core.specs.declared.course.Form.TheVariants as forms
 use Rattle.lb_core.specs.declared.entry.OutcomeWord.{OutcomeWord}
-use Rattle.lb_core.specs.declared.entry.OutcomeWord.TheVariants as words
 use Rattle.lb_core.specs.declared.entry.Owner.TheVariants.{Queue}
 use Rattle.lb_core.specs.declared.entry.What.TheVariants.{Close, Over}
 use Rattle.lb_core.specs.declared.rule.Rule.{Rule}
 use Rattle.lb_core.specs.declared.rule.Rule.TheVariants as rules
-use Rattle.lb_core.specs.Same.{same_word}
 use Rattle.lb_core.specs.Course.{outcome_of}
 use Rattle.lb_core.specs.Elsewhere.{is_rest}
 use Rattle.lb_core.specs.Stage.{is_queue, queue_due, draws, stage_allows}
 use Rattle.lb_core.specs.Rules.{breaks_here, closed_counters, word_of}
+use Rattle.lb_core.proofs.Equality.{equal_itself, word_itself}
 use Rattle.lb_cell.specs.Cells.{CellIs, LaneIs}
 use Rattle.lb_cell.specs.Draws.{IsDueAt, MayDraw, sight_at, entry_at}
 use Rattle.lb_cell.specs.Turns.{CanClose, IsPositionDone, closing}
 use Rattle.lb_cell.proofs.Asking.{is_here}
-
-same_number : (n : ℕ) → eqb n n ≡ true
-same_number n = grind arith
-
-same_self : (w : OutcomeWord) → same_word w w ≡ true
-same_self words.NotMine = refl
-same_self words.Balanced = refl
-same_self words.Moved = refl
-same_self words.Pinned = refl
-same_self words.Failed = refl
-same_self words.Asking = refl
 
 -- ---- the end of a turn
 over_stage : (h : Header) (c : CellIs) (l : LaneIs) → IsDueAt forms.Done l.course c.log.writer.cpu
@@ -113,10 +101,10 @@ close_allowed : (h : Header) (c : CellIs) (l : LaneIs) → CanClose h l.course c
 close_allowed h c l can rules.Stage =
     close_stage h c l l.course.position (closed_counters (sight_at h c l)).interval (closed_counters (sight_at h c l)).failures
     (word_of (outcome_of h l.course)) can
-close_allowed h c l can rules.Decision = rw (same_number l.course.position) refl
+close_allowed h c l can rules.Decision = rw (equal_itself l.course.position) refl
 close_allowed h c l can rules.Counters =
     let k = closed_counters (sight_at h c l) in
-    rw (same_self (word_of (outcome_of h l.course))) (rw (same_number k.interval) (rw (same_number k.failures) refl))
+    rw (word_itself (word_of (outcome_of h l.course))) (rw (equal_itself k.interval) (rw (equal_itself k.failures) refl))
 close_allowed h c l can rules.Reply = refl
 close_allowed h c l can rules.Ticket = refl
 close_allowed h c l can rules.Prev = refl

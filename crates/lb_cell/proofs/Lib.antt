@@ -14,5 +14,4 @@ mod Moving
 mod Turning
 mod Owning
 mod PubEntries
-mod Using
 mod Plain

@@ -1,5 +1,5 @@
 -- The entries by which tasks leave a queue and land at another may be drawn, and are what their courses note.
-use Rattle.std.proofs.Common.{ℕ, ◌≡◌, ◌≤◌, ◌<◌, ◌||◌, Bool, true, false, not, ◌&&◌, eqb, Option, Some, None, is_some, List, [], ◌∷◌, ◌++◌, length, if◌then◌else◌, refl, sym, subst, ap, ◌∙◌, arith}
+use Rattle.std.proofs.Common.{ℕ, ◌≡◌, ◌≤◌, ◌<◌, ◌||◌, Bool, true, false, not, ◌&&◌, Option, Some, None, is_some, List, [], ◌∷◌, ◌++◌, length, if◌then◌else◌, refl, sym, subst, ap, ◌∙◌, arith}
 use Rattle.std.proofs.lemmas.List.{length-map}
 use Rattle.lb_queue.specs.declared.answers.OutCause.{OutCause}
 use Rattle.lb_queue.specs.declared.answers.OutCause.TheVariants as causes
@@ -25,31 +25,19 @@ use Rattle.lb_core.specs.declared.entry.Owner.TheVariants.{Queue}
 use Rattle.lb_core.specs.declared.entry.What.TheVariants.{Out, Landed}
 use Rattle.lb_core.specs.declared.rule.Rule.{Rule}
 use Rattle.lb_core.specs.declared.rule.Rule.TheVariants as rules
-use Rattle.lb_core.specs.Same.{same_cause, same_numbers}
+use Rattle.lb_core.specs.Same.{same_numbers}
 use Rattle.lb_core.specs.Course.{ticked_cpu, is_wake, is_pull, env_of}
 use Rattle.lb_core.specs.CourseAfter.{takes_off}
 use Rattle.lb_core.specs.Elsewhere.{is_rest}
 use Rattle.lb_core.specs.Leaving.{Leaving, leaving, leaving_by, out_by, wake_out, wake_to, served_out, push_out, pull_out}
 use Rattle.lb_core.specs.Stage.{is_queue, push_is_due, queue_due, draws, stage_allows}
 use Rattle.lb_core.specs.Rules.{breaks_here, is_other_out}
+use Rattle.lb_core.proofs.Equality.{equal_itself, numbers_itself, cause_itself}
 use Rattle.lb_cell.specs.Cells.{CellIs, LaneIs}
 use Rattle.lb_cell.specs.Draws.{IsDueAt, MayDraw, sight_at, entry_at}
 use Rattle.lb_cell.specs.declared.lists.HandLists.{HandLists}
 use Rattle.lb_cell.specs.Hands.{HasLeft, AreFor}
 use Rattle.lb_cell.proofs.Asking.{is_here}
-
-same_number : (n : ℕ) → eqb n n ≡ true
-same_number n = grind arith
-
-same_list : (ns : List ℕ) → same_numbers ns ns ≡ true
-same_list [] = refl
-same_list (n ∷ ns) = rw (same_number n) (same_list ns)
-
-same_why : (c : OutCause) → same_cause c c ≡ true
-same_why causes.Wake = refl
-same_why causes.Stop = refl
-same_why causes.Pull = refl
-same_why causes.Push = refl
 
 -- ---- tasks that leave
 out_allowed : (h : Header) (c : CellIs) (l : LaneIs) (why : OutCause) (taken : Option Taken) (hand : HandState)
@@ -59,7 +47,7 @@ out_allowed : (h : Header) (c : CellIs) (l : LaneIs) (why : OutCause) (taken : O
 out_allowed h c l why taken hand rest left rules.Stage = ap not left.stage
 out_allowed h c l why taken hand rest left rules.Pick =
     subst (λ (o : Option Leaving). is_other_out o why hand.to (ids hand.tasks) ≡ false) (sym left.due)
-    (rw (same_why why) (rw (same_number hand.to) (rw (same_list (ids hand.tasks)) refl)))
+    (rw (cause_itself why) (rw (equal_itself hand.to) (rw (numbers_itself (ids hand.tasks)) refl)))
 out_allowed h c l why taken hand rest left rules.Reply = refl
 out_allowed h c l why taken hand rest left rules.Ticket = refl
 out_allowed h c l why taken hand rest left rules.Prev = refl
@@ -299,7 +287,7 @@ land_allowed : (h : Header) (c : CellIs) (l : LaneIs) (list : List ℕ) → IsDu
     → list ≡ ids l.course.hand → (rule : Rule) → breaks_here rule (sight_at h c l) (entry_at c l (Landed list)) ≡ false
 land_allowed h c l list due is rules.Stage = land_stage h c l list due
 land_allowed h c l list due is rules.Flight =
-    subst (λ (ns : List ℕ). not (same_numbers ns (ids l.course.hand)) ≡ false) (sym is) (rw (same_list (ids l.course.hand)) refl)
+    subst (λ (ns : List ℕ). not (same_numbers ns (ids l.course.hand)) ≡ false) (sym is) (rw (numbers_itself (ids l.course.hand)) refl)
 land_allowed h c l list due is rules.Reply = refl
 land_allowed h c l list due is rules.Ticket = refl
 land_allowed h c l list due is rules.Prev = refl

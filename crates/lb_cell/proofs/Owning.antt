@@ -1,19 +1,15 @@
 -- An entry of a lane's own list fits it, and what the lane keeps stays.
-use Rattle.std.proofs.Common.{ℕ, ◌≡◌, ◌&&◌, ltb, max, ◌≤◌, ◌+◌, ◌<◌, true, false, not, eqb, List, [], ◌∷◌, ◌++◌, Option, Some, None, length, map, set, refl, sym, subst, ap, ◌∙◌, arith, All}
+use Rattle.std.proofs.Common.{ℕ, ◌≡◌, ◌+◌, ◌<◌, true, false, List, [], ◌∷◌, ◌++◌, Option, Some, None, length, map, set, refl, sym, subst, ap, ◌∙◌, arith, All}
 use Rattle.std.proofs.lemmas.List.{length-set}
 use Rattle.std.proofs.lemmas.List.Elements.{All-map, All-push}
-use Rattle.std.proofs.lemmas.Bool.{lt-ltb, le-ltb}
+use Rattle.std.proofs.lemmas.Bool.{lt-ltb}
 use base.Stored.{Coded}
 use Rattle.atomic_table.specs.Seated.{TableId}
 use Rattle.lb_base.specs.declared.mask.Mask.{Mask}
 use Rattle.lb_base.specs.declared.mask.TheConstants.{MAX_CPUS}
-use Rattle.lb_base.specs.declared.shape.Kind.{Kind}
-use Rattle.lb_base.specs.declared.shape.Kind.TheVariants as kinds
 use Rattle.lb_trace.specs.declared.trace.Command.{Command}
 use Rattle.lb_trace.specs.declared.trace.Header.{Header}
 use Rattle.lb_core.specs.declared.course.Course.{Course}
-use Rattle.lb_core.specs.declared.course.Form.{Form}
-use Rattle.lb_core.specs.declared.course.Form.TheVariants as forms
 use Rattle.lb_core.specs.declared.entry.CpuFig.{CpuFig}
 use Rattle.lb_core.specs.declared.entry.FigName.{FigName}
 use Rattle.lb_core.specs.declared.entry.Owner.TheVariants.{Lane}
@@ -21,14 +17,12 @@ use Rattle.lb_core.specs.declared.entry.What.{What}
 use Rattle.lb_core.specs.declared.entry.What.TheVariants as whats
 use Rattle.lb_core.specs.declared.rule.Rule.{Rule}
 use Rattle.lb_core.specs.declared.rule.Rule.TheVariants as rules
-use Rattle.lb_core.specs.Same.{same_kind, same_number as same_number_of}
 use Rattle.lb_core.specs.Sight.{Sight}
-use Rattle.lb_core.specs.Stage.{draws, stage_allows}
 use Rattle.lb_core.specs.Placed.{is_flight}
 use Rattle.lb_core.specs.Rules.{breaks_here}
 use Rattle.lb_core.specs.CourseAfter.{course_by, course_after, raised_numbers, scanned}
 use Rattle.lb_core.specs.Machine.{no_queue}
-use Rattle.lb_core.specs.Course.{opening_course, turn_kind}
+use Rattle.lb_core.specs.Course.{opening_course}
 use Rattle.lb_ticket.specs.declared.item.Drawn.{Drawn}
 use Rattle.lb_ticket.specs.Seats.{NoteIs, SeatIs}
 use Rattle.lb_ticket.specs.Tickets.{pair}
@@ -37,7 +31,7 @@ use Rattle.lb_cell.specs.declared.known.Known.{Known}
 use Rattle.lb_cell.specs.LastEntries.{IsLast, DrewOne}
 use Rattle.lb_cell.specs.Kinds.{is_of_lane}
 use Rattle.lb_cell.specs.Cells.{LaneIs, LaneKeeps, IsInRange}
-use Rattle.lb_cell.specs.Own.{IsTurnDue, MayDrawOwn, MayFollow, OwnAsks, sight_from, sight_own, entry_own, own_left, item_own}
+use Rattle.lb_cell.specs.Own.{MayDrawOwn, MayFollow, OwnAsks, sight_from, sight_own, entry_own, own_left, item_own}
 
 -- ---- the owner's test
 sight_is : (h : Header) (l : LaneIs) (w : What) (masks : List Mask) (figs : List CpuFig)
@@ -201,77 +195,3 @@ may_follow h book board code l w own masks figs new k asks range steps =
       range = subst IsInRange (sym (steps ∙ own_course h l w own masks figs asks)) range;
       grounded = goes.1;
     }
-
--- ---- versions
-same_number : (n : ℕ) → eqb n n ≡ true
-same_number n = grind arith
-
-same_turn : (k : Kind) → same_kind k k ≡ true
-same_turn kinds.Tick = refl
-same_turn kinds.Idle = refl
-same_turn kinds.Nohz = refl
-
-draws_use : (f : Form) (h : Header) (c : Course) (lane v : ℕ) (k : Kind) (cpu : ℕ) → IsTurnDue f c k cpu
-    → draws f h c no_queue lane (whats.Adopt v k cpu) ≡ true
-unfolding draws
-draws_use forms.Serving h c lane v k cpu d =
-    rw d.0 (ap (λ (o : Option ℕ). same_number_of o (Some cpu)) d.1 ∙ same_number cpu)
-draws_use forms.Due h c lane v k cpu d =
-    subst
-    (λ (x : Kind). (same_kind x (turn_kind c) && eqb cpu c.cpu) ≡ true) (sym d.0)
-    (rw (same_turn (turn_kind c)) (ap (λ (n : ℕ). eqb n c.cpu) d.1 ∙ same_number c.cpu))
-draws_use forms.Rest h c lane v k cpu d = absurd d
-draws_use forms.Asked h c lane v k cpu d = absurd d
-draws_use forms.Flight h c lane v k cpu d = absurd d
-draws_use forms.Used h c lane v k cpu d = absurd d
-draws_use forms.Position h c lane v k cpu d = absurd d
-draws_use forms.Looked h c lane v k cpu d = absurd d
-draws_use forms.Landed h c lane v k cpu d = absurd d
-draws_use forms.Closed h c lane v k cpu d = absurd d
-draws_use forms.Done h c lane v k cpu d = absurd d
-draws_use forms.ScanDue h c lane v k cpu d = absurd d
-draws_use forms.Kicking h c lane v k cpu d = absurd d
-draws_use forms.Ended h c lane v k cpu d = absurd d
-
-use_stage : (h : Header) (l : LaneIs) (v : ℕ) (k : Kind) (cpu : ℕ) (masks : List Mask)
-    → IsTurnDue l.course.form l.course k cpu
-    → not (stage_allows (sight_own h l masks []) (entry_own l (whats.Adopt v k cpu))) ≡ false
-unfolding stage_allows
-use_stage h l v k cpu masks d =
-    rw (same_number l.number) (ap not (draws_use l.course.form h l.course l.number v k cpu d))
-
-not_below : (v n : ℕ) → n ≤ v → ltb v n ≡ false
-not_below v n le = le-ltb v n le
-
-use_allowed : (h : Header) (l : LaneIs) (v : ℕ) (k : Kind) (cpu : ℕ) (masks : List Mask)
-    → IsTurnDue l.course.form l.course k cpu → max l.course.named_version 1 ≤ v → (rule : Rule)
-    → breaks_here rule (sight_own h l masks []) (entry_own l (whats.Adopt v k cpu)) ≡ false
-use_allowed h l v k cpu masks d least rules.Stage = use_stage h l v k cpu masks d
-use_allowed h l v k cpu masks d least rules.Version = not_below v (max l.course.named_version 1) least
-use_allowed h l v k cpu masks d least rules.Row = refl
-use_allowed h l v k cpu masks d least rules.Reply = refl
-use_allowed h l v k cpu masks d least rules.Counters = refl
-use_allowed h l v k cpu masks d least rules.Ticket = refl
-use_allowed h l v k cpu masks d least rules.Prev = refl
-use_allowed h l v k cpu masks d least rules.Place = refl
-use_allowed h l v k cpu masks d least rules.Figure = refl
-use_allowed h l v k cpu masks d least rules.Decision = refl
-use_allowed h l v k cpu masks d least rules.Pick = refl
-use_allowed h l v k cpu masks d least rules.Flight = refl
-use_allowed h l v k cpu masks d least rules.Owed = refl
-use_allowed h l v k cpu masks d least rules.End = refl
-
-pub may_use : (h : Header) (l : LaneIs) (v : ℕ) (k : Kind) (cpu : ℕ) (masks : List Mask)
-    → IsTurnDue l.course.form l.course k cpu → max l.course.named_version 1 ≤ v
-    → MayDrawOwn h l (whats.Adopt v k cpu) masks []
-may_use h l v k cpu masks d least = record {
-  of_lane = refl;
-  allowed = use_allowed h l v k cpu masks d least;
-  carries_masks = tt;
-  carries_figs = refl;
-}
-
-pub use_in_range : (h : Header) (l : LaneIs) (v : ℕ) (k : Kind) (cpu : ℕ) (masks : List Mask) (figs : List CpuFig)
-    → IsInRange l.course → cpu < MAX_CPUS → IsInRange (own_left h l (whats.Adopt v k cpu) masks figs)
-unfolding course_after
-use_in_range h l v k cpu masks figs r below = record { cpu = below; position = r.position; source = r.source }

@@ -1,5 +1,5 @@
 -- The answer of a queue to a `use` may be drawn: a turn opens, or is shut where one is open.
-use Rattle.std.proofs.Common.{ℕ, ◌≡◌, Bool, true, false, not, ◌&&◌, Option, Some, None, is_some, is_none, List, length, if◌then◌else◌, MatchOption, refl, sym, subst, ap, arith, inl, inr}
+use Rattle.std.proofs.Common.{ℕ, ◌≡◌, Bool, true, false, not, ◌&&◌, Option, Some, None, is_some, is_none, List, length, if◌then◌else◌, MatchOption, refl, sym, subst, ap, inl, inr}
 use Rattle.std.proofs.lemmas.List.{length-map}
 use Rattle.std.proofs.lemmas.Bool.{cases_eq, eq-eqb, ne_eqb}
 use Rattle.lb_base.specs.declared.mask.Mask.{Mask}
@@ -21,6 +21,7 @@ use Rattle.lb_core.specs.Course.{turn_kind, turn_domains, shapes_of}
 use Rattle.lb_core.specs.Elsewhere.{is_rest}
 use Rattle.lb_core.specs.Stage.{is_queue, queue_due, draws, stage_allows}
 use Rattle.lb_core.specs.Rules.{breaks_here}
+use Rattle.lb_core.proofs.Equality.{mask_itself}
 use Rattle.lb_cell.specs.Cells.{CellIs, LaneIs}
 use Rattle.lb_cell.specs.Draws.{IsDueAt, MayDraw, MayAnswerUse, sight_at, entry_at}
 use Rattle.lb_cell.proofs.Asking.{is_here}
@@ -40,9 +41,6 @@ found_length q at version shapes fit = elim (cases_eq version q.version) [
 ]
 
 -- ---- a turn opens
-same_self : (m : Mask) → same_mask m m ≡ true
-same_self m = grind arith
-
 turn_stage : (h : Header) (c : CellIs) (l : LaneIs) (ps : Mask) → IsDueAt forms.Used l.course c.log.writer.cpu
     → not (stage_allows (sight_at h c l) (entry_at c l (Turn ps))) ≡ false
 unfolding stage_allows draws
@@ -62,7 +60,7 @@ turn_allowed h c l ps due closed is rules.Reply = closed
 turn_allowed h c l ps due closed is rules.Counters =
     let found : Mask =
     positions_found c.queue.state l.course.at (turn_kind l.course) l.course.version (shapes_of (turn_domains h l.course)) in
-    subst (λ (m : Mask). not (same_mask m found) ≡ false) (sym is) (rw (same_self found) refl)
+    subst (λ (m : Mask). not (same_mask m found) ≡ false) (sym is) (rw (mask_itself found) refl)
 turn_allowed h c l ps due closed is rules.Ticket = refl
 turn_allowed h c l ps due closed is rules.Prev = refl
 turn_allowed h c l ps due closed is rules.Row = refl

@@ -10,4 +10,3 @@ pub mod Serving
 pub mod Turns
 pub mod Commands
 pub mod Reads
-pub mod Began

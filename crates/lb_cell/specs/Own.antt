@@ -2,13 +2,9 @@
 use Rattle.std.specs.Prelude.{ℕ, ◌≡◌, ◌+◌, ◌<◌, ◌≤◌, true, false, Option, Some, List, [], ◌∷◌, ◌++◌, length, All}
 use Rattle.lb_base.specs.declared.mask.Mask.{Mask}
 use Rattle.lb_base.specs.declared.mask.TheConstants.{MAX_CPUS}
-use Rattle.lb_base.specs.declared.shape.Kind.{Kind}
-use Rattle.lb_base.specs.declared.shape.Kind.TheVariants.{Tick as TickTurn}
 use Rattle.lb_trace.specs.declared.trace.Command.{Command}
 use Rattle.lb_trace.specs.declared.trace.Header.{Header}
 use Rattle.lb_core.specs.declared.course.Course.{Course}
-use Rattle.lb_core.specs.declared.course.Form.{Form}
-use Rattle.lb_core.specs.declared.course.Form.TheVariants.{Serving, Due}
 use Rattle.lb_core.specs.declared.entry.CpuFig.{CpuFig}
 use Rattle.lb_core.specs.declared.entry.Entry.{Entry}
 use Rattle.lb_core.specs.declared.entry.Owner.TheVariants.{Lane}
@@ -16,7 +12,6 @@ use Rattle.lb_core.specs.declared.entry.What.{What}
 use Rattle.lb_core.specs.declared.entry.What.TheVariants.{Row, Adopt, Look, Scan}
 use Rattle.lb_core.specs.declared.rule.Rule.{Rule}
 use Rattle.lb_core.specs.Sight.{Sight}
-use Rattle.lb_core.specs.Course.{ticked_cpu, turn_kind}
 use Rattle.lb_core.specs.Placed.{is_flight}
 use Rattle.lb_core.specs.Rules.{breaks_here}
 use Rattle.lb_core.specs.CourseAfter.{course_after}
@@ -88,10 +83,3 @@ pub record DrewOwn (h : Header) (l l' : LaneIs) (what : What) (masks : List Mask
   pub reader : l'.known.reader ≡ l.known.reader
   pub number : l'.number ≡ l.number
   pub landing : l'.landing ≡ l.landing
-
--- ---- a `use`
--- in this form a turn of this kind is due at this CPU
-abbrev pub IsTurnDue : Form → Course → Kind → ℕ → Type 0
-IsTurnDue Serving c kind cpu = (kind ≡ TickTurn) × (ticked_cpu c.command ≡ Some cpu)
-IsTurnDue Due c kind cpu = (kind ≡ turn_kind c) × (cpu ≡ c.cpu)
-IsTurnDue form c kind cpu = ⊥

@@ -25,6 +25,7 @@ impl<N: Names> Model for Cell<N> {
 
 impl<N: Names> Cell<N> {
     ghost use Rattle.std.specs.Prelude.{◌≡◌};
+    ghost use Rattle.lb_cell.specs.Cells.{CellKeeps};
 
     /// The queue.
     pub fn queue(&self) -> &Queue
@@ -38,5 +39,13 @@ impl<N: Names> Cell<N> {
         ensures { result ≡ self.now.log.writer.cpu }
     {
         self.log.writer.cpu()
+    }
+
+    /// What every cell keeps.
+    pub fn keeps(&self)
+        ensures { CellKeeps N.header N.book N.board self.now }
+    {
+        // reads a field of it, so that what it keeps is known
+        let _room = self.room;
     }
 }

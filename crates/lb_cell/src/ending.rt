@@ -39,6 +39,7 @@ impl<N: Names> Lane<N> {
     pub fn end(self, shared: &Shared<'_, N>) -> (Seat<Journal>, Reader)
         ensures seat { KeepsList self.seat result.0 }
         ensures learnt { result.0.known ≡ self.seat.known ++ facts_of self.known.note }
+        ensures view { (result.0.fresh ≡ self.seat.fresh) × (result.0.read ≡ self.seat.read) }
         ensures reader { result.1 ≡ self.known.reader }
         ensures kept { LaneKeeps N.header N.book N.board ⟦<Left as Coding>⟧.coding self }
     {

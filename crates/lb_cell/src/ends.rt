@@ -1,10 +1,10 @@
 //! The close of a position, and the end of a turn.
 ghost use Rattle.std.specs.Prelude.{◌≡◌, [], IsSome, unwrap_or};
 ghost use Rattle.lb_queue.specs.Turns.{IsOpenAt, counters_at, counters_closed, open_kind};
-ghost use Rattle.lb_domain.specs.Domains.{topology_of};
 ghost use Rattle.lb_core.specs.declared.course.Form.TheVariants as form;
 ghost use Rattle.lb_core.specs.declared.entry.What.TheVariants as what;
 ghost use Rattle.lb_core.specs.Course.{outcome_of, turn_domain};
+ghost use Rattle.lb_turn.specs.Turns.{ShowsDomains};
 ghost use Rattle.lb_cell.specs.Cells.{HasRoom};
 ghost use Rattle.lb_cell.specs.Draws.{Drew, IsDueAt, Keeps};
 ghost use Rattle.lb_cell.specs.Turns.{CanClose, closing};
@@ -18,7 +18,7 @@ use crate::shared::Shared;
 use lb_base::{Kind, Shape};
 use lb_core::What;
 use lb_course::{close, turn_ends};
-use lb_domain::Topology;
+use lb_domain::Domain;
 use lb_interval::{Counters, Outcome, after};
 use lb_queue::{NANOSECONDS_PER_MILLISECOND, Queue, tries};
 use lb_turn::{Turn, flag, word_of};
@@ -74,20 +74,20 @@ fn counters_left(
 }
 
 impl<N: Names> Cell<N> {
-    /// Closes the position in work of the lane's open turn, by a `close`, and answers how it ended. The topology is
-    /// that of the version that the lane took up. It takes no memory.
+    /// Closes the position in work of the lane's open turn, by a `close`, and answers how it ended. The domains
+    /// are those of the turn's CPU in the version that the lane took up. It takes no memory.
     #[tactic(auto, unfolding(lb_core::specs::Rules::closed_counters))]
     pub fn close<R: Wait>(
         &mut self,
         rt: &R,
         alloc: Global,
         shared: &Shared<'_, N>,
-        topology: &Topology,
+        domains: &[Domain],
         lane: &mut Lane<N>,
     ) -> Outcome
         requires room { HasRoom self.old }
         requires due { CanClose N.header lane.old.course self.old.log.writer.cpu }
-        requires topology { topology.now.all ≡ topology_of N.header.cpus N.header.distances lane.old.course.masks }
+        requires domains { ShowsDomains N.header domains.now lane.old.course }
         requires open { IsOpenAt self.old.queue.state.open_turn (turn_domain N.header lane.old.course).shape.position }
         ensures outcome { result ≡ outcome_of N.header lane.old.course }
         ensures drew { Drew N.header self.old self.new lane.old lane.new (closing N.header self.old lane.old) }
@@ -96,7 +96,7 @@ impl<N: Names> Cell<N> {
         let before = Before::of(self, lane);
         let position = lane.course.position;
         let imb = flag(&lane.course);
-        let turn = Turn::new(shared.header, topology, &lane.course);
+        let turn = Turn::with(shared.header, domains, &lane.course);
         let shape = turn.shape();
         let outcome = turn.outcome();
         let left = counters_left(&self.queue, lane.course.at, &shape, outcome, imb);
@@ -124,25 +124,25 @@ impl<N: Names> Cell<N> {
         outcome
     }
 
-    /// Ends the lane's open turn, by an `over`. The topology is that of the version that the lane took up. It takes no
-    /// memory.
+    /// Ends the lane's open turn, by an `over`. The domains are those of the turn's CPU in the version that the lane took
+    /// up. It takes no memory.
     pub fn over<R: Wait>(
         &mut self,
         rt: &R,
         alloc: Global,
         shared: &Shared<'_, N>,
-        topology: &Topology,
+        domains: &[Domain],
         lane: &mut Lane<N>,
     )
         requires room { HasRoom self.old }
         requires due { IsDueAt form.Done lane.old.course self.old.log.writer.cpu }
-        requires topology { topology.now.all ≡ topology_of N.header.cpus N.header.distances lane.old.course.masks }
+        requires domains { ShowsDomains N.header domains.now lane.old.course }
         requires open { IsSome self.old.queue.state.open_turn }
         ensures drew { Drew N.header self.old self.new lane.old lane.new what.Over }
         ensures booked { Keeps self.old self.new }
     {
         let before = Before::of(self, lane);
-        let has_domains = Turn::new(shared.header, topology, &lane.course).has_domains();
+        let has_domains = Turn::with(shared.header, domains, &lane.course).has_domains();
         self.queue.end_turn(lane.course.at);
         turn_ends(alloc, &mut lane.course, has_domains);
         enter(

@@ -30,7 +30,6 @@ mod requests;
 mod rooms;
 mod serving;
 mod shared;
-mod turns;
 
 pub use cell::Cell;
 pub use known::Known;
@@ -38,5 +37,5 @@ pub use lane::Lane;
 pub use log::Log;
 pub use names::Names;
 pub use opening::blank_counters;
+pub use rooms::MAX_ENTRIES;
 pub use shared::Shared;
-pub use turns::Began;

@@ -5,12 +5,12 @@ ghost use Rattle.lb_base.specs.Sets.{least};
 ghost use Rattle.lb_queue.specs.declared.queue.TheConstants.{MAX_SHAPES};
 ghost use Rattle.lb_queue.specs.Turns.{AreInOrder, FitCounters, counters_found, opened, opens, positions_found, shut};
 ghost use Rattle.lb_trace.specs.declared.trace.Header.{Header};
-ghost use Rattle.lb_domain.specs.Domains.{topology_of};
 ghost use Rattle.lb_core.specs.declared.course.Form.TheVariants as form;
 ghost use Rattle.lb_core.specs.declared.entry.What.TheVariants as what;
 ghost use Rattle.lb_core.specs.Asks.{OpeningAsks};
 ghost use Rattle.lb_core.specs.Course.{shapes_of, turn_domains, turn_kind};
 ghost use Rattle.lb_core.specs.CourseAfter.{goes_to, turn_ends};
+ghost use Rattle.lb_turn.specs.Turns.{ShowsDomains};
 ghost use Rattle.lb_cell.specs.Cells.{HasRoom};
 ghost use Rattle.lb_cell.specs.Draws.{Drew, IsDueAt, Keeps, MayAnswerUse};
 ghost use Rattle.lb_cell.specs.Turns.{turn_what};
@@ -24,7 +24,7 @@ use crate::shared::Shared;
 use lb_base::{Items, Mask, NoMemory, Shape};
 use lb_core::{CounterRows, Course, What};
 use lb_course::{turn_ends, turn_kind, turn_opens};
-use lb_domain::Topology;
+use lb_domain::Domain;
 use lb_interval::Counters;
 use lb_queue::{Queue, TurnReply};
 use lb_turn::Turn;
@@ -214,21 +214,21 @@ impl<N: Names> Cell<N> {
     }
 
     /// Answers the lane's `use`, the last entry that it drew: a turn opens, by a `turn`, and the lane has the counters
-    /// that it found; or it is shut where one is open, by a `shut`. The topology is that of the version that the lane
-    /// took up, and `counters` has one place for each domain of the turn's CPU. It takes no memory.
+    /// that it found; or it is shut where one is open, by a `shut`. The domains are those of the turn's CPU in the
+    /// version that the lane took up, and `counters` has one place for each of them. It takes no memory.
     pub fn answer_use<R: Wait>(
         &mut self,
         rt: &R,
         alloc: Global,
         shared: &Shared<'_, N>,
-        topology: &Topology,
+        domains: &[Domain],
         lane: &mut Lane<N>,
         counters: CounterRows,
     ) -> TurnReply
         requires room { HasRoom self.old }
         requires due { IsDueAt form.Used lane.old.course self.old.log.writer.cpu }
         requires answers { MayAnswerUse self.old lane.old }
-        requires topology { topology.now.all ≡ topology_of N.header.cpus N.header.distances lane.old.course.masks }
+        requires domains { ShowsDomains N.header domains.now lane.old.course }
         requires asks { OpeningAsks N.header self.old.queue.state lane.old.course }
         requires counters { length counters ≡ length (turn_domains N.header lane.old.course) }
         ensures reply { result ≡ opens self.old.queue.state lane.old.course.at (turn_kind lane.old.course)
@@ -238,7 +238,7 @@ impl<N: Names> Cell<N> {
     {
         // reads a field of it, so that what it keeps is known
         let _room = self.room;
-        let turn = Turn::new(shared.header, topology, &lane.course);
+        let turn = Turn::with(shared.header, domains, &lane.course);
         let list = turn.shapes();
         let has_domains = turn.has_domains();
         let shapes = list.as_slice();

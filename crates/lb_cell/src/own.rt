@@ -1,22 +1,16 @@
 //! The entries of a lane's own list.
-ghost use Rattle.std.specs.Prelude.{◌≡◌, ◌<◌, ◌≤◌, ◌++◌, [], length, map, max};
-ghost use Rattle.lb_base.specs.declared.mask.TheConstants.{MAX_CPUS};
+ghost use Rattle.std.specs.Prelude.{◌≡◌, ◌<◌};
 ghost use Rattle.lb_trace.specs.declared.trace.Header.{Header as HeaderIs};
-ghost use Rattle.lb_ticket.specs.Facts.{held_of};
-ghost use Rattle.lb_ticket.specs.Seats.{KeepsList};
-ghost use Rattle.lb_ticket.specs.Tickets.{AllBelow};
-ghost use Rattle.lb_core.specs.declared.entry.What.TheVariants as what;
 ghost use Rattle.lb_core.specs.Machine.{no_queue};
 ghost use Rattle.lb_core.specs.CourseAfter.{course_by};
 ghost use Rattle.lb_cell.specs.Cells.{IsInRange, LaneKeeps};
-ghost use Rattle.lb_cell.specs.Own.{DrewOwn, IsTurnDue, MayDrawOwn, MayFollow, OwnAsks, own_left, sight_from};
+ghost use Rattle.lb_cell.specs.Own.{DrewOwn, MayDrawOwn, MayFollow, OwnAsks, own_left, sight_from};
 
 use crate::draw::draw_noted;
 use crate::known::Known;
 use crate::lane::Lane;
 use crate::names::Names;
 use crate::shared::Shared;
-use lb_base::{Items, Kind};
 use lb_core::{Course, Entry, Figs, Owner, What};
 use lb_course::{asked, looked, scanned, taken_up};
 use lb_journal::{Journal, Left};
@@ -169,40 +163,5 @@ impl<N: Names> Lane<N> {
             named_masks,
             named_figs,
         )
-    }
-
-    /// Takes up a version, with its partition masks, for a turn of a CPU that is due, by a `use`, and answers its ticket.
-    /// It takes no memory.
-    pub(crate) fn adopt(
-        &mut self,
-        alloc: Global,
-        shared: &Shared<'_, N>,
-        version: u64,
-        masks: Masks,
-        kind: Kind,
-        cpu: u32,
-    ) -> u64
-        requires room { 0 < self.old.seat.spare }
-        requires due { IsTurnDue self.old.course.form self.old.course kind cpu }
-        requires version { max self.old.course.named_version 1 ≤ version }
-        requires cpu { cpu < MAX_CPUS }
-        ensures { DrewOwn N.header self.old self.new (what.Adopt version kind cpu) masks [] result }
-    {
-        self.keeps();
-        let what = What::Adopt { version, kind, cpu };
-        let figs = Items::new(alloc);
-        self.draw(alloc, shared, what, None, masks, figs)
-    }
-
-    /// Reads the list of a queue so far: what the lane draws from now on is later than all of it.
-    pub(crate) fn read_list(&mut self, shared: &Shared<'_, N>, other: &mut Seat<Journal>)
-        requires { other.old.table ≡ N.book }
-        ensures other { other.new ≡ other.old }
-        ensures lane { self.new ≡ record self.old { seat = self.new.seat } }
-        ensures seat { KeepsList self.old.seat self.new.seat }
-        ensures read { self.new.seat.read ≡ self.old.seat.read ++ map (held_of ⟦<Journal as Coding>⟧.coding) other.old.list }
-        ensures below { AllBelow self.new.seat.next other.old.list }
-    {
-        self.seat.follow(shared.book, other);
     }
 }

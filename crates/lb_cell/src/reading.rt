@@ -10,14 +10,12 @@ ghost use Rattle.lb_cell.specs.Reads.{SameBut};
 use crate::cell::Cell;
 use crate::lane::Lane;
 use crate::names::Names;
+use crate::rooms::MAX_ENTRIES;
 use crate::shared::Shared;
 use lb_base::{Fig, NoMemory};
 use lb_journal::{Journal, Left};
 use lb_ticket::{Coding, Seat};
 use std::sync::Wait;
-
-/// A seat draws fewer entries than this.
-const MAX_ENTRIES: u64 = 1 << 40;
 
 impl<N: Names> Lane<N> {
     /// What every lane keeps.

@@ -6,7 +6,7 @@ use crate::names::Names;
 use lb_base::NoMemory;
 
 /// A seat draws fewer entries than this.
-const MAX_ENTRIES: u64 = 1 << 40;
+pub const MAX_ENTRIES: u64 = 1 << 40;
 
 impl<N: Names> Cell<N> {
     /// Whether the list can take `k` entries more than are booked.

@@ -11,10 +11,8 @@ use Rattle.logbook.specs.Pages.{Book}
 use Rattle.atomic_table.specs.Seated.{TableId}
 use Rattle.lb_base.specs.declared.mask.Mask.{Mask}
 use Rattle.lb_base.specs.declared.shape.Kind.{Kind}
-use Rattle.lb_domain.specs.Domains.{domains_of, domain_at}
+use Rattle.lb_domain.specs.Domains.{domains_of}
 use Rattle.lb_domain.specs.Topologies.{DomainsWithin, domains_within}
-use Rattle.lb_domain.specs.declared.domain.Domain.{Domain}
-use Rattle.lb_domain.proofs.Sizes.{groups_few}
 use Rattle.lb_trace.specs.declared.trace.Header.{Header}
 use Rattle.lb_core.specs.declared.course.Course.{Course}
 use Rattle.lb_core.specs.declared.course.Form.{Form}
@@ -24,7 +22,6 @@ use Rattle.lb_core.specs.declared.entry.What.TheVariants.{Adopt}
 use Rattle.lb_core.specs.declared.rule.Rule.{Rule}
 use Rattle.lb_core.specs.declared.rule.Rule.TheVariants.{Ticket, Prev, Stage, Row as RowRule, Place, Reply as ReplyRule, Version, Figure, Decision as DecisionRule, Pick, Flight, Counters as CountersRule, Owed, End}
 use Rattle.lb_core.specs.Course.{named_at}
-use Rattle.lb_core.specs.Elsewhere.{is_rest}
 use Rattle.lb_core.specs.CourseAfter.{course_after}
 use Rattle.lb_core.specs.Stage.{stage_allows, draws}
 use Rattle.lb_core.specs.Rules.{breaks_here}
@@ -44,7 +41,7 @@ use Rattle.lb_lane.specs.Own.{Drew, Unmoved}
 use Rattle.lb_lane.specs.Vouched.{IsVouched, Source}
 use Rattle.lb_lane.specs.Uses.{IsChosen, use_due}
 use Rattle.lb_lane.proofs.Drawing.{AddsTo}
-use Rattle.lb_lane.proofs.Rows.{same_number}
+use Rattle.lb_core.proofs.Equality.{equal_itself}
 
 -- ---- the test
 draws_use : (form : Form) (h : Header) (c : Course) (lane v : ℕ) (kind : Kind) (cpu : ℕ) → use_due form c kind cpu ≡ true
@@ -65,28 +62,12 @@ draws_use forms.ScanDue h c lane v kind cpu e = absurd (cc e)
 draws_use forms.Kicking h c lane v kind cpu e = absurd (cc e)
 draws_use forms.Ended h c lane v kind cpu e = absurd (cc e)
 
-not_rest : (form : Form) (c : Course) (kind : Kind) (cpu : ℕ) → use_due form c kind cpu ≡ true → is_rest form ≡ true → ⊥
-not_rest forms.Rest c kind cpu e r = cc e
-not_rest forms.Serving c kind cpu e r = cc r
-not_rest forms.Due c kind cpu e r = cc r
-not_rest forms.Asked c kind cpu e r = cc r
-not_rest forms.Flight c kind cpu e r = cc r
-not_rest forms.Used c kind cpu e r = cc r
-not_rest forms.Position c kind cpu e r = cc r
-not_rest forms.Looked c kind cpu e r = cc r
-not_rest forms.Landed c kind cpu e r = cc r
-not_rest forms.Closed c kind cpu e r = cc r
-not_rest forms.Done c kind cpu e r = cc r
-not_rest forms.ScanDue c kind cpu e r = cc r
-not_rest forms.Kicking c kind cpu e r = cc r
-not_rest forms.Ended c kind cpu e r = cc r
-
 pub use_allowed : (h : Header) (l : SideIs) (x : Chosen) (kind : Kind) (figs : List CpuFig)
     → use_due l.course.form l.course kind x.cpu ≡ true → 1 ≤ x.version → l.course.named_version ≤ x.version → (rule : Rule)
     → breaks_here rule (sight_own h l x.masks figs) (entry_own l (Adopt x.version kind x.cpu)) ≡ false
 unfolding stage_allows
 use_allowed h l x kind figs due one newest Stage =
-    rw (same_number l.number) (rw (draws_use l.course.form h l.course l.number x.version kind x.cpu due) refl)
+    rw (equal_itself l.number) (rw (draws_use l.course.form h l.course l.number x.version kind x.cpu due) refl)
 use_allowed h l x kind figs due one newest Version = le-ltb x.version _ (max-le newest one)
 use_allowed h l x kind figs due one newest Ticket = refl
 use_allowed h l x kind figs due one newest Prev = refl
@@ -123,7 +104,7 @@ pub same_self : (l : SideIs) → SameBut l l
 same_self l = record { number = refl; course = refl; known = refl; landing = refl; list = refl }
 
 -- ---- what is kept
-use_left : (h : Header) (l : SideIs) (v : ℕ) (kind : Kind) (cpu : ℕ) (masks : List Mask) (figs : List CpuFig)
+pub use_left : (h : Header) (l : SideIs) (v : ℕ) (kind : Kind) (cpu : ℕ) (masks : List Mask) (figs : List CpuFig)
     → own_left h l (Adopt v kind cpu) masks figs ≡ record l.course {
       form = forms.Used;
       version = v;
@@ -154,10 +135,9 @@ use_read h code read next ticket j v kind cpu masks is le (inr p) = inr (record 
 
 pub use_adds : (h : Header) (board : List TableId) (versions : Book) (code : Coded Journal) (l : LaneIs) (side : SideIs) (x : Chosen)
     (kind : Kind) (figs : List CpuFig) (ticket : ℕ) → LaneKeeps h board versions code l → IsChosen h l x
-    → use_due l.side.course.form l.side.course kind x.cpu ≡ true
     → Drew h l.side side (Adopt x.version kind x.cpu) x.masks figs ticket → figs ≡ [] → side.known.reader ≡ l.side.known.reader
     → AddsTo h code l (record l { side = side; turned = x.cpu; domains = x.domains }) (Adopt x.version kind x.cpu) x.masks figs ticket
-use_adds h board versions code l side x kind figs ticket k chosen due drew none es =
+use_adds h board versions code l side x kind figs ticket k chosen drew none es =
     let c = l.side.course in
     let left = drew.course ∙ use_left h l.side x.version kind x.cpu x.masks figs in
     let rows : side.course.rows ≡ c.rows = ap (λ y. y.rows) left in
@@ -177,7 +157,6 @@ use_adds h board versions code l side x kind figs ticket k chosen due drew none 
       domains = chosen.copy.domains ∙ (λ i. domains_of h.cpus h.distances (sym (ap (λ (y : Course). y.masks) left) i) x.cpu);
       within = subst (λ n. n ≤ length l.rows) (sym rows) k.within;
       rows = append-nil (take c.rows l.rows) ∙ ap (λ n. take n l.rows) (sym rows);
-      some = λ z. not_rest c.form c kind x.cpu due (k.starts (sym rows ∙ z));
       uses =
           use_read h code l.side.seat.read l.side.seat.next ticket (item_own h l.side (Adopt x.version kind x.cpu) x.masks figs)
           x.version kind x.cpu x.masks refl drew.above.0
@@ -186,9 +165,9 @@ use_adds h board versions code l side x kind figs ticket k chosen due drew none 
           (prefix_self (seen_at l.side.known.reader cpu));
       saw = subst (All (Saw side.known.reader ticket)) (sym none) (All-nil (Saw side.known.reader ticket));
       goes_on = refl;
-      small = λ p lt.
-          subst (λ (ds : List Domain). length (domain_at ds p).groups ≤ 64) (sym chosen.copy.domains)
-          (groups_few h.cpus h.distances x.masks x.cpu p (subst (λ (ds : List Domain). p < length ds) chosen.copy.domains lt));
+      turned = chosen.copy.cpu;
+      turns = λ e. sym (ap (λ y. y.cpu) left);
+      few = chosen.copy.few;
       numbers = λ cpu lt.
           subst (λ (t : Type 0). t) (λ i. named_at (record c { named = named i }) cpu < length (seen_at (sym es i) cpu))
           (k.numbers cpu lt);

@@ -45,14 +45,14 @@ module _ (h : Header) (board : List TableId) (versions : Book) (code : Coded Jou
         seen = let s = k.seen in omega (arith, s, more);
         version = let s = k.version in omega (arith, s, more);
         domains = k.domains;
-        small = k.small;
+        turned = k.turned;
+        turns = k.turns;
+        few = k.few;
         owned = k.owned;
         declared = k.declared;
-        few = k.few;
+        short = k.short;
         within = k.within;
         rows = k.rows;
-        begins = k.begins;
-        starts = k.starts;
         uses = k.uses;
         saw = k.saw;
         goes_on = k.goes_on;
@@ -70,6 +70,7 @@ module _ (h : Header) (board : List TableId) (versions : Book) (code : Coded Jou
           one = c.one;
           shown = v.shown ∙ ap (λ ms. Some (domains_within h.cpus h.distances ms)) masks;
           cpu = lt;
+          few = c.few;
           domains =
               c.domains
               ∙ (ap (λ (y : DomainsWithin). domains_at y.all x.cpu) is

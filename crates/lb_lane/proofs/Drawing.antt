@@ -26,7 +26,8 @@ use Rattle.lb_journal.specs.Merge.{is_end}
 use Rattle.lb_journal.specs.Owners.{UsesVersion}
 use Rattle.lb_board.specs.Board.{seen_at}
 use Rattle.lb_topub.specs.Versions.{VersionsSeen}
-use Rattle.lb_domain.specs.Domains.{domains_of, domain_at}
+use Rattle.lb_domain.specs.Domains.{domains_of}
+use Rattle.lb_domain.specs.Topologies.{AreFew}
 use Rattle.lb_cell.specs.LastEntries.{IsLast}
 use Rattle.lb_cell.specs.Kinds.{is_of_lane}
 use Rattle.lb_cell.specs.Cells.{LaneIs as SideIs, IsInRange}
@@ -35,7 +36,7 @@ use Rattle.lb_cell.specs.Own.{OwnAsks, DrewOwn, MayDrawOwn, sight_from, sight_ow
 use Rattle.lb_cell.specs.Reads.{SameBut}
 use Rattle.lb_lane.specs.Vouched.{Vouches}
 use Rattle.lb_lane.proofs.Vouching.{vouches_on}
-use Rattle.lb_lane.specs.Lanes.{LaneIs, LaneKeeps}
+use Rattle.lb_lane.specs.Lanes.{LaneIs, LaneKeeps, is_due}
 use Rattle.lb_lane.specs.Own.{Drew}
 
 -- a lane without an entry has the opening course
@@ -165,12 +166,13 @@ pub record AddsTo (h : Header) (code : Coded Journal) (l l' : LaneIs) (w : What)
   pub domains : l'.domains ≡ domains_of h.cpus h.distances l'.side.course.masks l'.turned
   pub within : l'.side.course.rows ≤ length l.rows
   pub rows : take l.side.course.rows l.rows ++ row_of w l.side.number ≡ take l'.side.course.rows l.rows
-  pub some : l'.side.course.rows ≡ 0 → ⊥
   pub uses : UsesVersion h code l.side.seat.read ticket (item_own h l.side w masks figs) w
   pub sees : SeesMore l.side.known.reader l'.side.known.reader
   pub saw : All (Saw l'.side.known.reader ticket) figs
   pub goes_on : is_end w ≡ false
-  pub small : (p : ℕ) → p < length l'.domains → length (domain_at l'.domains p).groups ≤ 64
+  pub turned : l'.turned < length h.cpus
+  pub turns : is_due l'.side.course.form ≡ false → l'.turned ≡ l'.side.course.cpu
+  pub few : AreFew l'.domains
   pub numbers : (cpu : ℕ) → cpu < length h.cpus → named_at l'.side.course cpu < length (seen_at l'.side.known.reader cpu)
 
 pub kept : (h : Header) (board : List TableId) (versions : Book) (code : Coded Journal) (l l' : LaneIs) (w : What) (masks : List Mask)
@@ -191,7 +193,9 @@ kept h board versions code l l' w masks figs ticket stays k drew adds =
     record {
       machine = k.machine;
       cells = k.cells;
-      small = adds.small;
+      turned = adds.turned;
+      turns = adds.turns;
+      few = adds.few;
       numbers = adds.numbers;
       looker = ap (λ v. v.book) adds.looker ∙ k.looker;
       vouches =
@@ -205,13 +209,11 @@ kept h board versions code l l' w masks figs ticket stays k drew adds =
       domains = adds.domains;
       owned = subst (λ (t : Type 0). t) (λ i. All (λ r. r.lane ≡ sym drew.number i) (trace i)) k.owned;
       declared = subst (All (λ r. is_undeclared h r.command ≡ false)) trace k.declared;
-      few = subst (λ (rs : List TraceRow). length rs ≤ 100000) trace k.few;
+      short = subst (λ (rs : List TraceRow). length rs ≤ 100000) trace k.short;
       within = subst (λ (rs : List TraceRow). l'.side.course.rows ≤ length rs) trace adds.within;
       rows =
           rows_more l.side.seat.list l'.side.seat.list d list
           ∙ (ap (λ rs. rs ++ row_of w l.side.number) k.rows ∙ (adds.rows ∙ ap (take l'.side.course.rows) trace));
-      begins = λ z. absurd (adds.some z);
-      starts = λ z. absurd (adds.some z);
       uses = subst (λ hs. All (Uses hs) l'.side.seat.list) read uses;
       saw = saw;
       goes_on =

@@ -3,9 +3,14 @@ mod Vouching
 mod Drawing
 mod Rows
 mod Looking
+mod Naming
 mod Deciding
+mod Scanning
 mod Refusing
 mod Adopting
 mod Choosing
 mod Reading
 mod Versioning
+mod AtQueues
+mod Turning
+mod Making

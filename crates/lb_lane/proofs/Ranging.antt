@@ -24,7 +24,7 @@ use Rattle.lb_trace.specs.declared.trace.Header.{Header}
 use Rattle.lb_core.specs.declared.course.Course.{Course}
 use Rattle.lb_core.specs.declared.entry.CpuFig.{CpuFig}
 use Rattle.lb_core.specs.declared.entry.FigName.{FigName}
-use Rattle.lb_core.specs.declared.entry.What.TheVariants.{Row, Adopt, Look}
+use Rattle.lb_core.specs.declared.entry.What.TheVariants.{Row, Adopt, Look, Scan}
 use Rattle.lb_core.specs.Course.{source_of, turn_kind}
 use Rattle.lb_core.specs.Sight.{by_cpu}
 use Rattle.lb_core.specs.CourseAfter.{course_after}
@@ -105,3 +105,9 @@ look_in_range h l p x names d masks figs domain course choice is r =
           (decision_below domain.shape domain.groups (by_cpu figs) course.cpu (turn_kind course) course.excluded _
           (choice domain.shape domain.groups (by_cpu figs) course.cpu (turn_kind course) course.excluded));
     }
+
+pub scan_in_range : (h : Header) (l : SideIs) (names : List FigName) (target : Option ℕ) (masks : List Mask) (figs : List CpuFig)
+    → IsInRange l.course → IsInRange (own_left h l (Scan names target) masks figs)
+unfolding course_after
+scan_in_range h l names None masks figs r = record { cpu = r.cpu; position = r.position; source = omega arith }
+scan_in_range h l names (Some cpu) masks figs r = record { cpu = r.cpu; position = r.position; source = r.source }

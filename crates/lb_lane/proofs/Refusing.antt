@@ -1,7 +1,6 @@
 -- Where nothing was drawn, though the lane has seen, read and marked more, what it keeps stays.
 use mathlib.Core.List.{IsPrefix}
-use Rattle.lb_core.specs.Elsewhere.{is_rest}
-use Rattle.std.proofs.Common.{true, false, ◌≡◌, ◌≤◌, ◌<◌, Result, Ok, Err, OnErr, List, [], length, map, take, sym, subst, ap, ◌∙◌, arith, All}
+use Rattle.std.proofs.Common.{true, false, ◌≡◌, ◌≤◌, ◌<◌, Result, Ok, Err, OnErr, List, [], ◌++◌, length, map, take, sym, subst, ap, ◌∙◌, arith, All}
 use Rattle.std.proofs.lemmas.List.{append-nil}
 use base.Stored.{Coded}
 use Rattle.logbook.specs.Pages.{Book}
@@ -23,14 +22,31 @@ use Rattle.lb_cell.specs.Cells.{LaneIs as SideIs}
 use Rattle.lb_cell.specs.Reads.{SawAll, SawStays}
 use Rattle.lb_cell.specs.Reads.{SameBut}
 use Rattle.lb_lane.specs.Vouched.{Vouches}
+use Rattle.lb_lane.proofs.Looking.{more_on}
 use Rattle.lb_lane.proofs.Vouching.{vouches_read}
-use Rattle.lb_lane.specs.Lanes.{LaneIs, LaneKeeps}
+use Rattle.lb_lane.specs.Lanes.{LaneIs, LaneKeeps, is_due}
 use Rattle.lb_lane.specs.Figures.{Sees}
 use Rattle.lb_lane.specs.Own.{Unmoved}
 
 pub on_err : {A E : Type 0} (r : Result A E) (P : Type 0) → P → OnErr r P
 on_err (Ok x) P p = tt
 on_err (Err e) P p = p
+
+-- it read figures before
+pub unmoved_since : (l r n : SideIs) → Sees l r → Unmoved r n → Unmoved l n
+unmoved_since l r n sees u =
+    let s = sees.0 in
+    record {
+      list = u.list ∙ ap (λ (x : SeatIs Journal). x.list) s.seat;
+      more = u.more;
+      read = u.read ∙ ap (λ (x : SeatIs Journal). x.read ++ u.more) s.seat;
+      next = subst (λ (x : SeatIs Journal). x.next ≤ n.seat.next) s.seat u.next;
+      course = u.course ∙ s.course;
+      number = u.number ∙ s.number;
+      held = u.held ∙ s.ticket;
+      landing = u.landing ∙ s.landing;
+      sees = more_on l.known.reader r.known.reader n.known.reader sees.1 u.sees;
+    }
 
 -- it read figures, marked, and made room or did not
 pub unmoved : (l r m n : SideIs) → Sees l r → SameBut r m → r.seat.next ≤ m.seat.next → m.seat.read ≡ r.seat.read → SameBut m n
@@ -69,16 +85,16 @@ still h board versions code l side stays use_stays k u =
       seen = k.seen;
       version = subst (λ (c : Course). c.named_version ≤ length l.looker.topologies) course k.version;
       domains = k.domains ∙ (λ i. domains_of h.cpus h.distances (course i).masks l.turned);
-      small = k.small;
+      turned = k.turned;
+      turns = subst (λ (c : Course). is_due c.form ≡ false → l.turned ≡ c.cpu) course k.turns;
+      few = k.few;
       owned = subst (λ n. All (λ r. r.lane ≡ n) l.rows) (sym u.number) k.owned;
       declared = k.declared;
-      few = k.few;
+      short = k.short;
       within = subst (λ (c : Course). c.rows ≤ length l.rows) course k.within;
       rows =
           subst (λ (t : Type 0). t)
           (λ i. rows_drawn (map (λ d. d.item.entry) (list i)) ≡ take (course i).rows l.rows) k.rows;
-      begins = λ z. u.list ∙ k.begins (ap (λ (c : Course). c.rows) course ∙ z);
-      starts = λ z. subst (λ (c : Course). is_rest c.form ≡ true) course (k.starts (ap (λ (c : Course). c.rows) course ∙ z));
       uses =
           subst (λ (t : Type 0). t) (λ i. All (Uses (sym u.read i)) (list i))
           (use_stays h code l.side.seat.read u.more l.side.seat.list k.uses);

@@ -1,5 +1,5 @@
 -- The next row of a lane breaks no rule, and is its next in the list.
-use Rattle.std.proofs.Common.{ℕ, ◌≡◌, ◌+◌, ◌<◌, ◌≤◌, true, false, not, List, [], ◌∷◌, ◌++◌, Option, Some, eqb, length, get_or, slice_get, take, unwrap_or, refl, sym, subst, ap, ◌∙◌, arith, All}
+use Rattle.std.proofs.Common.{ℕ, ◌≡◌, ◌+◌, ◌<◌, ◌≤◌, true, false, not, List, [], ◌∷◌, ◌++◌, Option, Some, length, get_or, slice_get, take, unwrap_or, refl, sym, subst, ap, ◌∙◌, arith, All}
 use Rattle.std.proofs.lemmas.List.{take_more}
 use Rattle.std.proofs.lemmas.List.Elements.{All-nil}
 use Rattle.std.proofs.lemmas.Option.{slice_get-get_or}
@@ -20,6 +20,7 @@ use Rattle.lb_core.specs.declared.entry.What.TheVariants.{Row}
 use Rattle.lb_core.specs.declared.rule.Rule.{Rule}
 use Rattle.lb_core.specs.declared.rule.Rule.TheVariants.{Ticket, Prev, Stage, Row as RowRule, Place, Reply as ReplyRule, Version, Figure, Decision as DecisionRule, Pick, Flight, Counters as CountersRule, Owed, End}
 use Rattle.lb_core.specs.Stage.{stage_allows, draws}
+use Rattle.lb_core.proofs.Equality.{equal_itself}
 use Rattle.lb_core.specs.Rules.{breaks_here, is_undeclared}
 use Rattle.lb_core.specs.Machine.{no_queue}
 use Rattle.lb_core.specs.OfTrace.{row_of}
@@ -31,21 +32,18 @@ use Rattle.lb_seen.proofs.Beginnings.{prefix_self}
 use Rattle.lb_cell.specs.Reads.{Saw}
 use Rattle.lb_cell.specs.Cells.{LaneIs as SideIs}
 use Rattle.lb_cell.specs.Own.{sight_own, entry_own, own_left}
-use Rattle.lb_lane.specs.Lanes.{LaneIs, LaneKeeps}
+use Rattle.lb_lane.specs.Lanes.{LaneIs, LaneKeeps, is_due}
 use Rattle.lb_lane.specs.Own.{Drew}
 use Rattle.lb_lane.proofs.Drawing.{AddsTo}
-
-pub same_number : (n : ℕ) → eqb n n ≡ true
-same_number n = grind arith
 
 pub allowed : (h : Header) (l : SideIs) (at : ℕ) (command : Command) → l.course.form ≡ forms.Rest
     → is_undeclared h command ≡ false → (rule : Rule)
     → breaks_here rule (sight_own h l [] []) (entry_own l (Row (l.course.rows + 1) at command)) ≡ false
 unfolding stage_allows draws
 allowed h l at command rest declared Stage =
-    rw (same_number l.number)
+    rw (equal_itself l.number)
     (subst (λ (f : Form). not (draws f h l.course no_queue l.number (Row (l.course.rows + 1) at command)) ≡ false) (sym rest) refl)
-allowed h l at command rest declared RowRule = rw (same_number (l.course.rows + 1)) declared
+allowed h l at command rest declared RowRule = rw (equal_itself (l.course.rows + 1)) declared
 allowed h l at command rest declared Ticket = refl
 allowed h l at command rest declared Prev = refl
 allowed h l at command rest declared Place = refl
@@ -96,9 +94,9 @@ pub row_adds : (h : Header) (board : List TableId) (versions : Book) (code : Cod
     (command : Command) (row : TraceRow) (masks : List Mask) (figs : List CpuFig) (ticket : ℕ) → LaneKeeps h board versions code l
     → Drew h l.side side (Row (rows + 1) at command) masks figs ticket → rows ≡ l.side.course.rows → rows < length l.rows
     → slice_get l.rows rows ≡ Some row → at ≡ row.at → command ≡ row.command → figs ≡ []
-    → side.known.reader ≡ l.side.known.reader
+    → side.known.reader ≡ l.side.known.reader → l.side.course.form ≡ forms.Rest
     → AddsTo h code l (record l { side = side }) (Row (rows + 1) at command) masks figs ticket
-row_adds h board versions code l side rows at command row masks figs ticket k drew er more here ea ec ef es =
+row_adds h board versions code l side rows at command row masks figs ticket k drew er more here ea ec ef es rest =
     let left = drew.course ∙ row_left h l.side (rows + 1) at command masks figs in
     let n : side.course.rows ≡ rows + 1 = ap (λ c. c.rows) left in
     let named : l.side.course.named ≡ side.course.named = sym (ap (λ c. c.named) left) in
@@ -115,12 +113,13 @@ row_adds h board versions code l side rows at command row masks figs ticket k dr
       rows =
           (λ i. take (sym er i) l.rows ++ row_of (Row (rows + 1) (ea i) (ec i)) l.side.number)
           ∙ (next ∙ ap (λ m. take m l.rows) (sym n));
-      some = λ z. omega (arith, n, z);
       uses = tt;
       sees = λ cpu. subst (λ (s : Sight). IsPrefix (seen_at l.side.known.reader cpu) (seen_at s cpu)) (sym es)
           (prefix_self (seen_at l.side.known.reader cpu));
       saw = subst (All (Saw side.known.reader ticket)) (sym ef) (All-nil (Saw side.known.reader ticket));
-      small = k.small;
+      turned = k.turned;
+      turns = λ e. k.turns (ap is_due rest) ∙ sym (ap (λ (c : Course). c.cpu) left);
+      few = k.few;
       numbers = λ cpu lt.
           subst (λ (t : Type 0). t) (λ i. named_at (record l.side.course { named = named i }) cpu < length (seen_at (sym es i) cpu))
           (k.numbers cpu lt);

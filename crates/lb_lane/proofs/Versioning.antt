@@ -22,7 +22,6 @@ use Rattle.lb_core.specs.declared.entry.What.TheVariants.{Pub}
 use Rattle.lb_core.specs.declared.rule.Rule.{Rule}
 use Rattle.lb_core.specs.declared.rule.Rule.TheVariants.{Ticket, Prev, Stage, Row as RowRule, Place, Reply as ReplyRule, Version, Figure, Decision as DecisionRule, Pick, Flight, Counters as CountersRule, Owed, End}
 use Rattle.lb_core.specs.Course.{is_rebuild, named_at}
-use Rattle.lb_core.specs.Elsewhere.{is_rest}
 use Rattle.lb_core.specs.CourseAfter.{comes_to_rest, course_after}
 use Rattle.lb_core.specs.Sight.{Sight as StepSight}
 use Rattle.lb_core.specs.Stage.{stage_allows, draws}
@@ -41,11 +40,11 @@ use Rattle.lb_seen.proofs.Beginnings.{prefix_get, prefix_length}
 use Rattle.lb_cell.specs.Cells.{LaneIs as SideIs, LaneKeeps as SideKeeps}
 use Rattle.lb_cell.specs.Reads.{SawAll}
 use Rattle.lb_cell.specs.Pubs.{DrewPub, pub_sight, pub_entry, pub_item, pub_left}
-use Rattle.lb_lane.specs.Lanes.{LaneIs, LaneKeeps}
+use Rattle.lb_lane.specs.Lanes.{LaneIs, LaneKeeps, is_due}
 use Rattle.lb_lane.specs.Publishers.{PublisherIs, PublisherKeeps, IsPub}
 use Rattle.lb_lane.specs.Publishes.{RebuildAsks}
 use Rattle.lb_lane.proofs.Drawing.{opening}
-use Rattle.lb_lane.proofs.Rows.{same_number}
+use Rattle.lb_core.proofs.Equality.{equal_itself}
 use Rattle.lb_lane.proofs.Vouching.{vouches_more}
 
 -- ---- the test
@@ -54,7 +53,7 @@ allowed : (h : Header) (l : SideIs) (count : ℕ) → l.course.form ≡ forms.As
 unfolding stage_allows draws
 allowed h l count form rebuild Stage =
     subst (λ (f : Form). not (draws f h l.course no_queue l.number (Pub (count + 2))) ≡ false) (sym form) (rw rebuild refl)
-allowed h l count form rebuild ReplyRule = rw (same_number (count + 2)) refl
+allowed h l count form rebuild ReplyRule = rw (equal_itself (count + 2)) refl
 allowed h l count form rebuild Ticket = refl
 allowed h l count form rebuild Prev = refl
 allowed h l count form rebuild RowRule = refl
@@ -154,9 +153,9 @@ left_is h l count v = refl
 pub published : (h : Header) (board : List TableId) (versions : Book) (code : Coded Journal) (l : LaneIs) (side : SideIs)
     (looker : VersionsSeen) (s s' : SeatIs Journal) (v ticket : ℕ) (topologies : List DomainsWithin) → LaneKeeps h board versions code l
     → DrewPub h l.side side s s' v ticket → looker.book ≡ l.looker.book → IsPrefix l.looker.topologies looker.topologies
-    → IsPrefix topologies looker.topologies → v ≡ length topologies
+    → IsPrefix topologies looker.topologies → v ≡ length topologies → l.side.course.form ≡ forms.Asked
     → LaneKeeps h board versions code (record l { side = side; looker = looker })
-published h board versions code l side looker s s' v ticket topologies k drew book front told is =
+published h board versions code l side looker s s' v ticket topologies k drew book front told is asked =
     let left = drew.course ∙ left_is h l.side (length s.list) v in
     let rows : l.side.course.rows ≡ side.course.rows = sym (ap (λ c. c.rows) left) in
     let seat : l.side.seat ≡ side.seat = sym drew.own in
@@ -176,16 +175,16 @@ published h board versions code l side looker s s' v ticket topologies k drew bo
           let b = prefix_length topologies looker.topologies told in
           omega (arith, a, b, is);
       domains = k.domains ∙ (λ i. domains_of h.cpus h.distances (sym (ap (λ (c : Course). c.masks) left) i) l.turned);
-      small = k.small;
+      turned = k.turned;
+      turns = λ e. k.turns (ap is_due asked) ∙ sym (ap (λ (c : Course). c.cpu) left);
+      few = k.few;
       owned = subst (λ n. All (λ r. r.lane ≡ n) l.rows) (sym drew.number) k.owned;
       declared = k.declared;
-      few = k.few;
+      short = k.short;
       within = subst (λ n. n ≤ length l.rows) rows k.within;
       rows =
           subst (λ (t : Type 0). t)
           (λ i. rows_drawn (map (λ d. d.item.entry) (seat i).list) ≡ take (rows i) l.rows) k.rows;
-      begins = λ z. ap (λ (x : SeatIs Journal). x.list) (sym seat) ∙ k.begins (rows ∙ z);
-      starts = λ z. ap (λ (c : Course). is_rest c.form) left;
       uses = subst (SeatUses h code) seat k.uses;
       saw = subst (λ (t : Type 0). t) (λ i. SawAll (reader i) (seat i).list) k.saw;
       goes_on = subst (λ (x : SeatIs Journal). All (λ d. is_end d.item.entry.what ≡ false) x.list) seat k.goes_on;

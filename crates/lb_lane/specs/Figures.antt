@@ -1,10 +1,15 @@
 -- The figures that a look or a scan reads, one of each CPU that is due, and their numbers.
-use Rattle.std.specs.Prelude.{ℕ, ◌≡◌, ◌+◌, ◌<◌, ◌≤◌, List, Some, length, map, slice_get, All}
+use Rattle.std.specs.Prelude.{ℕ, ◌≡◌, ◌+◌, ◌<◌, ◌≤◌, List, [], Some, length, map, slice_get, All}
 use Rattle.lb_base.specs.declared.figure.Fig.{Fig}
+use Rattle.lb_base.specs.declared.mask.Mask.{Mask}
+use Rattle.lb_base.specs.Mask.{members}
+use Rattle.lb_trace.specs.declared.trace.Header.{Header}
 use Rattle.lb_core.specs.declared.entry.CpuFig.{CpuFig}
+use Rattle.lb_core.specs.declared.entry.What.{What}
 use Rattle.lb_board.specs.Board.{Sight, seen_at}
 use Rattle.lb_cell.specs.Cells.{LaneIs as SideIs}
 use Rattle.lb_cell.specs.Reads.{SeesMore}
+use Rattle.lb_lane.specs.Own.{Drew}
 use Rattle.lb_lane.specs.declared.sums.Number.{Number}
 use Rattle.lb_lane.specs.declared.sums.Number.TheVariants.{Nr, Load, Util, Runnable}
 
@@ -28,6 +33,17 @@ pub record AreOf (before now : Sight) (cpus : List ℕ) (figs : List CpuFig) : T
 -- their tickets are below this one
 abbrev pub AllEarlier : ℕ → List CpuFig → Type 0
 AllEarlier ticket figs = All (λ f. f.fig.ticket < ticket) figs
+
+-- the figures of these CPUs of a machine were read in this call, and the entry that names them was drawn above their
+-- tickets
+pub record DrewAbove (h : Header) (cpus : ℕ) (due : Mask) (l l' : SideIs) (what : List CpuFig → What) : Type 0 where
+  pub figs : List CpuFig
+  pub inside : All (λ f. f.cpu < cpus) figs
+  pub ticket : ℕ
+  pub drew : Drew h l l' (what figs) [] figs ticket
+  pub read : AreOf l.known.reader l'.known.reader (members due) figs
+  pub earlier : AllEarlier ticket figs
+  pub sees : SeesMore l.known.reader l'.known.reader
 
 -- of a lane only what it has seen is other
 pub record OnlySees (l l' : SideIs) : Type 0 where

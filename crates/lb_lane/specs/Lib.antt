@@ -3,6 +3,8 @@ pub mod Lanes
 pub mod Own
 pub mod Figures
 pub mod Looks
+pub mod Scans
 pub mod Uses
+pub mod Began
 pub mod Publishers
 pub mod Publishes

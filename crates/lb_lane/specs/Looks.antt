@@ -1,8 +1,8 @@
 -- A look of a lane at the position in work: what it asks, and what it draws.
-use Rattle.std.specs.Prelude.{ℕ, ◌≡◌, ◌<◌, ◌≤◌, Bool, true, false, List, [], length, All}
+use Rattle.std.specs.Prelude.{ℕ, ◌≡◌, ◌<◌, ◌≤◌, Bool, true, false, List, length}
 use Rattle.lb_base.specs.declared.mask.TheConstants.{MAX_CPUS}
 use Rattle.lb_base.specs.declared.mask.Mask.{Mask}
-use Rattle.lb_base.specs.Mask.{has, members, without}
+use Rattle.lb_base.specs.Mask.{has, without}
 use Rattle.lb_imbalance.specs.declared.decision.Decision.{Decision}
 use Rattle.lb_imbalance.specs.Decision.{decision, group_at}
 use Rattle.lb_imbalance.specs.Conditions.{IsUnion}
@@ -19,10 +19,9 @@ use Rattle.lb_core.specs.Sight.{by_cpu}
 use Rattle.lb_journal.specs.Journal.{names_of}
 use Rattle.lb_board.specs.Board.{seen_at}
 use Rattle.lb_cell.specs.Cells.{LaneIs as SideIs}
-use Rattle.lb_cell.specs.Reads.{SeesMore}
 use Rattle.lb_lane.specs.Lanes.{LaneIs}
-use Rattle.lb_lane.specs.Own.{Drew, SameRest}
-use Rattle.lb_lane.specs.Figures.{AllEarlier, AreOf}
+use Rattle.lb_lane.specs.Own.{SameRest}
+use Rattle.lb_lane.specs.Figures.{DrewAbove}
 
 -- a look is due: the first one at a position, or a further one after a take
 abbrev pub look_due : Form → Header → Course → Bool
@@ -30,11 +29,9 @@ look_due Position h c = true
 look_due Landed h c = looks_again h c
 look_due form h c = false
 
--- the turn's domains were copied, the position in work is one of them, and no CPU of the local group is excluded
+-- a look is due, the position in work is one of the turn's domains, and no CPU of the local group is excluded
 pub record LookAsks (h : Header) (l : LaneIs) : Type 0 where
   pub due : look_due l.side.course.form h l.side.course ≡ true
-  pub turned : l.turned ≡ l.side.course.cpu
-  pub cpu : l.side.course.cpu < length h.cpus
   pub position : l.side.course.position < length (turn_domains h l.side.course)
   pub kept : (k : ℕ) → has (group_at (turn_domain h l.side.course).groups 0) k ≡ true → has l.side.course.excluded k ≡ false
 
@@ -49,16 +46,11 @@ decides d c figs = decision d.shape d.groups (by_cpu figs) c.cpu (turn_kind c) c
 abbrev pub look_of : Domain → Course → List CpuFig → What
 look_of d c figs = Look c.position c.excluded (names_of figs) (decides d c figs)
 
--- on a machine of so many CPUs it was drawn, above the tickets of the figures: one of each CPU that is not excluded, which were read in this call
+-- on a machine of so many CPUs it was drawn, above the tickets of the figures: one of each CPU that is not excluded, which
+-- were read in this call
 pub record Looked (h : Header) (cpus : ℕ) (l l' : SideIs) (d : Decision) : Type 0 where
-  pub figs : List CpuFig
-  pub inside : All (λ f. f.cpu < cpus) figs
-  pub ticket : ℕ
-  pub drew : Drew h l l' (look_of (turn_domain h l.course) l.course figs) [] figs ticket
-  pub read : AreOf l.known.reader l'.known.reader (members (looked_at (turn_domain h l.course) l.course)) figs
-  pub earlier : AllEarlier ticket figs
-  pub sees : SeesMore l.known.reader l'.known.reader
-  pub answer : d ≡ decides (turn_domain h l.course) l.course figs
+  pub drew : DrewAbove h cpus (looked_at (turn_domain h l.course) l.course) l l' (look_of (turn_domain h l.course) l.course)
+  pub answer : d ≡ decides (turn_domain h l.course) l.course drew.figs
 
 pub record LaneLooked (h : Header) (cpus : ℕ) (l l' : LaneIs) (d : Decision) : Type 0 where
   pub looked : Looked h cpus l.side l'.side d

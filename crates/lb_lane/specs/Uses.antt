@@ -3,7 +3,7 @@ use Rattle.std.specs.Prelude.{ℕ, ◌≡◌, ◌-◌, ◌<◌, ◌≤◌, ◌==
 use Rattle.lb_base.specs.declared.shape.Kind.{Kind}
 use Rattle.lb_base.specs.declared.shape.Kind.TheVariants.{Tick as TickTurn}
 use Rattle.lb_domain.specs.Domains.{domains_at, domains_of}
-use Rattle.lb_domain.specs.Topologies.{DomainsWithin, domains_within}
+use Rattle.lb_domain.specs.Topologies.{AreFew, DomainsWithin, domains_within}
 use Rattle.lb_trace.specs.declared.trace.Header.{Header}
 use Rattle.lb_core.specs.declared.course.Course.{Course}
 use Rattle.lb_core.specs.declared.course.Form.{Form}
@@ -30,6 +30,7 @@ pub record IsCopyOf (topologies : List DomainsWithin) (x : Chosen) : Type 0 wher
   pub one : 1 ≤ x.version
   pub masks : x.masks ≡ shown.masks
   pub domains : x.domains ≡ domains_at shown.all x.cpu
+  pub few : AreFew x.domains
 
 -- a copy of a version's masks, and of a CPU's domains in it
 pub record IsCopy (h : Header) (topologies : List DomainsWithin) (x : Chosen) : Type 0 where
@@ -37,6 +38,7 @@ pub record IsCopy (h : Header) (topologies : List DomainsWithin) (x : Chosen) : 
   pub shown : slice_get topologies (x.version - 1) ≡ Some (domains_within h.cpus h.distances x.masks)
   pub cpu : x.cpu < length h.cpus
   pub domains : x.domains ≡ domains_of h.cpus h.distances x.masks x.cpu
+  pub few : AreFew x.domains
 
 -- the lane vouches for the version, and has used or published no later one
 pub record IsChosen (h : Header) (l : LaneIs) (x : Chosen) : Type 0 where

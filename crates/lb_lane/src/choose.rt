@@ -35,7 +35,7 @@ fn copy(wanted: &Wanted, looked: &Looked) -> Result<Chosen, NoMemory>
         version: looked.version(),
         masks: Items::from_slice(wanted.alloc, topology.masks())?,
         cpu: wanted.cpu,
-        domains: copy_domains(wanted.alloc, topology, wanted.cpu)?,
+        domains: copy_domains(wanted.alloc, topology.domains(wanted.cpu))?,
     })
 }
 

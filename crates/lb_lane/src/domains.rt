@@ -1,45 +1,27 @@
-//! The domains of one CPU in a version, copied.
-ghost use Rattle.std.specs.Prelude.{◌≡◌, ◌<◌, IfOk, length};
-ghost use Rattle.lb_domain.specs.Domains.{domain_at, domains_at};
+//! The domains of one CPU, copied.
+ghost use Rattle.std.specs.Prelude.{◌≡◌, IfOk};
 
-use lb_base::{Items, Mask, NoMemory};
-use lb_domain::{Domain, Topology};
+use lb_base::{Items, NoMemory};
+use lb_domain::Domain;
 use std::alloc::Global;
 
-// The groups of a domain.
-fn copy_groups(
-    alloc: Global,
-    topology: &Topology,
-    cpu: u32,
-    position: u32,
-) -> Result<Items<Mask>, NoMemory>
-    requires cpu { cpu < length topology.now.all }
-    requires position { position < length (domains_at topology.now.all cpu) }
-    ensures { IfOk result (λ groups. groups ≡ (domain_at (domains_at topology.now.all cpu) position).groups) }
+// A copy of a domain.
+fn copy_domain(alloc: Global, domain: &Domain) -> Result<Domain, NoMemory>
+    ensures { IfOk result (λ copy. copy ≡ domain.now) }
 {
-    let mut groups = Items::new(alloc);
-    for i in 0..topology.groups(cpu, position) {
-        groups.push(topology.group(cpu, position, i))?;
-    }
-    Ok(groups)
+    Ok(Domain {
+        shape: domain.shape,
+        groups: Items::from_slice(alloc, domain.groups.as_slice())?,
+    })
 }
 
-/// The domains of a CPU.
-pub(crate) fn copy_domains(
-    alloc: Global,
-    topology: &Topology,
-    cpu: u32,
-) -> Result<Items<Domain>, NoMemory>
-    requires { cpu < length topology.now.all }
-    ensures { IfOk result (λ domains. domains ≡ domains_at topology.now.all cpu) }
+/// A copy of the domains of a CPU.
+pub(crate) fn copy_domains(alloc: Global, domains: &[Domain]) -> Result<Items<Domain>, NoMemory>
+    ensures { IfOk result (λ copy. copy ≡ domains.now) }
 {
-    let mut domains = Items::new(alloc);
-    for position in 0..topology.count(cpu) {
-        let domain = Domain {
-            shape: topology.shape(cpu, position),
-            groups: copy_groups(alloc, topology, cpu, position)?,
-        };
-        domains.push(domain)?;
+    let mut copy = Items::new(alloc);
+    for domain in domains {
+        copy.push(copy_domain(alloc, domain)?)?;
     }
-    Ok(domains)
+    Ok(copy)
 }

@@ -6,21 +6,28 @@
 #![tactic(auto)]
 
 mod adopt;
+mod at_queues;
 mod choose;
 mod chosen;
 mod domains;
+mod ending;
 mod enter;
 mod figures;
+mod in_turns;
 mod lane;
 mod look;
+mod making;
 mod publish;
 mod publisher;
 mod room;
 mod row;
+mod scan;
 mod sums;
+mod turns;
 mod versions;
 
 pub use chosen::Chosen;
 pub use lane::Lane;
 pub use publisher::PublisherCell;
+pub use turns::Began;
 pub use versions::Versions;

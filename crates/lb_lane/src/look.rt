@@ -8,12 +8,12 @@ ghost use Rattle.lb_lane.specs.Figures.{AreOf, Sees};
 ghost use Rattle.lb_lane.specs.Looks.{CanDecide, LaneLooked, LookAsks, Looked, MayLook, decides, looked_at};
 ghost use Rattle.lb_lane.specs.Own.{SameRest, Unmoved};
 
-use crate::enter::enter;
-use crate::figures::{mark_above_all, names_of, read_all};
+use crate::enter::enter_above;
+use crate::figures::{names_of, read_all};
 use crate::lane::Lane;
 use crate::sums::are_small;
 use crate::versions::Versions;
-use lb_base::{Items, NoMemory};
+use lb_base::NoMemory;
 use lb_cell::laws::saw_stays;
 use lb_cell::{Lane as Side, Names, Shared};
 use lb_core::{Course, CpuFig, Figs, What};
@@ -88,15 +88,13 @@ fn look_at<N: Names, R: Wait>(
     let figs = read_small(rt, alloc, shared, side, domain)?;
     let figures = names_of(alloc, figs.as_slice())?;
     let decision = decide_on(side.course(), domain, figs.as_slice());
-    mark_above_all(rt, shared, side, figs.as_slice());
     let what = What::Look {
         position: side.course().position,
         excluded: side.course().excluded,
         figures,
         decision,
     };
-    let masks = Items::new(alloc);
-    enter(rt, alloc, shared, side, what, None, masks, figs)?;
+    enter_above(rt, alloc, shared, side, what, figs)?;
     Ok(decision)
 }
 

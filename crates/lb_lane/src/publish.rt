@@ -7,7 +7,7 @@ use crate::lane::Lane;
 use crate::publisher::{PublisherCell, tell};
 use crate::versions::Versions;
 use lb_base::NoMemory;
-use lb_cell::{Names, Shared};
+use lb_cell::{MAX_ENTRIES, Names, Shared};
 use lb_domain::Topology;
 use lb_journal::Journal;
 use lb_levels::Machine;
@@ -15,9 +15,6 @@ use lb_ticket::Seat;
 use lb_trace::Command;
 use std::alloc::Global;
 use std::sync::Wait;
-
-/// A seat draws fewer entries than this.
-const MAX_ENTRIES: u64 = 1 << 40;
 
 // Waits until the list can take an entry more. No run draws so many that it cannot, so the first test succeeds.
 fn wait_until_it_can_grow<R: Wait>(rt: &R, seat: &Seat<Journal>)

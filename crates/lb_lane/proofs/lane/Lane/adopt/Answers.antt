@@ -1,5 +1,4 @@
 use Rattle.std.proofs.Common.{◌≡◌, ◌∙◌, None, true, sym, ap, subst, arith}
-use Rattle.lb_core.specs.declared.course.Course.{Course}
 use Rattle.lb_core.specs.declared.entry.What.TheVariants.{Adopt}
 use Rattle.lb_journal.specs.contracts.journal.Journal.{the_row}
 use Rattle.lb_lane.specs.Lanes.{LaneIs}
@@ -52,8 +51,6 @@ invariant_of-self-2 g c =
     let x = c.args.chosen in
     let what = Adopt x.version c.args.kind x.cpu in
     let chosen : IsChosen n.header l x = subst (λ (k : LaneIs). IsChosen n.header k x) (sym c.self.view_is) c.requires.chosen in
-    let due : use_due l.side.course.form l.side.course c.args.kind x.cpu ≡ true =
-    ap (λ (k : LaneIs). use_due k.side.course.form k.side.course c.args.kind x.cpu) c.self.view_is ∙ c.requires.due in
     let f = c.follow_queue.new.self in
     let u = followed l.side c.make_room.new.side f _ c.make_room.ensures.same c.make_room.ensures.view c.follow_queue.ensures.same
     c.follow_queue.ensures.read c.follow_queue.ensures.later in
@@ -62,9 +59,7 @@ invariant_of-self-2 g c =
     let figs = c.new-figs.result in
     let ticket = c.draw-ticket.result in
     let drew = drew_of n.header f d what x.masks figs ticket c.draw-ticket.ensures in
-    let due' : use_due f.course.form f.course c.args.kind x.cpu ≡ true =
-    subst (λ (y : Course). use_due y.form y c.args.kind x.cpu ≡ true) (sym u.course) due in
     kept n.header n.board v the_row.coded (record l { side = f }) (record l { side = d; turned = x.cpu; domains = x.domains }) what
     x.masks figs ticket c.saw_stays.ensures k drew
     (use_adds n.header n.board v the_row.coded (record l { side = f }) d x c.args.kind figs ticket k
-    (chosen_still n.header l f x u.course chosen) due' drew c.new-figs.ensures c.draw-ticket.ensures.reader)
+    (chosen_still n.header l f x u.course chosen) drew c.new-figs.ensures c.draw-ticket.ensures.reader)

@@ -32,9 +32,9 @@ invariant_of-self-2 g c =
     let asks : LookAsks n.header l = subst (LookAsks n.header) (sym c.self.view_is) c.requires in
     let may = may_look n.header n.board g.N.Versions.versions the_row.coded l c.self.invariant c.keeps.ensures.named asks
     c.groups_part_the_span.ensures c.spans_lie_inside.ensures in
-    let d = c.in_ok-decision.ensures.ok in
-    let what = look_of (turn_domain n.header l.side.course) l.side.course d.figs in
-    kept n.header n.board g.N.Versions.versions the_row.coded l (record l { side = c.look_at.new.side }) what [] d.figs d.ticket
-    c.saw_stays.ensures c.self.invariant d.drew
-    (look_adds n.header n.board g.N.Versions.versions the_row.coded l c.look_at.new.side d.figs d.ticket c.self.invariant asks
-    may.named d.drew d.read d.inside d.earlier d.sees)
+    let x = c.in_ok-decision.ensures.ok in
+    let what = look_of (turn_domain n.header l.side.course) l.side.course x.drew.figs in
+    kept n.header n.board g.N.Versions.versions the_row.coded l (record l { side = c.look_at.new.side }) what [] x.drew.figs
+    x.drew.ticket c.saw_stays.ensures c.self.invariant x.drew.drew
+    (look_adds n.header n.board g.N.Versions.versions the_row.coded l c.look_at.new.side c.in_ok-decision.decision c.self.invariant asks
+    may.named x)

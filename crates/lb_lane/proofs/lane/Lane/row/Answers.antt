@@ -47,4 +47,5 @@ invariant_of-self-2 g c =
     kept n.header n.board g.N.Versions.versions the_row.coded l (record l { side = c.enter.new.side }) (Row (rows + 1) row.at command)
     c.new-masks.result c.new-figs.result ticket c.saw_stays.ensures c.self.invariant (search rules)
     (row_adds n.header n.board g.N.Versions.versions the_row.coded l c.enter.new.side rows row.at command row c.new-masks.result
-    c.new-figs.result ticket c.self.invariant (search rules) er more (search rules) refl (search rules) (search rules) (search rules))
+    c.new-figs.result ticket c.self.invariant (search rules) er more (search rules) refl (search rules) (search rules) (search rules)
+    (ap (λ (k : LaneIs). k.side.course.form) c.self.view_is ∙ c.requires.rest))

@@ -1,0 +1,9 @@
+use Rattle.lb_lane.proofs.Making.{new_publisher}
+use Rattle.lb_lane.proofs.publisher.PublisherCell.new.Goals as goal
+
+pub invariant_of-result : goal.invariant_of-result
+invariant_of-result g c =
+    let n = g.N.Names in
+    let r = c.requires in
+    new_publisher n.header n.book g.N.Versions.versions c.args.publisher c.args.seat r.seat.0 r.seat.1 r.seat.2 r.publisher.0
+    r.publisher.1
