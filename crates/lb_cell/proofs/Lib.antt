@@ -9,9 +9,9 @@ mod Answering
 mod Seeing
 mod Asking
 mod Closing
-mod Filling
 mod Moving
 mod Turning
 mod Owning
 mod PubEntries
 mod Plain
+mod Staying

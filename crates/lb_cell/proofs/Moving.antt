@@ -1,6 +1,9 @@
 -- The entries by which tasks leave a queue and land at another may be drawn, and are what their courses note.
-use Rattle.std.proofs.Common.{ℕ, ◌≡◌, ◌≤◌, ◌<◌, ◌||◌, Bool, true, false, not, ◌&&◌, Option, Some, None, is_some, List, [], ◌∷◌, ◌++◌, length, if◌then◌else◌, refl, sym, subst, ap, ◌∙◌, arith}
+use Rattle.std.proofs.Common.{ℕ, ◌≡◌, ◌≤◌, ◌<◌, ◌||◌, Bool, true, false, not, ◌&&◌, Option, Some, None, is_some, List, [], ◌∷◌, ◌++◌, length, if◌then◌else◌, ◌↔◌, IsTrue, All, get_or, refl, sym, subst, ap, ◌∙◌, arith}
+use Rattle.std.specs.List.{list_all}
+use Rattle.std.proofs.lemmas.Bool.{not-true}
 use Rattle.std.proofs.lemmas.List.{length-map}
+use Rattle.std.proofs.lemmas.List.Elements.{All-head, All-tail}
 use Rattle.lb_queue.specs.declared.answers.OutCause.{OutCause}
 use Rattle.lb_queue.specs.declared.answers.OutCause.TheVariants as causes
 use Rattle.lb_queue.specs.declared.answers.Taken.{Taken}
@@ -12,7 +15,7 @@ use Rattle.lb_queue.specs.declared.answers.Stop.{Stop}
 use Rattle.lb_queue.specs.Laws.{FollowsPicks}
 use Rattle.lb_queue.specs.Requests.{next_stop, has_owed}
 use Rattle.lb_queue.specs.Values.{views, view_at}
-use Rattle.lb_queue.specs.Queue.{QueueState, away, away_of, clock_at}
+use Rattle.lb_queue.specs.Queue.{QueueState, away, away_of, clock_at, knows}
 use Rattle.lb_queue.specs.Tasks.{ids, task_with, awake_with}
 use Rattle.lb_queue.specs.Hands.{HandState, loaded, leave, leaves_asleep, leaves_awake, stop_goes, stop_to, take_stop, pushed, take_push, take_pull, taken_by}
 use Rattle.lb_trace.specs.declared.trace.Command.{Command}
@@ -32,6 +35,7 @@ use Rattle.lb_core.specs.Elsewhere.{is_rest}
 use Rattle.lb_core.specs.Leaving.{Leaving, leaving, leaving_by, out_by, wake_out, wake_to, served_out, push_out, pull_out}
 use Rattle.lb_core.specs.Stage.{is_queue, push_is_due, queue_due, draws, stage_allows}
 use Rattle.lb_core.specs.Rules.{breaks_here, is_other_out}
+use Rattle.lb_core.proofs.Headers.{all_index}
 use Rattle.lb_core.proofs.Equality.{equal_itself, numbers_itself, cause_itself}
 use Rattle.lb_cell.specs.Cells.{CellIs, LaneIs}
 use Rattle.lb_cell.specs.Draws.{IsDueAt, MayDraw, sight_at, entry_at}
@@ -273,6 +277,21 @@ many_pulled q at env picked f is =
     sym (length-map (take_pull q at env).0 (λ (t : TaskRecord). t.id)) ∙ ap length (f.taken ∙ sym is)
 
 -- ---- a landing
+all_unknown : (q : QueueState) (ts : List TaskRecord) → All (λ (t : TaskRecord). knows q t.id ≡ false) ts
+    → list_all (λ (t : TaskRecord). not (knows q t.id)) ts ≡ true
+all_unknown q [] h = refl
+all_unknown q (t ∷ ts) h =
+    rw (All-head (λ (x : TaskRecord). knows q x.id ≡ false) t ts h)
+    (all_unknown q ts (All-tail (λ (x : TaskRecord). knows q x.id ≡ false) t ts h))
+
+-- that a queue knows none of these tasks is told by a test of each
+pub none_known : (q : QueueState) (ts : List TaskRecord)
+    → IsTrue (list_all (λ (t : TaskRecord). not (knows q t.id)) ts) ↔ All (λ (t : TaskRecord). knows q t.id ≡ false) ts
+none_known q ts = (
+  λ h k d lt. not-true (knows q (get_or ts k d).id) (all_index (λ (t : TaskRecord). not (knows q t.id)) ts h k d lt),
+  all_unknown q ts,
+)
+
 land_stage : (h : Header) (c : CellIs) (l : LaneIs) (list : List ℕ) → IsDueAt forms.Flight l.course c.log.writer.cpu
     → not (stage_allows (sight_at h c l) (entry_at c l (Landed list))) ≡ false
 unfolding stage_allows draws
@@ -287,7 +306,8 @@ land_allowed : (h : Header) (c : CellIs) (l : LaneIs) (list : List ℕ) → IsDu
     → list ≡ ids l.course.hand → (rule : Rule) → breaks_here rule (sight_at h c l) (entry_at c l (Landed list)) ≡ false
 land_allowed h c l list due is rules.Stage = land_stage h c l list due
 land_allowed h c l list due is rules.Flight =
-    subst (λ (ns : List ℕ). not (same_numbers ns (ids l.course.hand)) ≡ false) (sym is) (rw (numbers_itself (ids l.course.hand)) refl)
+    let hand : List ℕ = ids l.course.hand in
+    subst (λ (ns : List ℕ). not (same_numbers ns hand) ≡ false) (sym is) (rw (numbers_itself hand) refl)
 land_allowed h c l list due is rules.Reply = refl
 land_allowed h c l list due is rules.Ticket = refl
 land_allowed h c l list due is rules.Prev = refl
@@ -318,10 +338,6 @@ came q at n moved hand now is empty many =
 
 pub are_for : (n m : ℕ) (lists : HandLists) → m ≡ n → AreFor n lists → AreFor m lists
 are_for n m lists e f = subst (λ (k : ℕ). AreFor k lists) (sym e) f
-
-pub views_length : (q : QueueState) (at : ℕ) → length (views q at) ≡ length q.awake
-unfolding views
-views_length q at = length-map q.awake (view_at (clock_at q at))
 
 pub few_pushed : (b : Bool) (n : ℕ) → n ≡ (if b then 1 else 0) → n < 4294967296
 few_pushed true n e = omega (arith, e)

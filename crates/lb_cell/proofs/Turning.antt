@@ -26,20 +26,6 @@ use Rattle.lb_cell.specs.Cells.{CellIs, LaneIs}
 use Rattle.lb_cell.specs.Draws.{IsDueAt, MayDraw, MayAnswerUse, sight_at, entry_at}
 use Rattle.lb_cell.proofs.Asking.{is_here}
 
--- ---- how many counters a turn finds
-or_fresh : (cs : Option (List Counters)) (shapes : List Shape)
-    → MatchOption cs (Unit {0}) (λ cs. length shapes ≡ length cs) → length (counters_or_fresh cs shapes) ≡ length shapes
-or_fresh None shapes fit = length-map shapes (fresh_at 0)
-or_fresh (Some cs) shapes fit = sym fit
-
-pub found_length : (q : QueueState) (at version : ℕ) (shapes : List Shape) → FitCounters q version shapes
-    → length (counters_found q at version shapes) ≡ length shapes
-unfolding counters_found
-found_length q at version shapes fit = elim (cases_eq version q.version) [
-  | inl e ↦ rw (eq-eqb version q.version e) (or_fresh q.counters shapes (fit e))
-  | inr d ↦ rw (ne_eqb version q.version d) (length-map shapes (fresh_at (milliseconds (clock_at q at))))
-]
-
 -- ---- a turn opens
 turn_stage : (h : Header) (c : CellIs) (l : LaneIs) (ps : Mask) → IsDueAt forms.Used l.course c.log.writer.cpu
     → not (stage_allows (sight_at h c l) (entry_at c l (Turn ps))) ≡ false

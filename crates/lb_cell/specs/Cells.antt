@@ -19,6 +19,8 @@ use Rattle.lb_journal.specs.Owners.{published}
 use Rattle.lb_board.specs.Board.{IsOfBoard}
 use Rattle.lb_cell.specs.declared.log.Log.{Log}
 use Rattle.lb_cell.specs.declared.known.Known.{Known}
+use Rattle.lb_cell.specs.declared.parts.CellParts.{CellParts}
+use Rattle.lb_cell.specs.declared.parts.LaneParts.{LaneParts}
 use Rattle.lb_cell.specs.Kinds.{is_of_queue}
 use Rattle.lb_cell.specs.LastEntries.{IsLast}
 
@@ -28,6 +30,9 @@ pub record CellIs : Type 0 where
   pub queue : BookedQueue
   pub log : Log
   pub room : ℕ
+
+abbrev pub cell_of : CellParts → CellIs
+cell_of c = record { queue = c.queue; log = c.log; room = c.room }
 
 -- there is room for an entry more than are booked
 abbrev pub HasRoom : CellIs → Type 0
@@ -63,6 +68,9 @@ pub record LaneIs : Type 0 where
   pub known : Known
   pub seat : SeatIs Journal
   pub landing : List ℕ
+
+abbrev pub lane_of : LaneParts → LaneIs
+lane_of l = record { number = l.number; course = l.course; known = l.known; seat = l.seat; landing = l.landing }
 
 -- the CPU of its turn, the position in work and the source of its last pull are small numbers
 pub record IsInRange (c : Course) : Type 0 where

@@ -1,6 +1,6 @@
 -- One entry of a queue, drawn by a lane: what it says and leaves, when it may be drawn, and what the queue and the lane
 -- are after it.
-use Rattle.std.specs.Prelude.{ℕ, ◌≡◌, ◌+◌, true, false, [], ◌∷◌, ◌++◌, Some, length, ◌<◌, All}
+use Rattle.std.specs.Prelude.{ℕ, ◌≡◌, ◌+◌, true, false, [], ◌∷◌, ◌++◌, Some, length, set, ◌<◌, All}
 use mathlib.Core.List.{IsPrefix}
 use Rattle.lb_queue.specs.Queue.{QueueState}
 use Rattle.lb_queue.specs.Figures.{figure}
@@ -55,6 +55,10 @@ item_at h c l what = record {
   masks = [];
   figs = [];
 }
+
+-- a course whose lane has drawn the entry of this number at the queue of a CPU
+abbrev pub counted_at : ℕ → ℕ → Course → Course
+counted_at cpu n c = record c { named = set c.named cpu n }
 
 -- the course is in this form, and the queue of this CPU is the one that draws
 pub record IsDueAt (f : Form) (c : Course) (cpu : ℕ) : Type 0 where

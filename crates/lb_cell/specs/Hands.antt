@@ -1,10 +1,10 @@
 -- Tasks that leave a queue in the hand of a lane, and land at another: the lists that tell which they are, and when they
 -- have left as their lane's course has it.
-use Rattle.std.specs.Prelude.{ℕ, ◌≡◌, true, false, Option, Some, List, length}
+use Rattle.std.specs.Prelude.{ℕ, ◌≡◌, ◌<◌, ◌≤◌, true, false, Option, Some, List, length, All}
 use Rattle.lb_queue.specs.declared.answers.OutCause.{OutCause}
 use Rattle.lb_queue.specs.declared.answers.Taken.{Taken}
 use Rattle.lb_queue.specs.declared.record.TaskRecord.{TaskRecord}
-use Rattle.lb_queue.specs.Queue.{QueueState, away}
+use Rattle.lb_queue.specs.Queue.{QueueState, away, knows}
 use Rattle.lb_queue.specs.Tasks.{ids}
 use Rattle.lb_queue.specs.Hands.{HandState}
 use Rattle.lb_trace.specs.declared.trace.Command.TheVariants.{Wake}
@@ -33,11 +33,13 @@ pub record AreOf (tasks : List TaskRecord) (lists : HandLists) : Type 0 where
   pub landing : lists.landing ≡ ids tasks
 
 -- ---- a hand
--- the hand is that of the course: where its tasks go, when they left, and which they are
-pub record IsLoaded (hand : HandState) (c : Course) : Type 0 where
-  pub to : hand.to ≡ c.to
-  pub moment : hand.moment ≡ c.moment
-  pub tasks : hand.tasks ≡ c.hand
+-- of what the landing of a hand asks, all that is known behind the lock of the queue: room and the landings are booked, the
+-- tasks come to its CPU, and it does not know them
+pub record CanLand (c : CellIs) (course : Course) (hand : HandState) : Type 0 where
+  pub room : 0 < c.room
+  pub booked : length hand.tasks ≤ c.queue.booked
+  pub to : course.to ≡ c.queue.state.cpu
+  pub unknown : All (λ (t : TaskRecord). knows c.queue.state t.id ≡ false) course.hand
 
 -- the tasks of the hand have left the queue, which is `rest` now, and that `out` is due by the course of the lane
 pub record HasLeft (h : Header) (c : CellIs) (l : LaneIs) (cause : OutCause) (taken : Option Taken) (hand : HandState)

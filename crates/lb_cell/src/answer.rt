@@ -1,7 +1,6 @@
 //! The answer of a queue to a command.
 ghost use Rattle.std.specs.Prelude.{◌≡◌};
 ghost use Rattle.lb_core.specs.declared.entry.What.TheVariants as what;
-ghost use Rattle.lb_core.specs.Asks.{CommandAsks};
 ghost use Rattle.lb_core.specs.QueueAfter.{answer_to};
 ghost use Rattle.lb_cell.specs.Cells.{HasRoom};
 ghost use Rattle.lb_cell.specs.Draws.{Drew, Keeps};
@@ -13,32 +12,12 @@ use crate::enter::enter;
 use crate::lane::Lane;
 use crate::names::Names;
 use crate::shared::Shared;
+use lb_act::obey;
 use lb_core::What;
 use lb_course::answered;
-use lb_queue::{Queue, Reply};
-use lb_trace::Command;
+use lb_queue::Reply;
 use std::alloc::Global;
 use std::sync::Wait;
-
-// The queue carries out a command, or refuses it.
-fn obey(queue: &mut Queue, at: u64, command: &Option<Command>) -> Reply
-    requires { CommandAsks command.now queue.old.state }
-    ensures step { (result, queue.new.state) ≡ answer_to command.now at queue.old.state }
-    ensures booked { queue.new.booked ≡ queue.old.booked }
-{
-    match command {
-        Some(Command::Wake { task }) => queue.wake(at, *task),
-        Some(Command::Sleep { task }) => queue.sleep(at, *task),
-        Some(Command::Exit { task }) => queue.exit(at, *task),
-        Some(Command::SetMask { task, mask }) => queue.set_mask(at, *task, *mask),
-        Some(Command::Nice { task, nice }) => queue.renice(at, *task, *nice),
-        Some(Command::Tick { .. }) => {
-            queue.tick(at);
-            Reply::Done
-        }
-        Some(Command::Rebuild { .. }) | None => Reply::Done,
-    }
-}
 
 impl<N: Names> Cell<N> {
     /// Answers the command of the lane's row, by a `did`. The task is known here, and the task of a wake stays; a tick
@@ -57,15 +36,15 @@ impl<N: Names> Cell<N> {
         ensures booked { Keeps self.old self.new }
     {
         let before = Before::of(self, lane);
-        let was = self.queue.len();
-        let reply = obey(&mut self.queue, lane.course.at, &lane.course.command);
-        let awake = self.queue.len();
+        let was = self.parts.queue.len();
+        let reply = obey(&mut self.parts.queue, lane.parts.course.at, &lane.parts.course.command);
+        let awake = self.parts.queue.len();
         // fewer are awake now: the task was
         let was_awake = awake < was;
         answered(
             alloc,
-            &mut lane.course,
-            self.log.writer.cpu(),
+            &mut lane.parts.course,
+            self.parts.log.writer.cpu(),
             was_awake,
             awake,
         );
@@ -74,13 +53,8 @@ impl<N: Names> Cell<N> {
             alloc,
             shared,
             before,
-            &self.queue,
-            &mut self.log,
-            self.room,
-            lane.number,
-            &mut lane.course,
-            &mut lane.known,
-            &lane.landing,
+            &mut self.parts,
+            &mut lane.parts,
             What::Did { reply },
         );
         reply

@@ -38,11 +38,11 @@ impl<N: Names> Before<N> {
         ensures { result ≡ record { cell = cell.now; lane = lane.now } }
     {
         // reads a field of it, so that what it keeps is known
-        let _room = cell.room;
+        let _room = cell.parts.room;
         Before {
             cell: Snapshot::of(cell),
             lane: Snapshot::of(lane),
-            course: Snapshot::of(&lane.course),
+            course: Snapshot::of(&lane.parts.course),
         }
     }
 }

@@ -1,26 +1,25 @@
-use crate::log::Log;
 use crate::names::Names;
+use crate::parts::CellParts;
 use lb_queue::Queue;
+use lb_queue::laws::calls_keep_rest;
 use std::marker::{Model, PhantomData};
 
 /// What stands behind the lock of a queue: the queue, its entries with its figures, and for how many entries room is
 /// kept that are booked.
 #[derive(Drop)]
 pub struct Cell<N: Names> {
-    pub(crate) queue: Queue,
-    pub(crate) log: Log,
-    pub(crate) room: u64,
+    pub(crate) parts: CellParts,
     pub(crate) names: PhantomData<N>,
 }
 
 impl<N: Names> Model for Cell<N> {
-    ghost use Rattle.lb_cell.specs.Cells.{CellIs, CellKeeps};
+    ghost use Rattle.lb_cell.specs.Cells.{CellIs, CellKeeps, cell_of};
 
     ghost Value = { CellIs };
 
-    ghost view = { λ c. record { queue = c.queue; log = c.log; room = c.room } };
+    ghost view = { λ c. cell_of c.parts };
 
-    ghost invariant = { λ c. CellKeeps N.header N.book N.board (record { queue = c.queue; log = c.log; room = c.room }) };
+    ghost invariant = { λ c. CellKeeps N.header N.book N.board (cell_of c.parts) };
 }
 
 impl<N: Names> Cell<N> {
@@ -31,14 +30,17 @@ impl<N: Names> Cell<N> {
     pub fn queue(&self) -> &Queue
         ensures { result.now ≡ self.now.queue }
     {
-        &self.queue
+        &self.parts.queue
     }
 
     /// The CPU of the queue.
     pub fn cpu(&self) -> u32
-        ensures { result ≡ self.now.log.writer.cpu }
+        ensures cpu { result ≡ self.now.log.writer.cpu }
+        ensures own { self.now.queue.state.cpu ≡ result }
     {
-        self.log.writer.cpu()
+        // whatever entries the queue drew, it is that of its CPU
+        calls_keep_rest();
+        self.parts.log.writer.cpu()
     }
 
     /// What every cell keeps.

@@ -9,6 +9,7 @@ use crate::draw::learn_last;
 use crate::lane::Lane;
 use crate::log::Log;
 use crate::names::Names;
+use crate::parts::{CellParts, LaneParts};
 use crate::shared::Shared;
 use lb_board::{Reader, Writer};
 use lb_journal::{Journal, Left};
@@ -22,12 +23,11 @@ impl<N: Names> Cell<N> {
         ensures log { record { seat = result.1; writer = result.2 } ≡ self.log }
         ensures kept { CellKeeps N.header N.book N.board self }
     {
-        let Cell {
+        let CellParts {
             queue,
             log,
             room: _,
-            names: _,
-        } = self;
+        } = self.parts;
         let Log { seat, writer } = log;
         (queue, seat, writer)
     }
@@ -43,14 +43,13 @@ impl<N: Names> Lane<N> {
         ensures reader { result.1 ≡ self.known.reader }
         ensures kept { LaneKeeps N.header N.book N.board ⟦<Left as Coding>⟧.coding self }
     {
-        let Lane {
+        let LaneParts {
             number: _,
             course: _,
             mut known,
             mut seat,
             landing: _,
-            names: _,
-        } = self;
+        } = self.parts;
         learn_last(shared.book, &mut seat, &mut known);
         (seat, known.reader)
     }

@@ -1,5 +1,5 @@
 //! The entry of a queue that has made its step, for a lane whose course has made its own.
-ghost use Rattle.std.specs.Prelude.{◌≡◌, ◌<◌, ◌+◌, ◌^◌, true, length, map, slice_set};
+ghost use Rattle.std.specs.Prelude.{◌≡◌, ◌<◌, ◌+◌, ◌^◌, true, length, map};
 ghost use Rattle.lb_base.specs.declared.mask.TheConstants.{MAX_CPUS};
 ghost use Rattle.lb_queue.specs.Tasks.{ids};
 ghost use Rattle.lb_core.specs.QueueAfter.{queue_by};
@@ -7,20 +7,19 @@ ghost use Rattle.lb_core.specs.CourseAfter.{course_by};
 ghost use Rattle.lb_ticket.specs.Tickets.{pair};
 ghost use Rattle.lb_journal.specs.Journal.{Fits, queue_by_item, replay};
 ghost use Rattle.lb_cell.specs.Kinds.{is_out};
-ghost use Rattle.lb_cell.specs.Cells.{CellKeeps, LaneKeeps};
-ghost use Rattle.lb_cell.specs.Draws.{Drew, MayDraw, course_left, item_at, queue_left, sight_at};
+ghost use Rattle.lb_cell.specs.Cells.{CellKeeps, LaneKeeps, cell_of, lane_of};
+ghost use Rattle.lb_cell.specs.Draws.{Drew, MayDraw, counted_at, course_left, item_at, queue_left, sight_at};
 
 use crate::before::Before;
 use crate::draw::draw_at;
 use crate::known::Known;
-use crate::log::Log;
 use crate::names::Names;
+use crate::parts::{CellParts, LaneParts};
 use crate::shared::Shared;
 use lb_base::Items;
-use lb_core::{Course, Entry, Ids, Owner, What};
+use lb_core::{Course, Entry, Owner, What};
 use lb_course::drew;
 use lb_journal::{Journal, Left};
-use lb_queue::Queue;
 use lb_ticket::Coding;
 use std::alloc::Global;
 use std::snapshot::Snapshot;
@@ -32,40 +31,38 @@ fn item_of<N: Names>(
     alloc: Global,
     shared: &Shared<'_, N>,
     before: Before<N>,
-    queue: &Queue,
-    log: &Log,
+    cell: &CellParts,
     number: u32,
     course: &mut Course,
     known: &Known,
     what: What,
 ) -> Journal
-    requires log { log.now ≡ before.cell.log }
+    requires log { cell.now.log ≡ before.cell.log }
     requires lane { (number ≡ before.lane.number) × (known.now ≡ before.lane.known) }
     requires may { MayDraw N.header before.cell before.lane what }
-    requires queue { queue.now.state ≡ queue_by what (sight_at N.header before.cell before.lane) before.lane.number }
+    requires queue { cell.now.queue.state ≡ queue_by what (sight_at N.header before.cell before.lane) before.lane.number }
     requires course { course.old
-        ≡ course_by what (sight_at N.header before.cell before.lane) before.cell.log.writer.cpu queue.now.state }
+        ≡ course_by what (sight_at N.header before.cell before.lane) before.cell.log.writer.cpu cell.now.queue.state }
     ensures cell { CellKeeps N.header N.book N.board before.cell }
     ensures lane { LaneKeeps N.header N.book N.board ⟦<Left as Coding>⟧.coding before.lane }
     ensures shared { (shared.now.book ≡ N.book) × (shared.now.board ≡ N.board) }
     ensures small { before.cell.log.writer.cpu < MAX_CPUS }
     ensures item { result ≡ item_at N.header before.cell before.lane what }
-    ensures fits { Fits (map pair log.now.seat.list) result }
-    ensures step { queue.now.state
-        ≡ queue_by_item (replay result.header log.now.writer.cpu (map pair log.now.seat.list)) (length log.now.seat.list) result }
-    ensures queue { queue.now.state ≡ queue_left N.header before.cell before.lane what }
+    ensures fits { Fits (map pair cell.now.log.seat.list) result }
+    ensures step { cell.now.queue.state
+        ≡ queue_by_item (replay result.header cell.now.log.writer.cpu (map pair cell.now.log.seat.list))
+        (length cell.now.log.seat.list) result }
+    ensures queue { cell.now.queue.state ≡ queue_left N.header before.cell before.lane what }
     ensures course { course.new ≡ course_left N.header before.cell before.lane what }
-    ensures counted { course.new ≡ record course.old {
-      named = slice_set course.old.named log.now.writer.cpu (length log.now.seat.list + 1);
-    } }
+    ensures counted { course.new ≡ counted_at cell.now.log.writer.cpu (length cell.now.log.seat.list + 1) course.old }
 {
     let Before {
         cell: _,
         lane: _,
         course: quoted,
     } = before;
-    let cpu = log.writer.cpu();
-    drew(course, cpu, log.seat.len() + 1);
+    let cpu = cell.log.writer.cpu();
+    drew(course, cpu, cell.log.seat.len() + 1);
     let masks = Items::new(alloc);
     let figs = Items::new(alloc);
     let entry = Entry {
@@ -85,42 +82,49 @@ fn item_of<N: Names>(
 }
 
 /// Draws the entry of a queue for a lane, upon the cell and the lane as they were before it. The queue has made its
-/// step, and the course its own, but for the number of the entry. `room` is how many entries are booked after it.
+/// step, and the course its own, but for the number of the entry; the cell's room is what is booked after it.
 pub(crate) fn enter<N: Names, R: Wait>(
     rt: &R,
     alloc: Global,
     shared: &Shared<'_, N>,
     before: Before<N>,
-    queue: &Queue,
-    log: &mut Log,
-    room: u64,
-    number: u32,
-    course: &mut Course,
-    known: &mut Known,
-    landing: &Ids,
+    cell: &mut CellParts,
+    lane: &mut LaneParts,
     what: What,
 )
-    requires log { log.old ≡ before.cell.log }
-    requires lane { (number ≡ before.lane.number) × (known.old ≡ before.lane.known) }
-    requires room { (room < before.cell.log.seat.spare) × (length before.cell.log.seat.list + room + 1 < 2 ^ 40) }
+    requires log { cell.old.log ≡ before.cell.log }
+    requires room { (cell.old.room < before.cell.log.seat.spare)
+        × (length before.cell.log.seat.list + cell.old.room + 1 < 2 ^ 40) }
+    requires lane { (lane.old.number ≡ before.lane.number) × (lane.old.known ≡ before.lane.known)
+        × (lane.old.seat ≡ before.lane.seat) }
     requires may { MayDraw N.header before.cell before.lane what }
-    requires queue { queue.now.state ≡ queue_by what (sight_at N.header before.cell before.lane) before.lane.number }
-    requires course { course.old
-        ≡ course_by what (sight_at N.header before.cell before.lane) before.cell.log.writer.cpu queue.now.state }
-    requires landing { is_out what ≡ true → landing.now ≡ ids course.old.hand }
-    ensures cell { CellKeeps N.header N.book N.board (record { queue = queue.now; log = log.new; room = room }) }
-    ensures lane { LaneKeeps N.header N.book N.board ⟦<Left as Coding>⟧.coding
-        (record { number = number; course = course.new; known = known.new; seat = before.lane.seat; landing = landing.now }) }
-    ensures counted { course.new ≡ record course.old {
-      named = slice_set course.old.named log.old.writer.cpu (length log.old.seat.list + 1);
-    } }
-    ensures drew { Drew N.header before.cell (record { queue = queue.now; log = log.new; room = room })
-        before.lane
-        (record { number = number; course = course.new; known = known.new; seat = before.lane.seat; landing = landing.now })
-        what }
+    requires queue { cell.old.queue.state ≡ queue_by what (sight_at N.header before.cell before.lane) before.lane.number }
+    requires course { lane.old.course
+        ≡ course_by what (sight_at N.header before.cell before.lane) before.cell.log.writer.cpu cell.old.queue.state }
+    requires landing { is_out what ≡ true → lane.old.landing ≡ ids lane.old.course.hand }
+    ensures cell { CellKeeps N.header N.book N.board (cell_of cell.new) }
+    ensures lane { LaneKeeps N.header N.book N.board ⟦<Left as Coding>⟧.coding (lane_of lane.new) }
+    ensures drew { Drew N.header before.cell (cell_of cell.new) before.lane (lane_of lane.new) what }
+    ensures same { (cell.new.queue ≡ cell.old.queue) × (cell.new.room ≡ cell.old.room) }
+    ensures counted { lane.new.course ≡ counted_at cell.old.log.writer.cpu (length cell.old.log.seat.list + 1) lane.old.course }
 {
     let item = item_of(
-        alloc, shared, before, queue, log, number, course, known, what,
+        alloc,
+        shared,
+        before,
+        cell,
+        lane.number,
+        &mut lane.course,
+        &lane.known,
+        what,
     );
-    draw_at(rt, shared.book, shared.board, queue, log, known, item);
+    draw_at(
+        rt,
+        shared.book,
+        shared.board,
+        &cell.queue,
+        &mut cell.log,
+        &mut lane.known,
+        item,
+    );
 }

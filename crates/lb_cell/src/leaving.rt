@@ -3,24 +3,24 @@ ghost use Rattle.std.specs.Prelude.{◌≡◌, ◌<◌, ◌+◌, ◌^◌, [], le
 ghost use Rattle.lb_queue.specs.Tasks.{ids};
 ghost use Rattle.lb_queue.specs.declared.answers.OutCause.TheVariants as cause;
 ghost use Rattle.lb_core.specs.declared.entry.What.TheVariants as what;
-ghost use Rattle.lb_cell.specs.Cells.{CellKeeps, HasRoom, LaneKeeps};
+ghost use Rattle.lb_act.specs.Hands.{IsLoaded};
+ghost use Rattle.lb_cell.specs.Cells.{CellKeeps, HasRoom, LaneKeeps, cell_of, lane_of};
 ghost use Rattle.lb_cell.specs.Draws.{Drew, Keeps};
-ghost use Rattle.lb_cell.specs.Hands.{AreFor, HasLeft, IsLoaded, WakesElsewhere};
+ghost use Rattle.lb_cell.specs.Hands.{AreFor, HasLeft, WakesElsewhere};
 
 use crate::before::Before;
 use crate::cell::Cell;
 use crate::enter::enter;
-use crate::known::Known;
 use crate::lane::Lane;
 use crate::lists::HandLists;
-use crate::log::Log;
 use crate::names::Names;
+use crate::parts::{CellParts, LaneParts};
 use crate::shared::Shared;
 use lb_base::NoMemory;
-use lb_core::{Course, Ids, What};
+use lb_core::What;
 use lb_course::taken_off;
 use lb_journal::Left;
-use lb_queue::{Hand, OutCause, Queue, Taken};
+use lb_queue::{Hand, OutCause, Taken};
 use lb_ticket::Coding;
 use lb_trace::Command;
 use std::alloc::Global;
@@ -33,60 +33,49 @@ pub(crate) fn depart<N: Names, R: Wait>(
     alloc: Global,
     shared: &Shared<'_, N>,
     before: Before<N>,
-    queue: &Queue,
-    log: &mut Log,
-    room: u64,
-    number: u32,
-    course: &mut Course,
-    known: &mut Known,
-    landing: &mut Ids,
+    cell: &mut CellParts,
+    lane: &mut LaneParts,
     hand: &Hand,
     mut lists: HandLists,
     why: OutCause,
     taken: Option<Taken>,
 )
-    requires log { log.old ≡ before.cell.log }
-    requires lane { (number ≡ before.lane.number) × (course.old ≡ before.lane.course) × (known.old ≡ before.lane.known) }
-    requires room { (room < before.cell.log.seat.spare) × (length before.cell.log.seat.list + room + 1 < 2 ^ 40) }
-    requires left { HasLeft N.header before.cell before.lane why taken hand.now queue.now.state }
+    requires log { cell.old.log ≡ before.cell.log }
+    requires lane { lane_of lane.old ≡ before.lane }
+    requires room { (cell.old.room < before.cell.log.seat.spare)
+        × (length before.cell.log.seat.list + cell.old.room + 1 < 2 ^ 40) }
+    requires left { HasLeft N.header before.cell before.lane why taken hand.now cell.old.queue.state }
     requires lists { AreFor (length hand.now.tasks) lists }
     requires few { length hand.now.tasks < 2 ^ 32 }
-    ensures cell { CellKeeps N.header N.book N.board (record { queue = queue.now; log = log.new; room = room }) }
-    ensures lane { LaneKeeps N.header N.book N.board ⟦<Left as Coding>⟧.coding
-        (record { number = number; course = course.new; known = known.new; seat = before.lane.seat; landing = landing.new }) }
-    ensures drew { Drew N.header before.cell (record { queue = queue.now; log = log.new; room = room })
-        before.lane
-        (record { number = number; course = course.new; known = known.new; seat = before.lane.seat; landing = landing.new })
+    ensures cell { CellKeeps N.header N.book N.board (cell_of cell.new) }
+    ensures lane { LaneKeeps N.header N.book N.board ⟦<Left as Coding>⟧.coding (lane_of lane.new) }
+    ensures drew { Drew N.header before.cell (cell_of cell.new) before.lane (lane_of lane.new)
         (what.Out why hand.now.to (ids hand.now.tasks)) }
-    ensures loaded { IsLoaded hand.now course.new }
+    ensures same { (cell.new.queue ≡ cell.old.queue) × (cell.new.room ≡ cell.old.room) }
+    ensures loaded { IsLoaded hand.now lane.new.course }
 {
     lists.fill(hand);
     let to = hand.to();
     let HandLists {
         records,
         out,
-        landing: next,
-    } = lists;
-    taken_off(course, why, to, hand.moment(), records, taken);
-    *landing = next;
-    enter(
-        rt,
-        alloc,
-        shared,
-        before,
-        queue,
-        log,
-        room,
-        number,
-        course,
-        known,
         landing,
-        What::Out {
-            cause: why,
-            to,
-            ids: out,
-        },
+    } = lists;
+    taken_off(
+        &mut lane.course,
+        why,
+        to,
+        hand.moment(),
+        records,
+        taken,
     );
+    lane.landing = landing;
+    let what = What::Out {
+        cause: why,
+        to,
+        ids: out,
+    };
+    enter(rt, alloc, shared, before, cell, lane, what);
 }
 
 impl<N: Names> Cell<N> {
@@ -109,24 +98,19 @@ impl<N: Names> Cell<N> {
         ensures booked { OnOk result (Keeps self.old self.new) }
         ensures refused { OnErr result ((self.new ≡ self.old) × (lane.new ≡ lane.old) × (hand.new ≡ hand.old)) }
     {
-        let Some(Command::Wake { task }) = lane.course.command else {
+        let Some(Command::Wake { task }) = lane.parts.course.command else {
             unreachable!()
         };
         let lists = HandLists::new(alloc, 1)?;
         let before = Before::of(self, lane);
-        self.queue.leave(lane.course.at, task, hand);
+        self.parts.queue.leave(lane.parts.course.at, task, hand);
         depart(
             rt,
             alloc,
             shared,
             before,
-            &self.queue,
-            &mut self.log,
-            self.room,
-            lane.number,
-            &mut lane.course,
-            &mut lane.known,
-            &mut lane.landing,
+            &mut self.parts,
+            &mut lane.parts,
             hand,
             lists,
             OutCause::Wake,

@@ -4,10 +4,10 @@ ghost use Rattle.std.specs.Prelude.{◌≡◌, length, IfOk, if◌then◌else◌
 ghost use Rattle.lb_queue.specs.Tasks.{ids};
 ghost use Rattle.lb_cell.specs.Hands.{AreFor, AreOf};
 
-use lb_base::{Items, Mask, NoMemory};
+use lb_act::{blank_records, note_records};
+use lb_base::{Items, NoMemory};
 use lb_core::{Ids, TaskRecords};
-use lb_pelt::Signal;
-use lb_queue::{Hand, TaskRecord};
+use lb_queue::Hand;
 use std::alloc::Global;
 
 /// The tasks of a hand, and their ids twice: for the entry by which they leave, and for that of their landing.
@@ -18,37 +18,12 @@ pub struct HandLists {
     pub(crate) landing: Ids,
 }
 
-// So many records, which stand for the tasks that are to come into a hand.
-fn blank_records(alloc: Global, count: usize) -> Result<TaskRecords, NoMemory>
-    ensures { IfOk result (λ list. length list ≡ count) }
-{
-    let blank = TaskRecord {
-        id: 0,
-        nice: 0,
-        mask: Mask::none(),
-        signal: Signal::zero(),
-        put_down: None,
-    };
-    let blanks = vec![in alloc; blank; count]?;
-    Ok(Items::from_slice(alloc, &blanks)?)
-}
-
-// So many ids, which stand for those of such tasks.
+// So many ids, which stand for those of the tasks that are to come into a hand.
 fn blank_ids(alloc: Global, count: usize) -> Result<Ids, NoMemory>
     ensures { IfOk result (λ list. length list ≡ count) }
 {
     let blanks = vec![in alloc; 0; count]?;
     Ok(Items::from_slice(alloc, &blanks)?)
-}
-
-// The records of the tasks in a hand.
-fn note(records: &mut TaskRecords, hand: &Hand)
-    requires { length records.old ≡ length hand.now.tasks }
-    ensures { records.new ≡ hand.now.tasks }
-{
-    for i in 0..hand.len() {
-        records.set(i, hand.task(i).record());
-    }
 }
 
 // The ids of the tasks in a hand.
@@ -93,7 +68,7 @@ impl HandLists {
         requires { AreFor (length hand.now.tasks) self.old }
         ensures { AreOf hand.now.tasks self.new }
     {
-        note(&mut self.records, hand);
+        note_records(&mut self.records, hand);
         name(&mut self.out, hand);
         name(&mut self.landing, hand);
     }

@@ -9,6 +9,7 @@ use crate::known::Known;
 use crate::lane::Lane;
 use crate::log::Log;
 use crate::names::Names;
+use crate::parts::{CellParts, LaneParts};
 use lb_base::Items;
 use lb_board::{Reader, Writer};
 use lb_core::Course;
@@ -40,9 +41,11 @@ impl<N: Names> Cell<N> {
         ensures { result ≡ record { queue = queue; log = record { seat = seat; writer = writer }; room = 0 } }
     {
         Cell {
-            queue,
-            log: Log { seat, writer },
-            room: 0,
+            parts: CellParts {
+                queue,
+                log: Log { seat, writer },
+                room: 0,
+            },
             names: PhantomData,
         }
     }
@@ -71,15 +74,17 @@ impl<N: Names> Lane<N> {
         } }
     {
         Lane {
-            number,
-            course,
-            known: Known {
-                ticket: 0,
-                note: None,
-                reader,
+            parts: LaneParts {
+                number,
+                course,
+                known: Known {
+                    ticket: 0,
+                    note: None,
+                    reader,
+                },
+                seat,
+                landing: Items::new(alloc),
             },
-            seat,
-            landing: Items::new(alloc),
             names: PhantomData,
         }
     }

@@ -3,18 +3,18 @@ ghost use Rattle.std.specs.Prelude.{◌≡◌, ◌<◌};
 ghost use Rattle.lb_trace.specs.declared.trace.Header.{Header as HeaderIs};
 ghost use Rattle.lb_core.specs.Machine.{no_queue};
 ghost use Rattle.lb_core.specs.CourseAfter.{course_by};
-ghost use Rattle.lb_cell.specs.Cells.{IsInRange, LaneKeeps};
+ghost use Rattle.lb_cell.specs.Cells.{IsInRange, LaneKeeps, lane_of};
 ghost use Rattle.lb_cell.specs.Own.{DrewOwn, MayDrawOwn, MayFollow, OwnAsks, own_left, sight_from};
 
 use crate::draw::draw_noted;
-use crate::known::Known;
 use crate::lane::Lane;
 use crate::names::Names;
+use crate::parts::LaneParts;
 use crate::shared::Shared;
 use lb_core::{Course, Entry, Figs, Owner, What};
 use lb_course::{asked, looked, scanned, taken_up};
 use lb_journal::{Journal, Left};
-use lb_ticket::{Coding, Seat};
+use lb_ticket::Coding;
 use lb_trace::{Command, Masks};
 use std::alloc::Global;
 use std::marker::Model;
@@ -46,7 +46,7 @@ impl<N: Names> LaneBefore<N> {
     {
         LaneBefore {
             lane: Snapshot::of(lane),
-            course: Snapshot::of(&lane.course),
+            course: Snapshot::of(&lane.parts.course),
         }
     }
 }
@@ -56,46 +56,41 @@ impl<N: Names> LaneBefore<N> {
 fn enter_own<N: Names>(
     shared: &Shared<'_, N>,
     before: LaneBefore<N>,
-    seat: &mut Seat<Journal>,
-    number: u32,
-    course: &Course,
-    known: &mut Known,
+    lane: &mut LaneParts,
     what: What,
     masks: Snapshot<Masks>,
     figs: Snapshot<Figs>,
 ) -> u64
-    requires lane { (number ≡ before.number) × (seat.old ≡ before.seat) × (known.old ≡ before.known) }
+    requires lane { (lane.old.number ≡ before.number) × (lane.old.seat ≡ before.seat) × (lane.old.known ≡ before.known)
+        × (lane.old.landing ≡ before.landing) }
     requires spare { 0 < before.seat.spare }
     requires may { MayDrawOwn N.header before what masks.value figs.value }
-    requires course { course.now ≡ own_left N.header before what masks.value figs.value }
-    requires next { MayFollow N.header course.now }
-    ensures lane { LaneKeeps N.header N.book N.board ⟦<Left as Coding>⟧.coding
-        (record { number = number; course = course.now; known = known.new; seat = seat.new; landing = before.landing }) }
-    ensures drew { DrewOwn N.header before
-        (record { number = number; course = course.now; known = known.new; seat = seat.new; landing = before.landing })
-        what masks.value figs.value result }
+    requires course { lane.old.course ≡ own_left N.header before what masks.value figs.value }
+    requires next { MayFollow N.header lane.old.course }
+    ensures lane { LaneKeeps N.header N.book N.board ⟦<Left as Coding>⟧.coding (lane_of lane.new) }
+    ensures drew { DrewOwn N.header before (lane_of lane.new) what masks.value figs.value result }
 {
     let LaneBefore {
         lane: _,
         course: quoted,
     } = before;
     // as an owner the lane has its seat's number, the next one, so that fits its type
-    let _owner = seat.number();
+    let _owner = lane.seat.number();
     let entry = Entry {
-        owner: Owner::Lane(number),
-        lane: number,
-        prev: known.ticket,
+        owner: Owner::Lane(lane.number),
+        lane: lane.number,
+        prev: lane.known.ticket,
         what,
     };
     let item = Journal::new(
         entry,
         Snapshot::of(shared.header),
         quoted,
-        Snapshot::of(course),
+        Snapshot::of(&lane.course),
         masks,
         figs,
     );
-    draw_noted(shared.book, seat, known, item)
+    draw_noted(shared.book, &mut lane.seat, &mut lane.known, item)
 }
 
 // The course makes the step of an entry that carries these masks or figures. It has its own copy of a row's command.
@@ -151,14 +146,11 @@ impl<N: Names> Lane<N> {
         let before = LaneBefore::of(self);
         let named_masks = Snapshot::of(&masks);
         let named_figs = Snapshot::of(&figs);
-        step(alloc, &mut self.course, &what, command, masks, figs);
+        step(alloc, &mut self.parts.course, &what, command, masks, figs);
         enter_own(
             shared,
             before,
-            &mut self.seat,
-            self.number,
-            &self.course,
-            &mut self.known,
+            &mut self.parts,
             what,
             named_masks,
             named_figs,

@@ -30,24 +30,24 @@ impl<N: Names> Lane<N> {
         requires fits { Fits (map pair seat.old.list) (pub_item N.header self.old (length seat.old.list) version) }
         ensures { DrewPub N.header self.old self.new seat.old seat.new version result }
     {
-        let quoted = Snapshot::of(&self.course);
+        let quoted = Snapshot::of(&self.parts.course);
         let masks = Items::new(alloc);
         let figs = Items::new(alloc);
-        published(alloc, &mut self.course, version);
+        published(alloc, &mut self.parts.course, version);
         let entry = Entry {
             owner: Owner::Publisher,
-            lane: self.number,
-            prev: self.known.ticket,
+            lane: self.parts.number,
+            prev: self.parts.known.ticket,
             what: What::Pub { version },
         };
         let item = Journal::new(
             entry,
             Snapshot::of(shared.header),
             quoted,
-            Snapshot::of(&self.course),
+            Snapshot::of(&self.parts.course),
             Snapshot::of(&masks),
             Snapshot::of(&figs),
         );
-        draw_noted(shared.book, seat, &mut self.known, item)
+        draw_noted(shared.book, seat, &mut self.parts.known, item)
     }
 }

@@ -1,16 +1,14 @@
 //! The take of a pull.
-ghost use Rattle.std.specs.Prelude.{◌≡◌, ◌≤◌, [], Some, true, length, vec_capacity, IfOk, OnOk, OnErr};
-ghost use Rattle.lb_detach.specs.Picks.{picked_ids};
+ghost use Rattle.std.specs.Prelude.{◌≡◌, ◌≤◌, [], Some, true, IfOk, OnOk, OnErr};
 ghost use Rattle.lb_queue.specs.Hands.{taken_by};
 ghost use Rattle.lb_queue.specs.Tasks.{ids};
-ghost use Rattle.lb_queue.specs.Values.{views};
 ghost use Rattle.lb_queue.specs.declared.answers.OutCause.TheVariants as cause;
 ghost use Rattle.lb_core.specs.declared.course.Form.TheVariants as form;
 ghost use Rattle.lb_core.specs.declared.entry.What.TheVariants as what;
 ghost use Rattle.lb_core.specs.Course.{env_of, is_pull};
 ghost use Rattle.lb_cell.specs.Cells.{HasRoom};
 ghost use Rattle.lb_cell.specs.Draws.{Drew, IsDueAt, Keeps};
-ghost use Rattle.lb_cell.specs.Hands.{IsLoaded};
+ghost use Rattle.lb_act.specs.Hands.{IsLoaded};
 
 use crate::before::Before;
 use crate::cell::Cell;
@@ -19,35 +17,13 @@ use crate::leaving::depart;
 use crate::lists::HandLists;
 use crate::names::Names;
 use crate::shared::Shared;
-use lb_base::{NoMemory, TaskView};
-use lb_detach::{EXAMINED_AT_MOST, Env, Picked, picks};
+use lb_act::picks_of;
+use lb_base::NoMemory;
+use lb_detach::{EXAMINED_AT_MOST, Env};
 use lb_queue::laws::pulls_follow_picks;
-use lb_queue::{Hand, OutCause, Queue, Taken};
+use lb_queue::{Hand, OutCause, Taken};
 use std::alloc::Global;
 use std::sync::Wait;
-
-// The awake tasks of a queue, as a pull sees them.
-fn views_of(alloc: Global, queue: &Queue, at: u64) -> Result<Vec<TaskView>, NoMemory>
-    ensures { IfOk result (λ list. list.items ≡ views queue.now.state at) }
-{
-    let mut views = Vec::with_capacity(alloc, queue.len() as usize)?;
-    for i in 0..queue.len() {
-        views.push_reserved(queue.view(at, i));
-    }
-    Ok(views)
-}
-
-// What a pull is to pick, with room for what it does.
-fn picks_of(alloc: Global, queue: &Queue, at: u64, env: &Env) -> Result<Picked, NoMemory>
-    ensures ids { IfOk result (λ p. p.ids.items ≡ picked_ids env.now (views queue.now.state at)) }
-    ensures ids_room { IfOk result (λ p. length queue.now.state.awake ≤ vec_capacity p.ids) }
-    ensures order_room { IfOk result (λ p. length queue.now.state.awake ≤ vec_capacity p.order) }
-{
-    let views = views_of(alloc, queue, at)?;
-    let mut picked = Picked::new(alloc, views.len())?;
-    picks(&views, env, &mut picked);
-    Ok(picked)
-}
 
 impl<N: Names> Cell<N> {
     /// Takes from this queue, the source of the lane's last look, what that look asks for, by an `out pull`, in a hand
@@ -78,22 +54,17 @@ impl<N: Names> Cell<N> {
     {
         // what is picked leaves
         pulls_follow_picks();
-        let mut picked = picks_of(alloc, &self.queue, lane.course.at, env)?;
+        let mut picked = picks_of(alloc, &self.parts.queue, lane.parts.course.at, env)?;
         let lists = HandLists::new(alloc, picked.ids.len())?;
         let before = Before::of(self, lane);
-        let taken = self.queue.take(lane.course.at, env, &mut picked, hand);
+        let taken = self.parts.queue.take(lane.parts.course.at, env, &mut picked, hand);
         depart(
             rt,
             alloc,
             shared,
             before,
-            &self.queue,
-            &mut self.log,
-            self.room,
-            lane.number,
-            &mut lane.course,
-            &mut lane.known,
-            &mut lane.landing,
+            &mut self.parts,
+            &mut lane.parts,
             hand,
             lists,
             OutCause::Pull,

@@ -35,20 +35,15 @@ impl<N: Names> Cell<N> {
         ensures booked { Keeps self.old self.new }
     {
         let before = Before::of(self, lane);
-        let reply = self.queue.ask_active(lane.course.at, lane.course.cpu);
-        go_on(&mut lane.course);
+        let reply = self.parts.queue.ask_active(lane.parts.course.at, lane.parts.course.cpu);
+        go_on(&mut lane.parts.course);
         enter(
             rt,
             alloc,
             shared,
             before,
-            &self.queue,
-            &mut self.log,
-            self.room,
-            lane.number,
-            &mut lane.course,
-            &mut lane.known,
-            &lane.landing,
+            &mut self.parts,
+            &mut lane.parts,
             What::Ask { reply },
         );
         reply
@@ -69,20 +64,15 @@ impl<N: Names> Cell<N> {
         ensures booked { Keeps self.old self.new }
     {
         let before = Before::of(self, lane);
-        let reply = self.queue.kick(lane.course.at);
-        kicked(alloc, &mut lane.course, reply);
+        let reply = self.parts.queue.kick(lane.parts.course.at);
+        kicked(alloc, &mut lane.parts.course, reply);
         enter(
             rt,
             alloc,
             shared,
             before,
-            &self.queue,
-            &mut self.log,
-            self.room,
-            lane.number,
-            &mut lane.course,
-            &mut lane.known,
-            &lane.landing,
+            &mut self.parts,
+            &mut lane.parts,
             What::Kick { reply },
         );
         reply

@@ -13,7 +13,7 @@ impl<N: Names> Cell<N> {
     pub fn can_grow(&self, k: u32) -> bool
         ensures { IsTrue result ↔ (length self.now.log.seat.list + self.now.room + k < 2 ^ 40) }
     {
-        self.log.seat.len() + self.room + u64::from(k) < MAX_ENTRIES
+        self.parts.log.seat.len() + self.parts.room + u64::from(k) < MAX_ENTRIES
     }
 
     /// Makes room for `k` entries more than are booked. It refuses for want of memory alone.
@@ -23,7 +23,7 @@ impl<N: Names> Cell<N> {
         ensures log { (self.new.log.seat.list ≡ self.old.log.seat.list) × (self.new.log.writer ≡ self.old.log.writer) }
         ensures ok { OnOk result (self.old.room + k ≤ self.new.log.seat.spare) }
     {
-        self.log.seat.reserve((self.room + u64::from(k)) as usize)
+        self.parts.log.seat.reserve((self.parts.room + u64::from(k)) as usize)
     }
 
     /// Books the landing of `tasks` tasks, and room for `entries` entries. A refusal, for want of memory alone, books
@@ -37,10 +37,10 @@ impl<N: Names> Cell<N> {
             ((self.new.queue.booked ≡ self.old.queue.booked + tasks) × (self.new.room ≡ self.old.room + entries)) }
         ensures refused { OnErr result ((self.new.queue.booked ≡ self.old.queue.booked) × (self.new.room ≡ self.old.room)) }
     {
-        let room = self.room + u64::from(entries);
-        self.log.seat.reserve(room as usize)?;
-        self.queue.book(u64::from(tasks))?;
-        self.room = room;
+        let room = self.parts.room + u64::from(entries);
+        self.parts.log.seat.reserve(room as usize)?;
+        self.parts.queue.book(u64::from(tasks))?;
+        self.parts.room = room;
         Ok(())
     }
 
@@ -52,7 +52,7 @@ impl<N: Names> Cell<N> {
         ensures room { self.new.room ≡ self.old.room - entries }
         ensures log { self.new.log ≡ self.old.log }
     {
-        self.queue.unbook(u64::from(tasks));
-        self.room -= u64::from(entries);
+        self.parts.queue.unbook(u64::from(tasks));
+        self.parts.room -= u64::from(entries);
     }
 }

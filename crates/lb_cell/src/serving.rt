@@ -7,9 +7,10 @@ ghost use Rattle.lb_queue.specs.declared.answers.OutCause.TheVariants as cause;
 ghost use Rattle.lb_core.specs.declared.course.Form.TheVariants as form;
 ghost use Rattle.lb_core.specs.declared.entry.What.TheVariants as what;
 ghost use Rattle.lb_core.specs.Stage.{push_is_due};
+ghost use Rattle.lb_act.specs.Hands.{IsLoaded};
 ghost use Rattle.lb_cell.specs.Cells.{HasRoom};
 ghost use Rattle.lb_cell.specs.Draws.{Drew, IsDueAt, Keeps};
-ghost use Rattle.lb_cell.specs.Hands.{AreFor, IsLoaded};
+ghost use Rattle.lb_cell.specs.Hands.{AreFor};
 ghost use Rattle.lb_cell.specs.Serving.{out_cause, out_target};
 
 use crate::before::Before;
@@ -31,11 +32,11 @@ impl<N: Names> Cell<N> {
     pub fn out_due(&self, lane: &Lane<N>) -> Option<u32>
         ensures { result ≡ out_target lane.now.course self.now.queue.state }
     {
-        match self.queue.next_stop(true) {
+        match self.parts.queue.next_stop(true) {
             Some(stop) => Some(stop.to),
             None => {
-                if self.queue.active().is_some() && !lane.course.pushed {
-                    self.queue.active()
+                if self.parts.queue.active().is_some() && !lane.parts.course.pushed {
+                    self.parts.queue.active()
                 } else {
                     None
                 }
@@ -68,19 +69,14 @@ impl<N: Names> Cell<N> {
         // a stop is next where one is owed
         next_stops();
         let before = Before::of(self, lane);
-        self.queue.take_stop(lane.course.at, stop.id, hand);
+        self.parts.queue.take_stop(lane.parts.course.at, stop.id, hand);
         depart(
             rt,
             alloc,
             shared,
             before,
-            &self.queue,
-            &mut self.log,
-            self.room,
-            lane.number,
-            &mut lane.course,
-            &mut lane.known,
-            &mut lane.landing,
+            &mut self.parts,
+            &mut lane.parts,
             hand,
             lists,
             OutCause::Stop,
@@ -110,20 +106,15 @@ impl<N: Names> Cell<N> {
         ensures booked { Keeps self.old self.new }
     {
         let before = Before::of(self, lane);
-        let pushed = self.queue.take_push(lane.course.at, hand);
+        let pushed = self.parts.queue.take_push(lane.parts.course.at, hand);
         let lists = lists.only_if(alloc, pushed);
         depart(
             rt,
             alloc,
             shared,
             before,
-            &self.queue,
-            &mut self.log,
-            self.room,
-            lane.number,
-            &mut lane.course,
-            &mut lane.known,
-            &mut lane.landing,
+            &mut self.parts,
+            &mut lane.parts,
             hand,
             lists,
             OutCause::Push,
@@ -153,7 +144,7 @@ impl<N: Names> Cell<N> {
         ensures refused { OnErr result ((self.new ≡ self.old) × (lane.new ≡ lane.old) × (hand.new ≡ hand.old)) }
     {
         let lists = HandLists::new(alloc, 1)?;
-        match self.queue.next_stop(true) {
+        match self.parts.queue.next_stop(true) {
             Some(stop) => self.leave_by_stop(rt, alloc, shared, lane, stop, hand, lists),
             None => self.leave_by_push(rt, alloc, shared, lane, hand, lists),
         }

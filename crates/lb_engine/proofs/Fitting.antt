@@ -9,7 +9,7 @@ use Rattle.lb_queue.specs.Hands.{HandState}
 use Rattle.lb_core.specs.declared.course.Course.{Course}
 use Rattle.lb_core.specs.Machine.{course_at, no_course}
 use Rattle.lb_core.specs.Placed.{is_flight}
-use Rattle.lb_engine.specs.Held.{Held, HandsFit, Holds, IsLoaded, hand_at, booked_at, held_for, tasks_for}
+use Rattle.lb_engine.specs.Held.{Held, HandsFit, Holds, IsInFlight, hand_at, booked_at, held_for, tasks_for}
 use Rattle.lb_engine.specs.Leaves.{HasTakenOff, HasLanded}
 use Rattle.lb_engine.specs.Takes.{StillHeld}
 
@@ -119,7 +119,7 @@ fit_left p p2 lane to c2 fit step left into before =
     let c : course_at p2.machine.courses lane ≡ c2 =
     ap (λ (cs : List Course). course_at cs lane) step.courses
     ∙ get_or-set_same p.machine.courses lane c2 no_course step.lane_is in
-    fits p p2 lane c2 (Some h) fit step left.loaded.hands (subst (λ (x : Course). IsLoaded h x) c left.loaded.loaded)
+    fits p p2 lane c2 (Some h) fit step left.loaded.hands (subst (λ (x : Course). IsInFlight h x) c left.loaded.loaded)
     (ap (λ (b : List ℕ). length b) left.booked ∙ length-set p.booked to (booked_at p.booked to + left.count))
     (λ cpu.
     let m = more_booked p lane to left.count cpu h fit inside none intobooked left.loaded.goes left.loaded.holds in
@@ -154,7 +154,7 @@ fewer_booked p lane to cpu h fit inside held intobooked goes =
     ]
 
 -- the hand of a lane in flight
-pub some_held : (o : Option HandState) (c : Course) → Holds o c → is_flight c.form ≡ true → IsSomeAnd o (λ h. IsLoaded h c)
+pub some_held : (o : Option HandState) (c : Course) → Holds o c → is_flight c.form ≡ true → IsSomeAnd o (λ h. IsInFlight h c)
 some_held None c holds flies = let k : true ≡ false = sym flies ∙ holds in cc
 some_held (Some h) c holds flies = holds
 
@@ -171,7 +171,7 @@ enough_booked p lane cpu h fit inside held goes =
 
 landed_from : (o : Option HandState) (p p2 : Held) (lane cpu : ℕ) (c c2 : Course) → hand_at p.hands lane ≡ o
     → HandsFit p → HasStepped p p2 lane c2
-    → IsSomeAnd o (λ h. HasLanded p p2 h lane cpu) → IsSomeAnd o (λ h. IsLoaded h c) → c.to ≡ cpu
+    → IsSomeAnd o (λ h. HasLanded p p2 h lane cpu) → IsSomeAnd o (λ h. IsInFlight h c) → c.to ≡ cpu
     → cpu < length p.machine.queues → is_flight c2.form ≡ false → HandsFit p2
 landed_from None p p2 lane cpu c c2 held fit step landed loaded goes into after = absurd landed
 landed_from (Some h) p p2 lane cpu c c2 held fit step landed loaded goes into after =
@@ -180,7 +180,7 @@ landed_from (Some h) p p2 lane cpu c c2 held fit step landed loaded goes into af
     fits p p2 lane c2 None fit step landed.hands after
     (ap (λ (b : List ℕ). length b) landed.booked ∙ length-set p.booked cpu (booked_at p.booked cpu - length h.tasks))
     (λ k.
-    let m = fewer_booked p lane cpu k h fit inside held intobooked (loaded.to ∙ goes) in
+    let m = fewer_booked p lane cpu k h fit inside held intobooked (loaded.loaded.to ∙ goes) in
     let hs = ap (λ (x : List (Option HandState)). held_for k x) landed.hands in
     let bs = ap (λ (x : List ℕ). booked_at x k) landed.booked in
     omega arith)

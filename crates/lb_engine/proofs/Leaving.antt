@@ -15,7 +15,7 @@ use Rattle.lb_core.specs.CourseAfter.{takes_off}
 use Rattle.lb_core.specs.Leaving.{Leaving, leaving_by, wake_to, stop_out, push_out, pull_out}
 use Rattle.lb_core.specs.Placed.{is_flight}
 use Rattle.lb_core.specs.QueueAfter.{rest_of}
-use Rattle.lb_engine.specs.Held.{IsLoaded}
+use Rattle.lb_engine.specs.Held.{IsInFlight}
 use Rattle.lb_engine.specs.Leaves.{GoesTo, HaveLeft, IsDue}
 
 -- ---- where they go
@@ -117,13 +117,15 @@ noted_course (Some l) cause to count rest empty loaded records taken c c2 due le
 
 pub noted_hand : (o : Option Leaving) (cause : OutCause) (count : ℕ) (rest : QueueState) (empty loaded : HandState)
     (taken : Option Taken) (c c2 : Course)
-    → IsDue o cause empty.to count → HaveLeft o rest empty loaded taken → c2 ≡ takes_off o c → IsLoaded loaded c2
+    → IsDue o cause empty.to count → HaveLeft o rest empty loaded taken → c2 ≡ takes_off o c → IsInFlight loaded c2
 noted_hand None cause count rest empty loaded taken c c2 due left course = absurd due
 noted_hand (Some l) cause count rest empty loaded taken c c2 due left course = record {
   flight = ap (λ (x : Course). is_flight x.form) course;
-  to = left.to_is ∙ sym due.to_is ∙ sym (ap (λ (x : Course). x.to) course);
-  moment = left.moment_is ∙ sym (ap (λ (x : Course). x.moment) course);
-  tasks = left.tasks_are ∙ sym (ap (λ (x : Course). x.hand) course);
+  loaded = record {
+    to = left.to_is ∙ sym due.to_is ∙ sym (ap (λ (x : Course). x.to) course);
+    moment = left.moment_is ∙ sym (ap (λ (x : Course). x.moment) course);
+    tasks = left.tasks_are ∙ sym (ap (λ (x : Course). x.hand) course);
+  };
 }
 
 pub noted_rest : (o : Option Leaving) (cause : OutCause) (count : ℕ) (q rest : QueueState) (empty loaded : HandState)

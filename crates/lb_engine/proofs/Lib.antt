@@ -8,11 +8,9 @@ pub mod Fitting
 pub mod Starting
 pub mod Turning
 pub mod Figures
-pub mod Filling
 pub mod Booking
 pub mod Answering
 pub mod Taking
-pub mod Found
 pub mod Hands
 pub mod Ending
 pub mod Beside

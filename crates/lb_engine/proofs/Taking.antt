@@ -13,7 +13,7 @@ use Rattle.lb_core.specs.QueueAfter.{queue_after}
 use Rattle.lb_core.specs.Machine.{MachineState, course_at, figures_at, no_course, sight}
 use Rattle.lb_core.specs.Placed.{is_flight}
 use Rattle.lb_core.specs.Step.{after}
-use Rattle.lb_engine.specs.Held.{Held, HandsFit, Holds, IsLoaded, hand_at, held_for, booked_at}
+use Rattle.lb_engine.specs.Held.{Held, HandsFit, Holds, IsInFlight, hand_at, held_for, booked_at}
 use Rattle.lb_engine.specs.Leaves.{HasLanded}
 use Rattle.lb_engine.specs.Steps.{of_queue, stepped, served, published}
 use Rattle.lb_engine.specs.Takes.{ServeAsks, OfQueueAsks, HandsAfter, StillHeld, is_landing}
@@ -78,12 +78,14 @@ fit_after (Kick r) p p2 cpu lane inlane incpu fit e flight asks hands = still p 
 fit_after Over p p2 cpu lane inlane incpu fit e flight asks hands = still p p2 cpu lane Over inlane fit e flight refl hands
 
 -- ---- from what was served to what was published
-loaded_too : (h : HandState) (c c2 : Course) (n cpu : ℕ) → c2 ≡ drew (Queue cpu) n c → IsLoaded h c → IsLoaded h c2
+loaded_too : (h : HandState) (c c2 : Course) (n cpu : ℕ) → c2 ≡ drew (Queue cpu) n c → IsInFlight h c → IsInFlight h c2
 loaded_too h c c2 n cpu e l = record {
   flight = ap (λ (x : Course). is_flight x.form) e ∙ l.flight;
-  to = l.to ∙ sym (ap (λ (x : Course). x.to) e);
-  moment = l.moment ∙ sym (ap (λ (x : Course). x.moment) e);
-  tasks = l.tasks ∙ sym (ap (λ (x : Course). x.hand) e);
+  loaded = record {
+    to = l.loaded.to ∙ sym (ap (λ (x : Course). x.to) e);
+    moment = l.loaded.moment ∙ sym (ap (λ (x : Course). x.moment) e);
+    tasks = l.loaded.tasks ∙ sym (ap (λ (x : Course). x.hand) e);
+  };
 }
 
 landed_too : (o : Option HandState) (p p1 p2 : Held) (cpu lane : ℕ) → p2.hands ≡ p1.hands → p2.booked ≡ p1.booked

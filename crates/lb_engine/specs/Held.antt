@@ -7,6 +7,7 @@ use Rattle.lb_queue.specs.Hands.{HandState}
 use Rattle.lb_core.specs.declared.course.Course.{Course}
 use Rattle.lb_core.specs.Machine.{MachineState, course_at}
 use Rattle.lb_core.specs.Placed.{is_flight}
+use Rattle.lb_act.specs.Hands.{IsLoaded}
 
 -- `hands` has one item for each lane, `booked` and `spare` one for each CPU
 pub record Held : Type 0 where
@@ -25,17 +26,15 @@ abbrev pub spare_at : List ℕ → ℕ → ℕ
 spare_at spare cpu = slice_index_or spare cpu 0
 
 -- ---- a hand and the course of its lane
--- the hand has the tasks, the destination and the moment of a course that is in flight
-pub record IsLoaded (h : HandState) (c : Course) : Type 0 where
+-- the lane is in flight, and the hand is that of its course
+pub record IsInFlight (h : HandState) (c : Course) : Type 0 where
   pub flight : is_flight c.form ≡ true
-  pub to : h.to ≡ c.to
-  pub moment : h.moment ≡ c.moment
-  pub tasks : h.tasks ≡ c.hand
+  pub loaded : IsLoaded h c
 
 -- there is a hand exactly while the lane is in flight
 abbrev pub Holds : Option HandState → Course → Type 0
 Holds None c = is_flight c.form ≡ false
-Holds (Some h) c = IsLoaded h c
+Holds (Some h) c = IsInFlight h c
 
 -- ---- hands and bookings
 -- how many tasks of a hand go to a CPU

@@ -14,7 +14,7 @@ use Rattle.lb_core.specs.Course.{env_of}
 use Rattle.lb_core.specs.declared.course.Course.{Course}
 use Rattle.lb_core.specs.Leaving.{Leaving, wake_out, stop_out, served_out, pull_out}
 use Rattle.lb_core.specs.Machine.{course_at}
-use Rattle.lb_engine.specs.Held.{Held, IsLoaded, booked_at}
+use Rattle.lb_engine.specs.Held.{Held, IsInFlight, booked_at}
 
 -- ---- the `out` that is due
 -- if one is, it goes to that CPU
@@ -61,7 +61,7 @@ HaveLeft out rest empty loaded taken = IfSome out (λ l. HasLeft l rest empty lo
 pub record HasLoaded (before after : Held) (lane to count : ℕ) : Type 0 where
   pub hand : HandState
   pub hands : after.hands ≡ slice_set before.hands lane (Some hand)
-  pub loaded : IsLoaded hand (course_at after.machine.courses lane)
+  pub loaded : IsInFlight hand (course_at after.machine.courses lane)
   pub goes : hand.to ≡ to
   pub holds : length hand.tasks ≡ count
 

@@ -13,44 +13,19 @@ ghost use Rattle.lb_queue.specs.Requests.{next_stop};
 ghost use Rattle.lb_core.specs.QueueAfter.{cause_of, rest_of};
 ghost use Rattle.lb_queue.specs.Hands.{land};
 ghost use Rattle.lb_core.specs.Asks.{LandingAsks};
-ghost use Rattle.lb_engine.specs.Held.{IsLoaded};
+ghost use Rattle.lb_engine.specs.Held.{IsInFlight};
 ghost use Rattle.lb_engine.specs.Leaves.{GoesTo, HaveLeft, IsDue, out_with};
 
 use super::Engine;
-use lb_base::{Items, Mask, NoMemory};
+use lb_act::{arrive, blank_records, note_records};
+use lb_base::NoMemory;
 use lb_core::{Course, Form, Place, TaskRecords};
-use lb_course::{cause_of, landed, taken_off};
+use lb_course::taken_off;
 use lb_detach::{EXAMINED_AT_MOST, Env, Picked};
-use lb_pelt::Signal;
-use lb_queue::{Hand, OutCause, Queue, Taken, TaskRecord};
+use lb_queue::{Hand, OutCause, Queue, Taken};
 use lb_trace::Command;
 use std::alloc::Global;
 use std::mem;
-
-// So many records, which stand for the tasks that are to come into a hand.
-fn blank_records(alloc: Global, count: usize) -> Result<TaskRecords, NoMemory>
-    ensures { IfOk result (λ list. length list ≡ count) }
-{
-    let blank = TaskRecord {
-        id: 0,
-        nice: 0,
-        mask: Mask::none(),
-        signal: Signal::zero(),
-        put_down: None,
-    };
-    let blanks = vec![in alloc; blank; count]?;
-    Ok(Items::from_slice(alloc, &blanks)?)
-}
-
-// The records of the tasks in a hand.
-fn note(records: &mut TaskRecords, hand: &Hand)
-    requires { length records.old ≡ length hand.now.tasks }
-    ensures { records.new ≡ hand.now.tasks }
-{
-    for i in 0..hand.len() {
-        records.set(i, hand.task(i).record());
-    }
-}
 
 // A hand comes to a lane that has none.
 fn give(slot: &mut Option<Hand>, hand: Hand)
@@ -268,28 +243,14 @@ fn depart(
     requires order_room { length queue.old.state.awake ≤ vec_capacity picked.old.order }
     ensures queue { queue.new.state ≡ rest_of (out_with course.old.form env course.old queue.old.state) queue.old.state }
     ensures course { course.new ≡ takes_off (out_with course.old.form env course.old queue.old.state) course.old }
-    ensures hand { IsLoaded hand.new course.new }
+    ensures hand { IsInFlight hand.new course.new }
     ensures to { hand.new.to ≡ hand.old.to }
     ensures tasks { length hand.new.tasks ≡ length records }
     ensures booked { queue.new.booked ≡ queue.old.booked }
 {
     let taken = leave(queue, course, env, picked, hand);
-    note(&mut records, hand);
+    note_records(&mut records, hand);
     taken_off(course, cause, hand.to(), hand.moment(), records, taken);
-}
-
-// The tasks of a hand land at their queue, as the course of their lane notes.
-fn arrive(alloc: Global, queue: &mut Queue, course: &mut Course, hand: Hand)
-    requires loaded { IsLoaded hand course.old }
-    requires asks { LandingAsks course.old queue.old.state }
-    requires booked { length hand.tasks ≤ queue.old.booked }
-    requires source { source_of course.old.decision < MAX_CPUS }
-    ensures queue { queue.new.state ≡ land queue.old.state course.old.at (cause_of course.old) course.old.moment course.old.hand }
-    ensures course { course.new ≡ lands (cause_of course.old) course.old }
-    ensures booked { queue.new.booked ≡ queue.old.booked - length hand.tasks }
-{
-    queue.land(course.at, cause_of(course), hand);
-    landed(alloc, course);
 }
 
 impl Engine {
@@ -423,7 +384,7 @@ impl Engine {
         requires asks { LandingAsks (course_at self.old.machine.courses lane) (queue_at self.old.machine.queues cpu) }
         requires source { source_of (course_at self.old.machine.courses lane).decision < MAX_CPUS }
         requires places { All (λ t. t < length self.old.machine.places) ids.now }
-        requires held { IsSomeAnd (hand_at self.old.hands lane) (λ h. IsLoaded h (course_at self.old.machine.courses lane)) }
+        requires held { IsSomeAnd (hand_at self.old.hands lane) (λ h. IsInFlight h (course_at self.old.machine.courses lane)) }
         requires booked { IsSomeAnd (hand_at self.old.hands lane) (λ h. length h.tasks ≤ booked_at self.old.booked cpu) }
         ensures machine { self.new.machine ≡ served self.old.machine (of_queue cpu lane (what.Landed ids.now)) }
         ensures hand { IsSomeAnd (hand_at self.old.hands lane) (λ h. HasLanded self.old self.new h lane cpu) }

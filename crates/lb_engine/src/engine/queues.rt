@@ -7,38 +7,18 @@ ghost use Rattle.lb_core.specs.declared.entry.What.TheVariants as what;
 ghost use Rattle.lb_core.specs.declared.place.Place.{Place};
 ghost use Rattle.lb_core.specs.Course.{task_of};
 ghost use Rattle.lb_core.specs.Machine.{course_at, queue_at, figures_at};
-ghost use Rattle.lb_core.specs.QueueAfter.{answer_to};
 ghost use Rattle.lb_core.specs.Step.{places_after, places_by};
 ghost use Rattle.lb_core.specs.Asks.{CommandAsks};
 ghost use Rattle.lb_engine.specs.Asks.{is_awake_place};
 
 use super::Engine;
+use lb_act::obey;
 use lb_base::NoMemory;
 use lb_core::Place;
 use lb_course::{answered, drew, go_on, kicked, task_of};
-use lb_queue::{AskReply, Queue, Reply};
+use lb_queue::{AskReply, Reply};
 use lb_trace::Command;
 use std::alloc::Global;
-
-// The queue answers a command.
-fn obey(queue: &mut Queue, at: u64, command: &Option<Command>) -> Reply
-    requires { CommandAsks command.now queue.old.state }
-    ensures answer { (result, queue.new.state) ≡ answer_to command.now at queue.old.state }
-    ensures booked { queue.new.booked ≡ queue.old.booked }
-{
-    match command {
-        Some(Command::Wake { task }) => queue.wake(at, *task),
-        Some(Command::Sleep { task }) => queue.sleep(at, *task),
-        Some(Command::Exit { task }) => queue.exit(at, *task),
-        Some(Command::SetMask { task, mask }) => queue.set_mask(at, *task, *mask),
-        Some(Command::Nice { task, nice }) => queue.renice(at, *task, *nice),
-        Some(Command::Tick { .. }) => {
-            queue.tick(at);
-            Reply::Done
-        }
-        Some(Command::Rebuild { .. }) | None => Reply::Done,
-    }
-}
 
 // Whether the map has the task of a command awake.
 fn is_awake(places: &[Place], command: &Option<Command>) -> bool

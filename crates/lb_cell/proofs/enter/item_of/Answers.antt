@@ -17,17 +17,17 @@ drew-requires g c =
     subst (λ x. LaneKeeps n.header n.book n.board the_row.coded x.lane) c.before-2.view_is c.before-2.invariant.1 in
     subst (λ (i : _). i < length c.args.course.now.named)
     (sym (c.cpu-cpu.ensures ∙ ap (λ (l : Log). l.writer.cpu) c.requires.log))
-    (named_here n.header n.book n.board the_row.coded b.cell b.lane c.args.what c.args.queue.now.state c.args.course.now k lk
+    (named_here n.header n.book n.board the_row.coded b.cell b.lane c.args.what c.args.cell.now.queue.state c.args.course.now k lk
     c.requires.may.of_queue c.requires.course)
 
 pub returns-clause-queue : goal.returns-clause-queue
 returns-clause-queue g c =
-    queue_is g.N.Names.header c.args.before.cell c.args.before.lane c.args.what c.args.queue.now.state c.requires.queue
+    queue_is g.N.Names.header c.args.before.cell c.args.before.lane c.args.what c.args.cell.now.queue.state c.requires.queue
 
 pub returns-clause-course : goal.returns-clause-course
 returns-clause-course g c =
     let b = c.args.before in
-    course_is g.N.Names.header b.cell b.lane c.args.what c.args.queue.now.state c.args.course.now c.drew.new.course
+    course_is g.N.Names.header b.cell b.lane c.args.what c.args.cell.now.queue.state c.args.course.now c.drew.new.course
     c.requires.queue
     c.requires.course
     (c.drew.ensures
@@ -65,7 +65,7 @@ returns-clause-step g c =
     let b = c.args.before in
     let k : CellKeeps n.header n.book n.board b.cell =
     subst (λ x. CellKeeps n.header n.book n.board x.cell) c.before-2.view_is c.before-2.invariant.0 in
-    step_is n.header n.book n.board b.cell b.lane c.args.what c.args.queue.now.state k c.requires.queue
+    step_is n.header n.book n.board b.cell b.lane c.args.what c.args.cell.now.queue.state k c.requires.queue
     ∙ (λ i.
     let l : Log = sym c.requires.log i in
     let j : Journal = sym (returns-clause-item g c) i in

@@ -1,10 +1,10 @@
 use Rattle.std.proofs.Common.{◌≡◌, ◌<◌, ◌+◌, length, take, get_or, sym, ap, ◌∙◌, arith}
 use Rattle.std.proofs.Math.ListN.{length-set}
-use Rattle.std.proofs.lemmas.List.{length-map}
+use Rattle.std.proofs.lemmas.List.{length-map, get_or-map}
 use Rattle.std.proofs.lemmas.Option.{get_or_from_slice_get}
 use Rattle.lb_queue.specs.declared.record.TaskRecord.{TaskRecord}
 use Rattle.lb_queue.specs.Tasks.{ids}
-use Rattle.lb_cell.proofs.Filling.{filled_more, get_mapped}
+use Rattle.lb_turn.proofs.Filling.{filled_more}
 use Rattle.lb_cell.proofs.lists.name.Goals as goal
 
 pub loop-i-preserved : goal.loop-i-preserved
@@ -20,10 +20,10 @@ loop-i-preserved c =
     let read : t ≡ get_or tasks i t =
     c.record.ensures.value ∙ sym (get_or_from_slice_get tasks i c.task.result.now t c.task.ensures) in
     let id : t.id ≡ get_or (ids tasks) i t.id =
-    ap (λ (x : TaskRecord). x.id) read ∙ get_mapped (λ (x : TaskRecord). x.id) tasks i t t.id here in
+    ap (λ (x : TaskRecord). x.id) read ∙ sym (get_or-map (λ (x : TaskRecord). x.id) tasks i t t.id here) in
     record {
       room = ap (λ l. length l) c.set.ensures ∙ length-set c.loop-i.list i t.id ∙ room;
       so_far =
           ap (λ l. take (i + 1) l) c.set.ensures
-          ∙ filled_more (ids tasks) c.loop-i.list i t.id inside there id c.loop-i.invariant.so_far;
+          ∙ filled_more (ids tasks) c.loop-i.list i t.id t.id inside there id c.loop-i.invariant.so_far;
     }

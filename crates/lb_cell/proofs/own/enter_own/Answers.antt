@@ -14,7 +14,7 @@ draw_noted-requires-clause-fits g c =
     let k : LaneKeeps n.header n.book n.board the_row.coded b =
     subst (λ x. LaneKeeps n.header n.book n.board the_row.coded x) c.before-2.view_is c.before-2.invariant.0 in
     let item : c.new-item.result ≡ item_own n.header b c.args.what c.args.masks.value c.args.figs.value =
-    item_own_is n.header b c.args.what c.new-item.result c.of.result.value c.args.number c.args.known.now.ticket
+    item_own_is n.header b c.args.what c.new-item.result c.of.result.value c.args.lane.now.number c.args.lane.now.known.ticket
     c.before-2.inside.course.value c.of-2.result.value c.args.masks.value c.args.figs.value c.new-item.ensures
     (c.of.ensures ∙ c.shared.invariant.header_is) c.requires.lane.0 (ap (λ x. x.ticket) c.requires.lane.2)
     (c.before-2.invariant.1 ∙ ap (λ x. x.course) c.before-2.view_is) (c.of-2.ensures ∙ c.requires.course) in
@@ -28,7 +28,7 @@ new-item-requires g c =
     let b = c.args.before in
     let k : LaneKeeps n.header n.book n.board the_row.coded b =
     subst (λ x. LaneKeeps n.header n.book n.board the_row.coded x) c.before-2.view_is c.before-2.invariant.0 in
-    let owner : c.number-owner.result ≡ c.args.number + 1 =
+    let owner : c.number-owner.result ≡ c.args.lane.now.number + 1 =
     c.number-owner.ensures
     ∙ (ap (λ x. x.number) c.requires.lane.1 ∙ (k.owner ∙ ap (λ (i : ℕ). i + 1) (sym c.requires.lane.0))) in
     subst (λ (m : ℕ). m < 4294967296) owner (search rules)

@@ -10,8 +10,8 @@ enter-requires-clause-may g c =
 
 pub enter-requires-clause-course : goal.enter-requires-clause-course
 enter-requires-clause-course g c =
-    let s = c.self.inside in
-    let l = c.lane.inside in
+    let s = c.self.inside.parts in
+    let l = c.lane.inside.parts in
     let q = c.obey-reply.new.queue.state in
     subst
     (λ (b : BeforeIs).

@@ -7,18 +7,18 @@ use Rattle.lb_cell.proofs.cell.Cell.answer_use.Goals as goal
 
 pub open_turn-requires-clause-closed : goal.open_turn-requires-clause-closed
 open_turn-requires-clause-closed g c =
-    let l = c.lane.inside in
+    let l = c.lane.inside.parts in
     let o =
-    opened_is c.self.inside.queue.state l.course.at c.turn_kind-kind.result l.course.version c.as_slice-shapes.result.now
+    opened_is c.self.inside.parts.queue.state l.course.at c.turn_kind-kind.result l.course.version c.as_slice-shapes.result.now
     c.in-Opened.positions (sym c.in-Opened.is ∙ c.opens-reply.ensures) in
     ap (λ (x : CellIs). is_some x.queue.state.open_turn) (sym c.self.view_is) ∙ o.0
 
 pub open_turn-requires-clause-positions : goal.open_turn-requires-clause-positions
 open_turn-requires-clause-positions g c =
-    let l = c.lane.inside in
+    let l = c.lane.inside.parts in
     let kind = c.turn_kind-kind.ensures ∙ ap (λ (x : LaneIs). turn_kind x.course) c.lane.view_is in
     let o =
-    opened_is c.self.inside.queue.state l.course.at c.turn_kind-kind.result l.course.version c.as_slice-shapes.result.now
+    opened_is c.self.inside.parts.queue.state l.course.at c.turn_kind-kind.result l.course.version c.as_slice-shapes.result.now
     c.in-Opened.positions (sym c.in-Opened.is ∙ c.opens-reply.ensures) in
     o.1
     ∙ (λ i.
@@ -27,7 +27,7 @@ open_turn-requires-clause-positions g c =
 
 pub shut_turn-requires-clause-open : goal.shut_turn-requires-clause-open
 shut_turn-requires-clause-open g c =
-    let l = c.lane.inside in
+    let l = c.lane.inside.parts in
     ap (λ (x : CellIs). is_some x.queue.state.open_turn) (sym c.self.view_is)
-    ∙ shut_is c.self.inside.queue.state l.course.at c.turn_kind-kind.result l.course.version c.as_slice-shapes.result.now
+    ∙ shut_is c.self.inside.parts.queue.state l.course.at c.turn_kind-kind.result l.course.version c.as_slice-shapes.result.now
     (sym c.in-TurnOpen.is ∙ c.opens-reply.ensures)

@@ -12,6 +12,6 @@ enter-requires-clause-may g c =
     let h = g.N.Names.header in
     let b = c.of-before.result in
     let is : closing h b.cell b.lane
-    ≡ what.Close c.lane.inside.course.position c.word_of-2.result c.counters_left-left.result.interval
+    ≡ what.Close c.lane.inside.parts.course.position c.word_of-2.result c.counters_left-left.result.interval
     c.counters_left-left.result.failures = search rules in
     subst (MayDraw h b.cell b.lane) is (may_close h b.cell b.lane (search rules))

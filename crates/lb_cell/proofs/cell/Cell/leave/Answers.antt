@@ -11,8 +11,8 @@ depart-requires-clause-left g c =
 
 pub depart-requires-clause-lists : goal.depart-requires-clause-lists
 depart-requires-clause-lists g c =
-    let q = c.self.inside.queue.state in
-    let at = c.lane.inside.course.at in
+    let q = c.self.inside.parts.queue.state in
+    let at = c.lane.inside.parts.course.at in
     let one : length c.leave.new.hand.tasks ≡ 1 =
     came q at 1 (leave q at c.in-Some-Wake.task).0 c.args.hand.now c.leave.new.hand c.leave.ensures.hand c.requires.hand.0
     (one_leaves q at c.in-Some-Wake.task c.args.hand.now.to (search rules)) in
@@ -20,8 +20,8 @@ depart-requires-clause-lists g c =
 
 pub depart-requires-clause-few : goal.depart-requires-clause-few
 depart-requires-clause-few g c =
-    let q = c.self.inside.queue.state in
-    let at = c.lane.inside.course.at in
+    let q = c.self.inside.parts.queue.state in
+    let at = c.lane.inside.parts.course.at in
     let one : length c.leave.new.hand.tasks ≡ 1 =
     came q at 1 (leave q at c.in-Some-Wake.task).0 c.args.hand.now c.leave.new.hand c.leave.ensures.hand c.requires.hand.0
     (one_leaves q at c.in-Some-Wake.task c.args.hand.now.to (search rules)) in

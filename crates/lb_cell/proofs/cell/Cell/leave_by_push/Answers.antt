@@ -11,8 +11,8 @@ depart-requires-clause-left g c =
 
 pub depart-requires-clause-lists : goal.depart-requires-clause-lists
 depart-requires-clause-lists g c =
-    let q = c.self.inside.queue.state in
-    let at = c.lane.inside.course.at in
+    let q = c.self.inside.parts.queue.state in
+    let at = c.lane.inside.parts.course.at in
     let to = c.args.hand.now.to in
     let many : length c.take_push-pushed.new.hand.tasks ≡ (if c.take_push-pushed.result then 1 else 0) =
     came q at (if c.take_push-pushed.result then 1 else 0) (take_push q at to).0 c.args.hand.now c.take_push-pushed.new.hand
@@ -23,8 +23,8 @@ depart-requires-clause-lists g c =
 
 pub depart-requires-clause-few : goal.depart-requires-clause-few
 depart-requires-clause-few g c =
-    let q = c.self.inside.queue.state in
-    let at = c.lane.inside.course.at in
+    let q = c.self.inside.parts.queue.state in
+    let at = c.lane.inside.parts.course.at in
     let to = c.args.hand.now.to in
     few_pushed c.take_push-pushed.result (length c.take_push-pushed.new.hand.tasks)
     (came q at (if c.take_push-pushed.result then 1 else 0) (take_push q at to).0 c.args.hand.now c.take_push-pushed.new.hand

@@ -12,8 +12,8 @@ depart-requires-clause-left g c =
 
 pub depart-requires-clause-lists : goal.depart-requires-clause-lists
 depart-requires-clause-lists g c =
-    let q = c.self.inside.queue.state in
-    let at = c.lane.inside.course.at in
+    let q = c.self.inside.parts.queue.state in
+    let at = c.lane.inside.parts.course.at in
     let one : length c.take_stop.new.hand.tasks ≡ 1 =
     came q at 1 (take_stop q at c.args.stop.id).0 c.args.hand.now c.take_stop.new.hand c.take_stop.ensures.hand c.requires.hand.0
     (one_stops q at c.args.stop.id c.args.hand.now.to (search rules)) in
@@ -21,8 +21,8 @@ depart-requires-clause-lists g c =
 
 pub depart-requires-clause-few : goal.depart-requires-clause-few
 depart-requires-clause-few g c =
-    let q = c.self.inside.queue.state in
-    let at = c.lane.inside.course.at in
+    let q = c.self.inside.parts.queue.state in
+    let at = c.lane.inside.parts.course.at in
     let one : length c.take_stop.new.hand.tasks ≡ 1 =
     came q at 1 (take_stop q at c.args.stop.id).0 c.args.hand.now c.take_stop.new.hand c.take_stop.ensures.hand c.requires.hand.0
     (one_stops q at c.args.stop.id c.args.hand.now.to (search rules)) in

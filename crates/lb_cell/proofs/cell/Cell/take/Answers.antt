@@ -11,8 +11,8 @@ depart-requires-clause-left g c =
 
 pub depart-requires-clause-lists : goal.depart-requires-clause-lists
 depart-requires-clause-lists g c =
-    let q = c.self.inside.queue.state in
-    let at = c.lane.inside.course.at in
+    let q = c.self.inside.parts.queue.state in
+    let at = c.lane.inside.parts.course.at in
     let env = c.args.env.now in
     let many : length c.take-taken.new.hand.tasks ≡ length c.in_ok-picked.picked.ids.items =
     came q at (length c.in_ok-picked.picked.ids.items) (take_pull q at env).0 c.args.hand.now c.take-taken.new.hand
@@ -22,8 +22,8 @@ depart-requires-clause-lists g c =
 
 pub depart-requires-clause-few : goal.depart-requires-clause-few
 depart-requires-clause-few g c =
-    let q = c.self.inside.queue.state in
-    let at = c.lane.inside.course.at in
+    let q = c.self.inside.parts.queue.state in
+    let at = c.lane.inside.parts.course.at in
     let env = c.args.env.now in
     let f = (c.pulls_follow_picks.ensures q at env).few in
     few_pulled (length c.take-taken.new.hand.tasks) (length (take_pull q at env).0)

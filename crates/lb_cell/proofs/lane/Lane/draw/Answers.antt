@@ -1,15 +1,15 @@
 use Rattle.std.proofs.Common.{rules, ◌≡◌, ◌∙◌, sym, subst}
 use Rattle.lb_journal.specs.contracts.journal.Left.{the_row}
-use Rattle.lb_cell.specs.Cells.{LaneIs, IsInRange}
+use Rattle.lb_cell.specs.Cells.{LaneIs, IsInRange, lane_of}
 use Rattle.lb_cell.specs.Own.{OwnAsks, own_left}
 use Rattle.lb_cell.proofs.Owning.{own_course, may_follow}
 use Rattle.lb_cell.proofs.lane.Lane.draw.Goals as goal
 
 pub enter_own-requires-clause-course : goal.enter_own-requires-clause-course
 enter_own-requires-clause-course g c =
-    let i = c.self.inside in
+    let i = c.self.inside.parts in
     let h = g.N.Names.header in
-    let l : LaneIs = record { number = i.number; course = i.course; known = i.known; seat = i.seat; landing = i.landing } in
+    let l : LaneIs = lane_of i in
     let asks : OwnAsks c.args.what l.course c.args.command =
     subst (λ (x : LaneIs). OwnAsks c.args.what x.course c.args.command) (sym c.self.view_is) c.requires.asks in
     let before : l ≡ c.of-before.result = search rules in
@@ -21,9 +21,9 @@ enter_own-requires-clause-course g c =
 
 pub enter_own-requires-clause-next : goal.enter_own-requires-clause-next
 enter_own-requires-clause-next g c =
-    let i = c.self.inside in
+    let i = c.self.inside.parts in
     let n = g.N.Names in
-    let l : LaneIs = record { number = i.number; course = i.course; known = i.known; seat = i.seat; landing = i.landing } in
+    let l : LaneIs = lane_of i in
     let asks : OwnAsks c.args.what l.course c.args.command =
     subst (λ (x : LaneIs). OwnAsks c.args.what x.course c.args.command) (sym c.self.view_is) c.requires.asks in
     let range : IsInRange (own_left n.header l c.args.what c.args.masks c.args.figs) =

@@ -2,7 +2,7 @@ use Rattle.std.proofs.Common.{rules, ◌≡◌, ◌∙◌, ◌++◌, ◌∷◌, 
 use Rattle.lb_ticket.specs.Tickets.{pair}
 use Rattle.lb_journal.specs.Journal.{Fits, Journal}
 use Rattle.lb_journal.specs.contracts.journal.Left.{the_row}
-use Rattle.lb_cell.specs.Cells.{LaneIs}
+use Rattle.lb_cell.specs.Cells.{LaneIs, lane_of}
 use Rattle.lb_cell.specs.LastEntries.{Leaves}
 use Rattle.lb_cell.specs.Pubs.{DrewPub, pub_item}
 use Rattle.lb_cell.proofs.PubEntries.{pub_course, pub_item_is, pub_more}
@@ -10,9 +10,9 @@ use Rattle.lb_cell.proofs.lane.Lane.draw_pub.Goals as goal
 
 pub draw_noted-requires-clause-fits : goal.draw_noted-requires-clause-fits
 draw_noted-requires-clause-fits g c =
-    let i = c.self.inside in
+    let i = c.self.inside.parts in
     let n = g.N.Names in
-    let l : LaneIs = record { number = i.number; course = i.course; known = i.known; seat = i.seat; landing = i.landing } in
+    let l : LaneIs = lane_of i in
     let count = length c.args.seat.now.list in
     let is : c.new-item.result ≡ pub_item n.header l count c.args.version =
     pub_item_is n.header l count c.args.version c.new-item.result c.of.result.value c.of-quoted.result.value c.of-2.result.value
@@ -25,9 +25,9 @@ draw_noted-requires-clause-fits g c =
 
 pub invariant_of-self : goal.invariant_of-self
 invariant_of-self g c =
-    let i = c.self.inside in
+    let i = c.self.inside.parts in
     let n = g.N.Names in
-    let l : LaneIs = record { number = i.number; course = i.course; known = i.known; seat = i.seat; landing = i.landing } in
+    let l : LaneIs = lane_of i in
     let count = length c.args.seat.now.list in
     let is : c.new-item.result ≡ pub_item n.header l count c.args.version =
     pub_item_is n.header l count c.args.version c.new-item.result c.of.result.value c.of-quoted.result.value c.of-2.result.value
@@ -41,9 +41,9 @@ invariant_of-self g c =
 
 pub returns : goal.returns
 returns g c =
-    let i = c.self.inside in
+    let i = c.self.inside.parts in
     let n = g.N.Names in
-    let l : LaneIs = record { number = i.number; course = i.course; known = i.known; seat = i.seat; landing = i.landing } in
+    let l : LaneIs = lane_of i in
     let l' : LaneIs = record {
       number = i.number;
       course = c.published.new.course;

@@ -37,7 +37,7 @@ returns c =
     served_by v now c.self.inside.queues.items c.args.cpu lane
     (what.Did c.args.reply) q c.obey.new.queue c2 c.answered.new.course c.place.new.places.items
     c.self.view_is refl refl c.requires.cpu c.index_mut-queue.ensures.value c.requires.lane c.index_mut-course.ensures.value
-    (ap (λ p. p.1) c.obey.ensures.answer)
+    (ap (λ p. p.1) c.obey.ensures.step)
     (c.answered.ensures q.state c.obey.new.queue.state was (sym c.len.ensures))
     (c.place.ensures lane)
     c.obey.ensures.booked

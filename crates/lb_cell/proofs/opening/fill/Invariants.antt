@@ -1,8 +1,0 @@
-use Rattle.std.proofs.Common.{◌≡◌, length, take}
-use Rattle.lb_cell.proofs.opening.fill.Given as goal
-
-abbrev pub invariant-loop-i : goal.invariant-loop-i
-invariant-loop-i l = record {
-  room : length l.rows ≡ length l.counters;
-  so_far : take l.i l.rows ≡ take l.i l.counters;
-}
