@@ -1,5 +1,6 @@
 -- What a lane and the publisher behind its lock keep before any entry.
 use Rattle.std.proofs.Common.{ℕ, ◌≡◌, ◌+◌, ◌<◌, ◌≤◌, false, List, [], ◌∷◌, Some, length, map, get_or, replicate, slice_get, take, refl, sym, subst, ap, ◌∙◌, arith, inl, All}
+use Rattle.std.proofs.lemmas.List.{get_or-replicate}
 use Rattle.std.proofs.lemmas.List.Elements.{All-nil}
 use Rattle.std.proofs.lemmas.Option.{slice_get_within}
 use base.Stored.{Coded}
@@ -38,8 +39,8 @@ few_none : AreFew []
 few_none = record { domains = omega arith; groups = λ p lt. absurd (omega (arith, lt)) }
 
 -- no CPU's figure was named
-none_named : (n cpu : ℕ) → get_or (replicate n 0) cpu 0 ≡ 0
-none_named n cpu = grind arith
+none_named : (n cpu : ℕ) → cpu < n → named_at (opening_course n) cpu ≡ 0
+none_named n cpu lt = get_or-replicate n cpu 0 0 lt
 
 -- it vouches for the header's version
 vouches_one : (h : Header) (code : Coded Journal) (read : List Held) (next : ℕ) (topologies : List DomainsWithin)
@@ -86,7 +87,7 @@ new_lane h board versions code side looker rows machine cells course list seen b
       goes_on = subst (All GoesOn) (sym list) (All-nil GoesOn);
       numbers = λ cpu lt.
           let none : named_at side.course cpu ≡ 0 =
-          ap (λ (c : Course). named_at c cpu) course ∙ none_named (length h.cpus) cpu in
+          ap (λ (c : Course). named_at c cpu) course ∙ none_named (length h.cpus) cpu lt in
           let some = seen cpu lt in
           omega (arith, none, some);
     }
