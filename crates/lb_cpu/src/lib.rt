@@ -5,6 +5,11 @@
 //! queue beyond that it tests while it holds the lock, and looks again where the test fails.
 #![tactic(auto)]
 
+mod booking;
+mod command;
 mod cpus;
+mod landing;
+mod locks;
+mod waking;
 
 pub use cpus::Cpus;
