@@ -37,7 +37,8 @@ impl<N: Names> Cell<N> {
     {
         let before = Before::of(self, lane);
         let was = self.parts.queue.len();
-        let reply = obey(&mut self.parts.queue, lane.parts.course.at, &lane.parts.course.command);
+        let at = lane.parts.course.at;
+        let reply = obey(&mut self.parts.queue, at, &lane.parts.course.command);
         let awake = self.parts.queue.len();
         // fewer are awake now: the task was
         let was_awake = awake < was;

@@ -50,8 +50,9 @@ impl<N: Names> Cell<N> {
         let turn = Turn::with(shared.header, domains, &lane.parts.course);
         let shape = turn.shape();
         let outcome = turn.outcome();
-        let left = counters_left(&self.parts.queue, lane.parts.course.at, &shape, outcome, imb);
-        self.parts.queue.close_look(lane.parts.course.at, &shape, outcome, imb);
+        let at = lane.parts.course.at;
+        let left = counters_left(&self.parts.queue, at, &shape, outcome, imb);
+        self.parts.queue.close_look(at, &shape, outcome, imb);
         close(&mut lane.parts.course, word_of(outcome));
         enter(
             rt,

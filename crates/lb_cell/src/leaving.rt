@@ -61,14 +61,7 @@ pub(crate) fn depart<N: Names, R: Wait>(
         out,
         landing,
     } = lists;
-    taken_off(
-        &mut lane.course,
-        why,
-        to,
-        hand.moment(),
-        records,
-        taken,
-    );
+    taken_off(&mut lane.course, why, to, hand.moment(), records, taken);
     lane.landing = landing;
     let what = What::Out {
         cause: why,

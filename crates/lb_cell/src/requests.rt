@@ -35,7 +35,8 @@ impl<N: Names> Cell<N> {
         ensures booked { Keeps self.old self.new }
     {
         let before = Before::of(self, lane);
-        let reply = self.parts.queue.ask_active(lane.parts.course.at, lane.parts.course.cpu);
+        let course = &lane.parts.course;
+        let reply = self.parts.queue.ask_active(course.at, course.cpu);
         go_on(&mut lane.parts.course);
         enter(
             rt,

@@ -70,7 +70,8 @@ impl<N: Names + Versions> PublisherCell<N> {
         ensures later { lane.old.side.seat.next ≤ lane.new.side.seat.next }
         ensures read { lane.new.side.seat.read
             ≡ lane.old.side.seat.read ++ map (held_of ⟦<Journal as Coding>⟧.coding) self.old.seat.list }
-        ensures rest { (lane.new.rows ≡ lane.old.rows) × (lane.new.turned ≡ lane.old.turned) × (lane.new.domains ≡ lane.old.domains) }
+        ensures rest { (lane.new.rows ≡ lane.old.rows) × (lane.new.turned ≡ lane.old.turned)
+            × (lane.new.domains ≡ lane.old.domains) }
     {
         // what the lane saw and read stays
         saw_stays();
