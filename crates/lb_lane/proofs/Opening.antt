@@ -10,12 +10,12 @@ use Rattle.lb_levels.specs.Faults.{CanBeRead}
 use Rattle.lb_domain.specs.Domains.{domains_of}
 use Rattle.lb_domain.specs.Topologies.{AreFew, DomainsWithin, domains_within}
 use Rattle.lb_topub.specs.Versions.{VersionsSeen}
+use Rattle.lb_trace.specs.Accepted.{is_command}
 use Rattle.lb_trace.specs.declared.trace.Header.{Header}
 use Rattle.lb_trace.specs.declared.trace.Row.{Row as TraceRow}
 use Rattle.lb_core.specs.declared.course.Course.{Course}
 use Rattle.lb_core.specs.Course.{named_at, opening_course}
 use Rattle.lb_core.specs.OfTrace.{rows_drawn}
-use Rattle.lb_core.specs.Rules.{is_undeclared}
 use Rattle.lb_ticket.specs.declared.item.Drawn.{Drawn}
 use Rattle.lb_ticket.specs.declared.view.Held.{Held}
 use Rattle.lb_ticket.specs.Seats.{SeatIs}
@@ -58,7 +58,7 @@ pub new_lane : (h : Header) (board : List TableId) (versions : Book) (code : Cod
     → side.course ≡ opening_course (length h.cpus) → side.seat.list ≡ []
     → ((cpu : ℕ) → cpu < length h.cpus → 0 < length (seen_at side.known.reader cpu)) → looker.book ≡ versions
     → slice_get looker.topologies 0 ≡ Some (domains_within h.cpus h.distances h.parts) → All (λ r. r.lane ≡ side.number) rows
-    → All (λ r. is_undeclared h r.command ≡ false) rows → length rows ≤ 100000
+    → All (λ r. is_command h r.command ≡ true) rows → length rows ≤ 100000
     → LaneKeeps h board versions code
     (record { side = side; looker = looker; rows = rows; vouched = 1; turned = 0; domains = [] })
 new_lane h board versions code side looker rows machine cells course list seen book first owned declared short =

@@ -1,0 +1,4 @@
+mod There
+mod Differing
+mod Flying
+mod Taking

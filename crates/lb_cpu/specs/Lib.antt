@@ -1,0 +1,4 @@
+pub mod Cpus
+pub mod Drawn
+pub mod Hands
+pub mod Commands
