@@ -8,7 +8,6 @@ ghost use Rattle.lb_cell.specs.Commands.{CanAnswer};
 
 use crate::before::Before;
 use crate::cell::Cell;
-use crate::enter::enter;
 use crate::lane::Lane;
 use crate::names::Names;
 use crate::shared::Shared;
@@ -49,15 +48,8 @@ impl<N: Names> Cell<N> {
             was_awake,
             awake,
         );
-        enter(
-            rt,
-            alloc,
-            shared,
-            before,
-            &mut self.parts,
-            &mut lane.parts,
-            What::Did { reply },
-        );
+        let what = What::Did { reply };
+        before.enter(rt, alloc, shared, &mut self.parts, &mut lane.parts, what);
         reply
     }
 }
