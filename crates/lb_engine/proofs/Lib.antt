@@ -1,7 +1,6 @@
 pub mod Queues
 pub mod Serving
 pub mod Publishing
-pub mod Opening
 pub mod Leaving
 pub mod Settling
 pub mod Fitting

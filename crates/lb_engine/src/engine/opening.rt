@@ -1,15 +1,13 @@
 //! The engine before any entry.
-ghost use Rattle.std.specs.Prelude.{◌≡◌, ◌<◌, ◌≤◌, ◌++◌, map, replicate, length, None, IfOk, OnOk, ◌∷◌, []};
-ghost use Rattle.std.specs.List.{range_with_len};
-ghost use Rattle.lb_queue.specs.Queue.{BookedQueue};
+ghost use Rattle.std.specs.Prelude.{◌≡◌, ◌++◌, map, replicate, length, None, IfOk, OnOk, ◌∷◌, []};
 ghost use Rattle.lb_queue.specs.Figures.{figure};
 ghost use Rattle.lb_trace.specs.Accepted.{IsHeader};
 ghost use Rattle.lb_levels.specs.Rows.{layout_of};
 ghost use Rattle.lb_domain.specs.Topologies.{domains_within};
 ghost use Rattle.lb_core.specs.Course.{opening_course};
-ghost use Rattle.lb_core.specs.Machine.{opening_queue};
 
 use super::Engine;
+use lb_act::opening_queues;
 use lb_base::{Buffer, Fig, Items, NoMemory};
 use lb_core::{Course, Place};
 use lb_course::opening_course;
@@ -42,35 +40,6 @@ fn opening_version(
     let mut versions = Items::new(alloc);
     versions.push(Topology::of(alloc, layout, header.parts.as_slice())?)?;
     Ok(versions)
-}
-
-// The queue of a CPU before any entry: the tasks that are at home there sleep.
-fn opening_queue(alloc: Global, header: &Header, cpu: u32) -> Result<Queue, NoMemory>
-    requires cpu { cpu < length header.now.cpus }
-    requires header { IsHeader header.now }
-    ensures { IfOk result (λ q. q ≡ record { state = opening_queue header.now cpu; booked = 0 }) }
-{
-    let mut queue = Queue::new(alloc, cpu, header.cpus.len() as u32)?;
-    for (id, task) in header.tasks.as_slice().iter().enumerate() {
-        if task.home == cpu {
-            queue.declare(id as u32, task.nice, task.mask)?;
-        }
-    }
-    Ok(queue)
-}
-
-// The queues before any entry.
-fn opening_queues(alloc: Global, header: &Header) -> Result<Vec<Queue>, NoMemory>
-    requires { IsHeader header.now }
-    ensures { IfOk result (λ list. list.items
-        ≡ map (λ cpu. record { state = opening_queue header.now cpu; booked = 0 }) (range_with_len 0 (length header.now.cpus))) }
-{
-    let mut queues = Vec::new(alloc);
-    for cpu in 0..header.cpus.len() as u32 {
-        let queue = opening_queue(alloc, header, cpu)?;
-        add(&mut queues, queue)?;
-    }
-    Ok(queues)
 }
 
 // The figure of a queue before any entry, alone.

@@ -7,9 +7,9 @@ use Rattle.lb_base.specs.Sets.{is_below}
 use Rattle.lb_queue.specs.Queue.{BookedQueue, new_task, declared, knows}
 use Rattle.lb_trace.specs.declared.trace.TaskRow.{TaskRow}
 use Rattle.lb_core.specs.Machine.{opening_queue}
-use Rattle.lb_engine.proofs.Opening.{sleeping, unknown, sleeps_here, sleeps_elsewhere, IsTaskRow, task_row}
-use Rattle.lb_engine.proofs.engine.opening.opening_queue.Goals as goal
-use Rattle.lb_engine.proofs.engine.opening.opening_queue.Goals.{then-task-cpu+in_ok-declare, else-task-cpu}
+use Rattle.lb_act.proofs.Declaring.{sleeping, unknown, sleeps_here, sleeps_elsewhere, IsTaskRow, task_row}
+use Rattle.lb_act.proofs.opening.opening_queue.Goals as goal
+use Rattle.lb_act.proofs.opening.opening_queue.Goals.{then-task-cpu+in_ok-declare, else-task-cpu}
 
 -- stands past the tasks
 abbrev no_task : TaskRow
