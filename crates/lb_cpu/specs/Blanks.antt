@@ -50,8 +50,8 @@ pub record FitCpus (h : Header) (book : TableId) (board : List TableId) (k : ℕ
   pub queues_are : EachFrom (IsQueue h) k queues
   pub seats_are : EachFrom (IsSeat book 17) k seats
   pub writers_are : EachFrom (IsWriter h board) k writers
-  pub seats : length seats ≡ length queues
-  pub writers : length writers ≡ length queues
+  pub seats_count : length seats ≡ length queues
+  pub writers_count : length writers ≡ length queues
 
 -- ---- of a lane
 -- its rows, which name what is declared
@@ -77,9 +77,9 @@ pub record FitLanes (h : Header) (book : TableId) (board : List TableId) (versio
   pub seats_are : EachFrom (IsSeat book 1) k seats
   pub readers_are : EachFrom (λ lane r. IsReader h board r) k readers
   pub lookers_are : EachFrom (λ lane l. IsLooker h versions l) k lookers
-  pub seats : length seats ≡ length rows
-  pub readers : length readers ≡ length rows
-  pub lookers : length lookers ≡ length rows
+  pub seats_count : length seats ≡ length rows
+  pub readers_count : length readers ≡ length rows
+  pub lookers_count : length lookers ≡ length rows
 
 -- ---- of the machine
 -- the machine of a header, and a publisher of version 1 alone, with its seat
@@ -88,7 +88,7 @@ pub record FitShared (h : Header) (m : Layout) (book : BookIs) (board : List Tab
   pub header : IsHeader h
   pub machine : m ≡ layout_of h.cpus h.distances
   pub owners : book.owners ≡ 17 + length h.cpus
-  pub board : length board ≡ length h.cpus
+  pub cells : length board ≡ length h.cpus
   pub published : p.topologies ≡ domains_within h.cpus h.distances h.parts ∷ []
   pub seat : IsSeat book.table 0 0 s
 

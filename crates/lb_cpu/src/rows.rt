@@ -37,7 +37,8 @@ pub(crate) fn rows_of_lanes(alloc: Global, rows: &[Row], lanes: u32) -> Result<V
 {
     let mut lists = Vec::with_capacity(alloc, lanes as usize)?;
     for lane in 0..lanes {
-        lists.push_reserved(rows_of(alloc, rows, lane)?);
+        let list = rows_of(alloc, rows, lane)?;
+        lists.push_reserved(list);
     }
     Ok(lists)
 }

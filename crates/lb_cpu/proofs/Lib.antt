@@ -1,0 +1,3 @@
+mod Numbering
+mod Cutting
+mod Opening
