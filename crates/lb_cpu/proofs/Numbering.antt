@@ -1,5 +1,5 @@
 -- What holds of each item with its number, as lists are cut, joined and taken from.
-use Rattle.std.proofs.Common.{ℕ, ◌≡◌, ◌+◌, ◌<◌, zero, suc, List, [], ◌∷◌, ◌++◌, length, get_or, refl, sym, ap, subst, ◌∙◌, arith}
+use Rattle.std.proofs.Common.{ℕ, ◌≡◌, ◌+◌, List, [], ◌∷◌, ◌++◌, length, subst, arith}
 use Rattle.lb_cpu.specs.Numbering.{EachFrom}
 
 module _ {A : Type 0} where

@@ -1,25 +1,22 @@
 -- What the cells and the lanes of an accepted trace are made of fits.
-use Rattle.std.proofs.Common.{ℕ, ◌≡◌, ◌==◌, eqb, ◌+◌, ◌≤◌, ◌<◌, zero, suc, Bool, true, false, cond, ◌&&◌, Some, List, [], ◌∷◌, ◌++◌, map, filter, replicate, length, slice_get, slice_index_or, All, refl, sym, ap, subst, ◌∙◌, arith}
+use Rattle.std.proofs.Common.{ℕ, ◌≡◌, ◌==◌, ◌+◌, ◌≤◌, ◌<◌, zero, suc, Bool, true, false, cond, Some, List, [], ◌∷◌, ◌++◌, map, replicate, length, slice_get, slice_index_or, refl, sym, ap, subst, ◌∙◌, arith}
 use Rattle.std.specs.List.{range_with_len, list_all}
 use Rattle.std.proofs.lemmas.Bool.{and_parts, eqb-true}
 use Rattle.std.proofs.lemmas.List.{length-append, length-map, length-replicate, append_assoc}
 use Rattle.std.proofs.lemmas.List.Elements.{All-weaker, filter_passes}
 use Rattle.std.proofs.lemmas.List.FromFn.{length-range_with_len}
 use Rattle.atomic_table.specs.Seated.{TableId}
-use Rattle.lb_base.specs.declared.figure.Fig.{Fig}
 use Rattle.lb_domain.specs.Topologies.{DomainsWithin, domains_within}
 use Rattle.lb_trace.specs.declared.trace.Header.{Header}
 use Rattle.lb_trace.specs.declared.trace.Row.{Row}
 use Rattle.lb_trace.specs.declared.trace.Trace.{Trace}
-use Rattle.lb_trace.specs.declared.trace.TheConstants.{MAX_ROWS}
 use Rattle.lb_trace.specs.Accepted.{IsTrace, is_row}
 use Rattle.lb_queue.specs.Queue.{BookedQueue}
 use Rattle.lb_core.specs.Machine.{opening_queue}
 use Rattle.lb_ticket.specs.Seats.{SeatIs}
 use Rattle.lb_journal.specs.Journal.{Journal}
-use Rattle.logbook.specs.Pages.{Book}
 use Rattle.lb_core.specs.OfTrace.{of_lane}
-use Rattle.lb_board.specs.Board.{Sight, WriterIs, first_writers, opening, seen_at, sight_of_all}
+use Rattle.lb_board.specs.Board.{Sight, WriterIs, first_writers, sight_of_all}
 use Rattle.lb_topub.specs.Versions.{VersionsSeen}
 use Rattle.lb_cpu.specs.Numbering.{EachFrom}
 use Rattle.lb_cpu.specs.Blanks.{IsQueue, IsSeat, IsWriter, IsRows, IsReader, IsLooker, FitCpus, FitLanes}

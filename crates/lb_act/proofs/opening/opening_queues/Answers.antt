@@ -10,9 +10,9 @@ loop-cpu-preserved c =
     let f : ℕ → BookedQueue = λ cpu. record { state = opening_queue c.args.header.now cpu; booked = 0 } in
     let i = c.loop-cpu.cpu in (
       c.push_reserved.ensures.items
-      ∙ ap (λ (l : List BookedQueue). l ++ c.in_ok-queue.queue ∷ []) c.loop-cpu.invariant.0
-      ∙ ap (λ (q : BookedQueue). map f (range_with_len 0 i) ++ q ∷ []) c.in_ok-queue.ensures
-      ∙ sym (map-range_with_len_more f 0 i i (omega arith)),
+          ∙ ap (λ (l : List BookedQueue). l ++ c.in_ok-queue.queue ∷ []) c.loop-cpu.invariant.0
+          ∙ ap (λ (q : BookedQueue). map f (range_with_len 0 i) ++ q ∷ []) c.in_ok-queue.ensures
+          ∙ sym (map-range_with_len_more f 0 i i (omega arith)),
       search rules,
       search rules,
     )

@@ -10,9 +10,9 @@ loop-lane-preserved c =
     let f : ℕ → List Row = λ lane. of_lane lane c.args.rows.now in
     let i = c.loop-lane.lane in (
       c.push_reserved.ensures.items
-      ∙ ap (λ (l : List (List Row)). l ++ c.in_ok-list.list ∷ []) c.loop-lane.invariant.0
-      ∙ ap (λ (x : List Row). map f (range_with_len 0 i) ++ x ∷ []) c.in_ok-list.ensures
-      ∙ sym (map-range_with_len_more f 0 i i (omega arith)),
+          ∙ ap (λ (l : List (List Row)). l ++ c.in_ok-list.list ∷ []) c.loop-lane.invariant.0
+          ∙ ap (λ (x : List Row). map f (range_with_len 0 i) ++ x ∷ []) c.in_ok-list.ensures
+          ∙ sym (map-range_with_len_more f 0 i i (omega arith)),
       search rules,
       search rules,
     )

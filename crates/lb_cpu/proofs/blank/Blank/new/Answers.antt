@@ -1,4 +1,4 @@
-use Rattle.std.proofs.Common.{ℕ, ◌≡◌, ◌+◌, List, ◌∷◌, [], length, map, ap, sym, subst, ◌∙◌, arith}
+use Rattle.std.proofs.Common.{◌≡◌, ◌+◌, List, ◌∷◌, [], length, map, ap, sym, subst, ◌∙◌, arith}
 use Rattle.std.specs.List.{range_with_len}
 use Rattle.lb_base.specs.declared.mask.Mask.{Mask}
 use Rattle.lb_levels.specs.Rows.{Layout}
@@ -24,19 +24,19 @@ invariant_of-result g c =
     let count : length seats.queues.items ≡ length h.cpus =
     (let q = c.in_ok-seats.ensures.queues in let b = c.in_ok-book.ensures.seats in let l = c.len-cpus.ensures in omega arith) in
     let cut = cut_up c.in_ok-book.book.table h.lanes c.in_ok-book.seats.items seats.publisher seats.lanes.items
-        seats.unused.items seats.queues.items c.in_ok-book.ensures.seats.2 c.in_ok-book.ensures.empty c.in_ok-seats.ensures.all
-        c.in_ok-seats.ensures.lanes c.in_ok-seats.ensures.unused in
+    seats.unused.items seats.queues.items c.in_ok-book.ensures.seats.2 c.in_ok-book.ensures.empty c.in_ok-seats.ensures.all
+    c.in_ok-seats.ensures.lanes c.in_ok-seats.ensures.unused in
     let rows = c.in_ok-rows.ensures
-        ∙ ap (λ (l : List Row). map (λ lane. of_lane lane l) (range_with_len 0 h.lanes)) c.as_slice.ensures in
+    ∙ ap (λ (l : List Row). map (λ lane. of_lane lane l) (range_with_len 0 h.lanes)) c.as_slice.ensures in
     let published = c.in_ok-publisher.ensures.first ∙ ap (λ (t : DomainsWithin). t ∷ []) c.in_ok-first.ensures.value
-        ∙ ap (λ (m : Layout). domains_within m.cpus m.distances c.as_slice-2.result.now ∷ []) c.in_ok-machine.ensures
-        ∙ ap (λ (ps : List Mask). domains_within h.cpus h.distances ps ∷ []) c.as_slice-2.ensures in
+    ∙ ap (λ (m : Layout). domains_within m.cpus m.distances c.as_slice-2.result.now ∷ []) c.in_ok-machine.ensures
+    ∙ ap (λ (ps : List Mask). domains_within h.cpus h.distances ps ∷ []) c.as_slice-2.ensures in
     let cpus = cpus_fit h c.in_ok-book.book.table board c.in_ok-queues.queues.items seats.queues.items
-        c.in_ok-board.writers.items cells c.in_ok-queues.ensures cut.queues count c.in_ok-board.ensures.writers in
+    c.in_ok-board.writers.items cells c.in_ok-queues.ensures cut.queues count c.in_ok-board.ensures.writers in
     let lanes = lanes_fit c.args.trace.now h c.in_ok-book.book.table board c.in_ok-publisher.publisher c.in_ok-rows.rows.items
-        seats.lanes.items c.in_ok-board.writers.items c.in_ok-board.readers.items c.in_ok-publisher.lookers.items c.requires same
-        cells rows cut.of_lanes c.in_ok-seats.ensures.lanes c.in_ok-board.ensures.writers
-        c.in_ok-board.ensures.readers c.in_ok-publisher.ensures.lookers published in (
+    seats.lanes.items c.in_ok-board.writers.items c.in_ok-board.readers.items c.in_ok-publisher.lookers.items c.requires same
+    cells rows cut.of_lanes c.in_ok-seats.ensures.lanes c.in_ok-board.ensures.writers
+    c.in_ok-board.ensures.readers c.in_ok-publisher.ensures.lookers published in (
       record {
         header = accepted;
         machine = c.in_ok-machine.ensures;
