@@ -48,6 +48,6 @@ impl<N: Names> Cell<N> {
         ensures { CellKeeps N.header N.book N.board self.now }
     {
         // reads a field of it, so that what it keeps is known
-        let _room = self.room;
+        let _room = self.parts.room;
     }
 }

@@ -18,11 +18,15 @@ use Rattle.lb_queue.specs.declared.answers.AskReply.{AskReply}
 use Rattle.lb_queue.specs.declared.answers.AskReply.TheVariants.{New, Old}
 use Rattle.lb_queue.specs.declared.answers.OutCause.{OutCause}
 use Rattle.lb_queue.specs.declared.answers.OutCause.TheVariants as causes
+use Rattle.lb_queue.specs.declared.answers.TurnReply.{TurnReply}
+use Rattle.lb_queue.specs.declared.answers.TurnReply.TheVariants.{Opened, TurnOpen}
 use Rattle.lb_queue.specs.Queue.{QueueState}
 use Rattle.lb_trace.specs.declared.trace.Command.{Command}
 use Rattle.lb_trace.specs.declared.trace.Command.TheVariants as commands
 use Rattle.lb_trace.specs.declared.trace.Header.{Header}
 use Rattle.lb_core.specs.declared.course.Course.{Course}
+use Rattle.lb_core.specs.declared.course.Form.{Form}
+use Rattle.lb_core.specs.declared.course.Form.TheVariants as forms
 use Rattle.lb_core.specs.declared.entry.OutcomeWord.{OutcomeWord}
 use Rattle.lb_core.specs.declared.entry.OutcomeWord.TheVariants as words
 use Rattle.lb_core.specs.declared.entry.What.{What}
@@ -43,6 +47,7 @@ use Rattle.lb_seen.proofs.Beginnings.{prefix_length}
 use Rattle.lb_cell.specs.Kinds.{is_of_queue}
 use Rattle.lb_cell.specs.Cells.{CellIs, CellKeeps, LaneIs as SideIs}
 use Rattle.lb_cell.specs.Draws.{Drew, course_left, sight_at, entry_at}
+use Rattle.lb_cell.specs.Turns.{IsPositionDone, turn_what}
 use Rattle.lb_cell.specs.Reads.{LookSeesMore, SawAll, SawStays, SeesMore}
 use Rattle.lb_lane.specs.Lanes.{LaneIs, LaneKeeps, is_due}
 use Rattle.lb_lane.specs.Vouched.{Vouches}
@@ -133,6 +138,27 @@ stays (whats.Scan fs t) e s cpu now = absurd (cc e)
 stays (whats.End u) e s cpu now = absurd (cc e)
 stays (whats.Pub v) e s cpu now = absurd (cc e)
 
+-- ---- no turn is due where a position is done; and the answer to a `use` is one of a queue
+pub done_not_due : (form : Form) (h : Header) (c : Course) → IsPositionDone form h c → is_due form ≡ false
+done_not_due forms.Rest h c e = refl
+done_not_due forms.Asked h c e = refl
+done_not_due forms.Flight h c e = refl
+done_not_due forms.Serving h c e = refl
+done_not_due forms.Due h c e = absurd e
+done_not_due forms.Used h c e = refl
+done_not_due forms.Position h c e = refl
+done_not_due forms.Looked h c e = refl
+done_not_due forms.Landed h c e = refl
+done_not_due forms.Closed h c e = refl
+done_not_due forms.Done h c e = refl
+done_not_due forms.ScanDue h c e = refl
+done_not_due forms.Kicking h c e = refl
+done_not_due forms.Ended h c e = refl
+
+pub turn_is_of_queue : (r : TurnReply) → is_of_queue (turn_what r) ≡ true
+turn_is_of_queue (Opened positions) = refl
+turn_is_of_queue TurnOpen = refl
+
 -- ---- what an entry of a queue leaves: the course counts it as the lane's greatest number there
 abbrev Leaves : Course → ℕ → ℕ → Course → Type 0
 Leaves c cpu n d =
@@ -216,11 +242,11 @@ module _ (h : Header) (book : TableId) (board : List TableId) (versions : Book) 
       }
 
   -- or it was refused, and nothing was drawn
-  pub at_queue_if : {A E X : Type 0} (r : Result A E) (l : LaneIs) (side : SideIs) (c c' : CellIs) (w : What) → LookSeesMore → SawStays
+  pub at_queue_if : {A E : Type 0} (X : Type 0) (r : Result A E) (l : LaneIs) (side : SideIs) (c c' : CellIs) (w : What) → LookSeesMore → SawStays
       → LaneKeeps h board versions code l → length l.side.course.named ≡ length h.cpus → CellKeeps h book board c
       → is_of_queue w ≡ true → is_due l.side.course.form ≡ false → OnOk r (Drew h c c' l.side side w) → OnErr r ((c' ≡ c) × (side ≡ l.side) × X)
       → LaneKeeps h board versions code (record l { side = side })
-  at_queue_if (Ok x) l side c c' w looks stay k long keeps kind due drew same =
+  at_queue_if X (Ok x) l side c c' w looks stay k long keeps kind due drew same =
       at_queue l side c c' w looks stay k long keeps kind due drew
-  at_queue_if (Err x) l side c c' w looks stay k long keeps kind due drew same =
+  at_queue_if X (Err x) l side c c' w looks stay k long keeps kind due drew same =
       subst (λ (s : SideIs). LaneKeeps h board versions code (record l { side = s })) (sym same.1) k

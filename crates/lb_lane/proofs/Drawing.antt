@@ -6,6 +6,7 @@ use base.Stored.{Coded}
 use Rattle.atomic_table.specs.Seated.{TableId}
 use Rattle.logbook.specs.Pages.{Book}
 use Rattle.lb_base.specs.declared.mask.Mask.{Mask}
+use Rattle.lb_trace.specs.Accepted.{is_command}
 use Rattle.lb_trace.specs.declared.trace.Header.{Header}
 use Rattle.lb_trace.specs.declared.trace.Row.{Row as TraceRow}
 use Rattle.lb_core.specs.declared.course.Course.{Course}
@@ -16,7 +17,7 @@ use Rattle.lb_core.specs.declared.entry.What.{What}
 use Rattle.lb_core.specs.declared.entry.What.TheVariants as whats
 use Rattle.lb_core.specs.declared.rule.Rule.{Rule}
 use Rattle.lb_core.specs.Course.{opening_course, named_at}
-use Rattle.lb_core.specs.Rules.{breaks_here, is_undeclared}
+use Rattle.lb_core.specs.Rules.{breaks_here}
 use Rattle.lb_core.specs.OfTrace.{row_of, rows_drawn}
 use Rattle.lb_ticket.specs.declared.item.Drawn.{Drawn}
 use Rattle.lb_ticket.specs.declared.view.Held.{Held}
@@ -208,7 +209,7 @@ kept h board versions code l l' w masks figs ticket stays k drew adds =
       version = subst (λ (v : VersionsSeen). l'.side.course.named_version ≤ length v.topologies) (sym adds.looker) adds.version;
       domains = adds.domains;
       owned = subst (λ (t : Type 0). t) (λ i. All (λ r. r.lane ≡ sym drew.number i) (trace i)) k.owned;
-      declared = subst (All (λ r. is_undeclared h r.command ≡ false)) trace k.declared;
+      declared = subst (All (λ r. is_command h r.command ≡ true)) trace k.declared;
       short = subst (λ (rs : List TraceRow). length rs ≤ 100000) trace k.short;
       within = subst (λ (rs : List TraceRow). l'.side.course.rows ≤ length rs) trace adds.within;
       rows =

@@ -13,4 +13,4 @@ mod Reading
 mod Versioning
 mod AtQueues
 mod Turning
-mod Making
+mod Opening

@@ -1,5 +1,7 @@
 -- The next row of a lane breaks no rule, and is its next in the list.
-use Rattle.std.proofs.Common.{ℕ, ◌≡◌, ◌+◌, ◌<◌, ◌≤◌, true, false, not, List, [], ◌∷◌, ◌++◌, Option, Some, length, get_or, slice_get, take, unwrap_or, refl, sym, subst, ap, ◌∙◌, arith, All}
+use Rattle.std.proofs.Common.{ltb, is_none, None, ℕ, ◌≡◌, ◌+◌, ◌<◌, ◌≤◌, true, false, not, List, [], ◌∷◌, ◌++◌, Option, Some, length, get_or, slice_get, take, unwrap_or, refl, sym, subst, ap, ◌∙◌, arith, All}
+use Rattle.std.specs.Prelude.{◌↔◌}
+use Rattle.std.proofs.lemmas.Bool.{and_parts}
 use Rattle.std.proofs.lemmas.List.{take_more}
 use Rattle.std.proofs.lemmas.List.Elements.{All-nil}
 use Rattle.std.proofs.lemmas.Option.{slice_get-get_or}
@@ -9,7 +11,10 @@ use Rattle.logbook.specs.Pages.{Book}
 use Rattle.atomic_table.specs.Seated.{TableId}
 use Rattle.lb_base.specs.declared.mask.Mask.{Mask}
 use Rattle.lb_domain.specs.Domains.{domains_of}
+use Rattle.lb_levels.specs.Faults.{ArePartition, parts_fault_of}
+use Rattle.lb_trace.specs.Accepted.{is_command}
 use Rattle.lb_trace.specs.declared.trace.Command.{Command}
+use Rattle.lb_trace.specs.declared.trace.Command.TheVariants.{Wake, Sleep, Exit, SetMask, Nice, Tick, Rebuild}
 use Rattle.lb_trace.specs.declared.trace.Header.{Header}
 use Rattle.lb_trace.specs.declared.trace.Row.{Row as TraceRow}
 use Rattle.lb_core.specs.declared.course.Form.{Form}
@@ -35,6 +40,23 @@ use Rattle.lb_cell.specs.Own.{sight_own, entry_own, own_left}
 use Rattle.lb_lane.specs.Lanes.{LaneIs, LaneKeeps, is_due}
 use Rattle.lb_lane.specs.Own.{Drew}
 use Rattle.lb_lane.proofs.Drawing.{AddsTo}
+
+-- what an accepted command names is declared, by the law of a partition's faults
+pub is_declared : ((cpus : ℕ) (parts : List Mask) → (parts_fault_of cpus parts ≡ None) ↔ ArePartition cpus parts) → (h : Header)
+    (command : Command) → is_command h command ≡ true → is_undeclared h command ≡ false
+is_declared law h (Wake t) c = rw c refl
+is_declared law h (Sleep t) c = rw c refl
+is_declared law h (Exit t) c = rw c refl
+is_declared law h (SetMask t mask) c = rw ((and_parts (ltb t (length h.tasks)) _ c).0) refl
+is_declared law h (Nice t nice) c = rw ((and_parts (ltb t (length h.tasks)) _ c).0) refl
+is_declared law h (Tick cpu) c = rw c refl
+is_declared law h (Rebuild parts) c =
+    let p = (law (length h.cpus) parts).0 (none_is (parts_fault_of (length h.cpus) parts) ((and_parts _ _ c).1)) in
+    rw (p.below, p.apart) refl
+  where
+    none_is : {A : Type 0} (o : Option A) → is_none o ≡ true → o ≡ None
+    none_is None e = refl
+    none_is (Some x) e = absurd (let y : ⊥ = cc in y)
 
 pub allowed : (h : Header) (l : SideIs) (at : ℕ) (command : Command) → l.course.form ≡ forms.Rest
     → is_undeclared h command ≡ false → (rule : Rule)

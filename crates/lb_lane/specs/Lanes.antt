@@ -12,10 +12,10 @@ use Rattle.lb_topub.specs.Versions.{VersionsSeen}
 use Rattle.lb_trace.specs.declared.trace.Header.{Header}
 use Rattle.lb_trace.specs.declared.trace.Row.{Row}
 use Rattle.lb_trace.specs.declared.trace.TheConstants.{MAX_ROWS}
+use Rattle.lb_trace.specs.Accepted.{is_command}
 use Rattle.lb_core.specs.Course.{named_at}
 use Rattle.lb_core.specs.declared.course.Form.{Form}
 use Rattle.lb_core.specs.declared.course.Form.TheVariants.{Due}
-use Rattle.lb_core.specs.Rules.{is_undeclared}
 use Rattle.lb_core.specs.OfTrace.{rows_drawn}
 use Rattle.lb_journal.specs.Journal.{Journal}
 use Rattle.lb_journal.specs.Merge.{is_end}
@@ -56,7 +56,7 @@ pub record LaneKeeps (h : Header) (board : List TableId) (versions : Book) (code
   pub few : AreFew l.domains
   -- ---- its rows, of which those of its list are the first
   pub owned : All (λ r. r.lane ≡ l.side.number) l.rows
-  pub declared : All (λ r. is_undeclared h r.command ≡ false) l.rows
+  pub declared : All (λ r. is_command h r.command ≡ true) l.rows
   pub short : length l.rows ≤ MAX_ROWS
   pub within : l.side.course.rows ≤ length l.rows
   pub rows : rows_drawn (map (λ d. d.item.entry) l.side.seat.list) ≡ take l.side.course.rows l.rows

@@ -1,28 +1,51 @@
 //! The entries that a lane draws at queues for its row: the answer, and tasks that leave and land.
-ghost use Rattle.std.specs.Prelude.{◌≡◌, ◌≤◌, ◌<◌, ◌+◌, ◌-◌, [], Some, length, OnOk, OnErr};
+ghost use Rattle.std.specs.Prelude.{◌≡◌, ◌≤◌, ◌<◌, ◌+◌, ◌-◌, ◌++◌, [], Some, length, map, OnOk, OnErr};
 ghost use Rattle.lb_cell.specs.Cells.{HasRoom};
 ghost use Rattle.lb_cell.specs.Commands.{CanAnswer};
 ghost use Rattle.lb_cell.specs.Draws.{Drew, IsDueAt, Keeps};
-ghost use Rattle.lb_cell.specs.Hands.{IsLoaded, WakesElsewhere};
+ghost use Rattle.lb_act.specs.Hands.{IsLoaded};
+ghost use Rattle.lb_cell.specs.Hands.{WakesElsewhere};
 ghost use Rattle.lb_cell.specs.Serving.{out_cause, out_target};
 ghost use Rattle.lb_core.specs.declared.course.Form.TheVariants as form;
 ghost use Rattle.lb_core.specs.declared.entry.What.TheVariants as what;
 ghost use Rattle.lb_core.specs.Asks.{LandingAsks};
 ghost use Rattle.lb_core.specs.QueueAfter.{answer_to};
+ghost use Rattle.lb_cell.specs.Reads.{SameBut};
 ghost use Rattle.lb_lane.specs.Own.{SameRest};
 ghost use Rattle.lb_queue.specs.declared.answers.OutCause.TheVariants as cause;
 ghost use Rattle.lb_queue.specs.Tasks.{ids};
+ghost use Rattle.lb_ticket.specs.Facts.{held_of};
+ghost use Rattle.lb_ticket.specs.Tickets.{AllBelow};
 
 use crate::lane::Lane;
 use crate::versions::Versions;
 use lb_base::NoMemory;
 use lb_cell::laws::{look_sees_more, saw_stays};
 use lb_cell::{Cell, Names, Shared};
+use lb_journal::Journal;
+use lb_journal::laws::uses_stay;
 use lb_queue::{Hand, Reply};
+use lb_ticket::Coding;
 use std::alloc::Global;
 use std::sync::Wait;
 
 impl<N: Names + Versions> Lane<N> {
+    /// Reads all that the queue has drawn, which stands in the closed lists: each further ticket of the lane is above it.
+    pub fn follow(&mut self, shared: &Shared<'_, N>, cell: &mut Cell<N>)
+        ensures cell { cell.new ≡ cell.old }
+        ensures same { SameBut self.old.side self.new.side }
+        ensures read { self.new.side.seat.read
+            ≡ self.old.side.seat.read ++ map (held_of ⟦<Journal as Coding>⟧.coding) cell.old.log.seat.list }
+        ensures below { AllBelow self.new.side.seat.next cell.old.log.seat.list }
+        ensures later { self.old.side.seat.next ≤ self.new.side.seat.next }
+        ensures rest { SameRest self.old self.new }
+    {
+        // what it saw is seen still, and what it read it has read still
+        saw_stays();
+        uses_stay();
+        self.side.follow_queue(shared, cell);
+    }
+
     /// The queue answers the command of the lane's row, as [`Cell::answer`] does.
     pub fn answer<R: Wait>(
         &mut self,

@@ -43,7 +43,7 @@ impl<N: Names + Versions> Lane<N> {
 impl<N: Names + Versions> PublisherCell<N> {
     /// The publisher, and the seat with its list. What was kept is known of them.
     pub fn end(self) -> (Publisher, Seat<Journal>)
-        ensures { record { publisher = result.0; seat = result.1 } ≡ self }
+        ensures parts { record { publisher = result.0; seat = result.1 } ≡ self }
         ensures kept { PublisherKeeps N.header N.book N.versions self }
     {
         let PublisherCell {

@@ -3,7 +3,7 @@
 ghost use Rattle.std.specs.Prelude.{◌≡◌, ◌≤◌, [], Some, true, length, IfOk, IsSome, OnOk, OnErr};
 ghost use Rattle.lb_cell.specs.Cells.{HasRoom};
 ghost use Rattle.lb_cell.specs.Draws.{Drew, IsDueAt, Keeps};
-ghost use Rattle.lb_cell.specs.Hands.{IsLoaded};
+ghost use Rattle.lb_act.specs.Hands.{IsLoaded};
 ghost use Rattle.lb_cell.specs.Turns.{CanClose, closing};
 ghost use Rattle.lb_core.specs.declared.course.Form.TheVariants as form;
 ghost use Rattle.lb_core.specs.declared.entry.What.TheVariants as what;

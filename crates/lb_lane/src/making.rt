@@ -2,9 +2,9 @@
 ghost use Rattle.std.specs.Prelude.{ℕ, ◌≡◌, ◌<◌, ◌≤◌, false, [], ◌∷◌, Some, All, length, slice_get};
 ghost use Rattle.lb_board.specs.Board.{seen_at};
 ghost use Rattle.lb_core.specs.Course.{opening_course};
-ghost use Rattle.lb_core.specs.Rules.{is_undeclared};
 ghost use Rattle.lb_domain.specs.Topologies.{domains_within};
 ghost use Rattle.lb_levels.specs.Faults.{CanBeRead};
+ghost use Rattle.lb_trace.specs.Accepted.{is_command};
 ghost use Rattle.lb_trace.specs.declared.trace.TheConstants.{MAX_ROWS};
 
 use crate::lane::Lane;
@@ -33,7 +33,7 @@ impl<N: Names + Versions> Lane<N> {
         requires seen { (cpu : ℕ) → cpu < length N.header.cpus → 0 < length (seen_at side.known.reader cpu) }
         requires looker { (looker.book ≡ N.versions)
             × (slice_get looker.topologies 0 ≡ Some (domains_within N.header.cpus N.header.distances N.header.parts)) }
-        requires rows { All (λ r. r.lane ≡ side.number) rows × All (λ r. is_undeclared N.header r.command ≡ false) rows }
+        requires rows { All (λ r. r.lane ≡ side.number) rows × All (λ r. is_command N.header r.command ≡ true) rows }
         requires short { length rows ≤ MAX_ROWS }
         ensures { result
             ≡ record { side = side; looker = looker; rows = rows; vouched = 1; turned = 0; domains = [] } }

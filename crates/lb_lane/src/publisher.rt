@@ -1,7 +1,8 @@
 //! The publisher behind its lock.
-ghost use Rattle.std.specs.Prelude.{◌≡◌, ◌≤◌, OnOk, length};
+ghost use Rattle.std.specs.Prelude.{◌≡◌, ◌≤◌, ◌++◌, OnOk, length, map};
 ghost use mathlib.Core.List.{IsPrefix};
 ghost use Rattle.lb_cell.specs.Reads.{SameBut};
+ghost use Rattle.lb_ticket.specs.Facts.{held_of};
 
 use crate::lane::Lane;
 use crate::versions::Versions;
@@ -9,7 +10,7 @@ use lb_cell::laws::saw_stays;
 use lb_cell::{Names, Shared};
 use lb_journal::Journal;
 use lb_journal::laws::uses_stay;
-use lb_ticket::Seat;
+use lb_ticket::{Coding, Seat};
 use lb_topub::{Looker, Publisher};
 use std::marker::{Model, PhantomData};
 use std::sync::Wait;
@@ -58,6 +59,8 @@ impl<N: Names + Versions> PublisherCell<N> {
         ensures told { IsPrefix self.old.publisher.topologies lane.new.looker.topologies }
         ensures side { SameBut lane.old.side lane.new.side }
         ensures later { lane.old.side.seat.next ≤ lane.new.side.seat.next }
+        ensures read { lane.new.side.seat.read
+            ≡ lane.old.side.seat.read ++ map (held_of ⟦<Journal as Coding>⟧.coding) self.old.seat.list }
         ensures rest { (lane.new.rows ≡ lane.old.rows) × (lane.new.turned ≡ lane.old.turned) × (lane.new.domains ≡ lane.old.domains) }
     {
         // what the lane saw and read stays

@@ -10,6 +10,7 @@ use lb_base::{Items, NoMemory};
 use lb_cell::laws::saw_stays;
 use lb_cell::{Names, Shared};
 use lb_core::What;
+use lb_levels::laws::a_partition_has_no_fault;
 use std::alloc::Global;
 use std::sync::Wait;
 
@@ -27,8 +28,9 @@ impl<N: Names + Versions> Lane<N> {
         ensures ok { OnOk result (TookRow N.header self.old self.new) }
         ensures refused { OnErr result (DrewNothing self.old self.new) }
     {
-        // what it saw is seen still
+        // what it saw is seen still, and what an accepted row names is declared
         saw_stays();
+        a_partition_has_no_fault();
         self.side.keeps();
         let taken = self.side.course().rows;
         let row = self.rows.get(taken as usize);

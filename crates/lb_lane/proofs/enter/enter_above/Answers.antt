@@ -40,8 +40,8 @@ pub returns-in_err-ticket-clause-refused : goal.returns-in_err-ticket-clause-ref
 returns-in_err-ticket-clause-refused g c =
     let l = c.args.side.now in
     let m = c.mark_above_all.new.side in
-    on_err c.from_residual-in_err-ticket.result (Unmoved l c.enter-ticket.new.side)
-    (unmoved l l m c.enter-ticket.new.side (sees_self l) c.mark_above_all.ensures.same c.mark_above_all.ensures.later
+    on_err c.from_residual.result (Unmoved l c.enter.new.side)
+    (unmoved l l m c.enter.new.side (sees_self l) c.mark_above_all.ensures.same c.mark_above_all.ensures.later
     c.mark_above_all.ensures.view.0 c.in_err-ticket.ensures.refused c.in_err-ticket.ensures.view)
 
 pub returns-clause-drew : goal.returns-clause-drew
@@ -49,7 +49,7 @@ returns-clause-drew g c =
     let h = g.N.Names.header in
     let l = c.args.side.now in
     let m = c.mark_above_all.new.side in
-    let n = c.enter-ticket.new.side in
+    let n = c.enter.new.side in
     let k = c.mark_above_all.ensures.same in
     let ticket = c.in_ok-ticket.ticket in
     let drawn : Drew h m n c.args.what [] c.args.figs ticket =

@@ -1,11 +1,12 @@
 use Rattle.std.proofs.Common.{rules, ◌≡◌, ◌∙◌, ◌+◌, ◌<◌, false, length, ap, sym, subst, refl}
 use Rattle.lb_core.specs.declared.entry.What.TheVariants.{Row}
 use Rattle.lb_core.specs.Rules.{is_undeclared}
+use Rattle.lb_trace.specs.Accepted.{is_command}
 use Rattle.lb_journal.specs.contracts.journal.Journal.{the_row}
 use Rattle.lb_lane.specs.Lanes.{LaneIs}
 use Rattle.lb_lane.proofs.Drawing.{kept}
 use Rattle.lb_lane.proofs.Ranging.{row_in_range}
-use Rattle.lb_lane.proofs.Rows.{allowed_as, at_place, row_adds}
+use Rattle.lb_lane.proofs.Rows.{is_declared, allowed_as, at_place, row_adds}
 use Rattle.lb_lane.proofs.lane.Lane.row.Goals as goal
 
 pub enter-requires-clause-allowed : goal.enter-requires-clause-allowed
@@ -21,7 +22,8 @@ enter-requires-clause-allowed g c =
     allowed_as n.header i.side rows row.at c.in_ok-copy.field-0 c.new-masks.result c.new-figs.result
     (ap (λ (k : LaneIs). k.side.course.form) c.self.view_is ∙ c.requires.rest)
     (ap (is_undeclared n.header) (search rules)
-    ∙ at_place (λ r. is_undeclared n.header r.command ≡ false) i.rows rows row c.self.invariant.declared (search rules) more)
+    ∙ is_declared c.a_partition_has_no_fault.ensures n.header row.command
+    (at_place (λ r. is_command n.header r.command ≡ true) i.rows rows row c.self.invariant.declared (search rules) more))
     er (search rules) (search rules)
 
 pub enter-requires-clause-range : goal.enter-requires-clause-range

@@ -1,4 +1,4 @@
-use Rattle.lb_lane.proofs.Making.{new_publisher}
+use Rattle.lb_lane.proofs.Opening.{new_publisher}
 use Rattle.lb_lane.proofs.publisher.PublisherCell.new.Goals as goal
 
 pub invariant_of-result : goal.invariant_of-result

@@ -1,5 +1,6 @@
 -- What a lane and the publisher behind its lock keep before any entry.
 use Rattle.std.proofs.Common.{ℕ, ◌≡◌, ◌+◌, ◌<◌, ◌≤◌, false, List, [], ◌∷◌, Some, length, map, get_or, replicate, slice_get, take, refl, sym, subst, ap, ◌∙◌, arith, inl, All}
+use Rattle.std.proofs.lemmas.List.{get_or-replicate}
 use Rattle.std.proofs.lemmas.List.Elements.{All-nil}
 use Rattle.std.proofs.lemmas.Option.{slice_get_within}
 use base.Stored.{Coded}
@@ -10,12 +11,12 @@ use Rattle.lb_domain.specs.declared.domain.Domain.{Domain}
 use Rattle.lb_domain.specs.Domains.{domains_of}
 use Rattle.lb_domain.specs.Topologies.{AreFew, DomainsWithin, domains_within}
 use Rattle.lb_topub.specs.Versions.{VersionsSeen}
+use Rattle.lb_trace.specs.Accepted.{is_command}
 use Rattle.lb_trace.specs.declared.trace.Header.{Header}
 use Rattle.lb_trace.specs.declared.trace.Row.{Row as TraceRow}
 use Rattle.lb_core.specs.declared.course.Course.{Course}
 use Rattle.lb_core.specs.Course.{named_at, opening_course}
 use Rattle.lb_core.specs.OfTrace.{rows_drawn}
-use Rattle.lb_core.specs.Rules.{is_undeclared}
 use Rattle.lb_ticket.specs.declared.item.Drawn.{Drawn}
 use Rattle.lb_ticket.specs.declared.view.Held.{Held}
 use Rattle.lb_ticket.specs.Seats.{SeatIs}
@@ -38,8 +39,8 @@ few_none : AreFew []
 few_none = record { domains = omega arith; groups = λ p lt. absurd (omega (arith, lt)) }
 
 -- no CPU's figure was named
-none_named : (n cpu : ℕ) → get_or (replicate n 0) cpu 0 ≡ 0
-none_named n cpu = grind arith
+none_named : (n cpu : ℕ) → cpu < n → named_at (opening_course n) cpu ≡ 0
+none_named n cpu lt = get_or-replicate n cpu 0 0 lt
 
 -- it vouches for the header's version
 vouches_one : (h : Header) (code : Coded Journal) (read : List Held) (next : ℕ) (topologies : List DomainsWithin)
@@ -57,7 +58,7 @@ pub new_lane : (h : Header) (board : List TableId) (versions : Book) (code : Cod
     → side.course ≡ opening_course (length h.cpus) → side.seat.list ≡ []
     → ((cpu : ℕ) → cpu < length h.cpus → 0 < length (seen_at side.known.reader cpu)) → looker.book ≡ versions
     → slice_get looker.topologies 0 ≡ Some (domains_within h.cpus h.distances h.parts) → All (λ r. r.lane ≡ side.number) rows
-    → All (λ r. is_undeclared h r.command ≡ false) rows → length rows ≤ 100000
+    → All (λ r. is_command h r.command ≡ true) rows → length rows ≤ 100000
     → LaneKeeps h board versions code (record { side = side; looker = looker; rows = rows; vouched = 1; turned = 0; domains = [] })
 new_lane h board versions code side looker rows machine cells course list seen book first owned declared short =
     let Seen : Drawn Journal → Type 0 = λ d. All (Saw side.known.reader d.ticket) d.item.figs in
@@ -86,7 +87,7 @@ new_lane h board versions code side looker rows machine cells course list seen b
       goes_on = subst (All GoesOn) (sym list) (All-nil GoesOn);
       numbers = λ cpu lt.
           let none : named_at side.course cpu ≡ 0 =
-          ap (λ (c : Course). named_at c cpu) course ∙ none_named (length h.cpus) cpu in
+          ap (λ (c : Course). named_at c cpu) course ∙ none_named (length h.cpus) cpu lt in
           let some = seen cpu lt in
           omega (arith, none, some);
     }

@@ -1,0 +1,36 @@
+use Rattle.std.proofs.Common.{rules, ◌≡◌, ◌∙◌, None, false, if◌then◌else◌, length, subst, sym, ap}
+use Rattle.lb_core.specs.declared.course.Form.TheVariants as forms
+use Rattle.lb_core.specs.Asks.{OpeningAsks}
+use Rattle.lb_core.specs.Stage.{waits_for_push}
+use Rattle.lb_cell.specs.Cells.{CellIs}
+use Rattle.lb_cell.specs.Draws.{IsDueAt, MayAnswerUse}
+use Rattle.lb_lane.proofs.Turning.{answers_now, counters_fit, due_now, no_push, opening_asks}
+use Rattle.lb_lane.proofs.lane.Lane.turn.Goals as goal
+
+pub answer_use-reply-requires-clause-due : goal.answer_use-reply-requires-clause-due
+answer_use-reply-requires-clause-due g c =
+    subst (λ (x : CellIs). IsDueAt forms.Used c.adopt.new.self.side.course x.log.writer.cpu) (sym c.adopt.ensures.cell)
+    (due_now g.N.Names.header c.args.cell.now c.args.self.now c.adopt.new.self c.args.chosen c.args.kind c.in_ok-adopt.field-0
+    c.in_ok-adopt.ensures.ok c.requires.asks.here)
+
+pub answer_use-reply-requires-clause-answers : goal.answer_use-reply-requires-clause-answers
+answer_use-reply-requires-clause-answers g c =
+    let l = c.args.self.now in
+    let q = c.args.cell.now.queue.state in
+    let none : None ≡ (if waits_for_push c.args.kind l.side.course q then q.active else None) = search rules in
+    subst (λ (x : CellIs). MayAnswerUse x c.adopt.new.self.side) (sym c.adopt.ensures.cell)
+    (answers_now g.N.Names.header c.args.cell.now l c.adopt.new.self c.args.chosen c.args.kind c.in_ok-adopt.field-0
+    c.in_ok-adopt.ensures.ok (no_push c.args.kind l.side.course q none) c.requires.asks.owed)
+
+pub answer_use-reply-requires-clause-asks : goal.answer_use-reply-requires-clause-asks
+answer_use-reply-requires-clause-asks g c =
+    let h = g.N.Names.header in
+    subst (λ (x : CellIs). OpeningAsks h x.queue.state c.adopt.new.self.side.course) (sym c.adopt.ensures.cell)
+    (opening_asks h c.args.cell.now c.args.self.now c.adopt.new.self c.args.chosen c.args.kind c.in_ok-adopt.field-0
+    c.in_ok-adopt.ensures.ok c.requires.chosen c.requires.asks c.domains_stand_in_order.ensures)
+
+pub answer_use-reply-requires-clause-counters : goal.answer_use-reply-requires-clause-counters
+answer_use-reply-requires-clause-counters g c =
+    c.requires.counters
+    ∙ sym (counters_fit g.N.Names.header c.args.cell.now c.args.self.now c.adopt.new.self c.args.chosen c.args.kind
+    c.in_ok-adopt.field-0 c.in_ok-adopt.ensures.ok c.requires.chosen)
