@@ -128,6 +128,7 @@ one_more h book versions p p' l ticket k seat of shown list short =
               header = x.header;
               owner = x.owner;
               what = x.what;
+              figs = x.figs;
               shown = prefix_get ts p'.publisher.topologies (n + 1) _ front x.shown;
             })
         | inr past ↦
@@ -141,7 +142,7 @@ one_more h book versions p p' l ticket k seat of shown list short =
             ∙ (slice_get-get_or (ts ++ t ∷ []) (length ts) t (let a = length-append ts (t ∷ []) in omega (arith, a))
             ∙ ap Some (get_or-append_seam ts t [] t)) in
             subst (IsPub h p' n) is
-            (record { header = refl; owner = refl; what = ap (λ m. Pub (m + 2)) (sym same); shown = there })
+            (record { header = refl; owner = refl; what = ap (λ m. Pub (m + 2)) (sym same); figs = refl; shown = there })
       ];
     }
 
