@@ -47,10 +47,30 @@ from : (t : TableId) (b k : ℕ) (ss : List (SeatIs Journal)) → k ≡ b + 0 �
 from t b k ss e h =
     each_as (IsSeat t 0) (IsSeat t b) b 0 ss (λ n s x. counted t b n s x) (each_moved (IsSeat t 0) k (b + 0) ss e h)
 
+-- ---- of the seats as they are made
+renumbered : (t : TableId) (j k : ℕ) (ss : List (SeatIs Journal)) → j ≡ k → Numbered t j ss → Numbered t k ss
+renumbered t j k ss e h = subst (λ (n : ℕ). Numbered t n ss) e h
+
+pub numbered_parts : (t : TableId) (k : ℕ) (xs ys : List (SeatIs Journal)) → Numbered t k (xs ++ ys)
+    → Numbered t k xs × Numbered t (k + length xs) ys
+numbered_parts t k [] ys h = (tt, renumbered t k (k + 0) ys (omega arith) h)
+numbered_parts t k (x ∷ xs) ys h =
+    let parts = numbered_parts t (k + 1) xs ys h.2 in
+    ((h.0, h.1, parts.0), renumbered t (k + 1 + length xs) (k + length (x ∷ xs)) ys (omega arith) parts.1)
+
+empty_front : (xs ys : List (SeatIs Journal)) → AllEmpty (xs ++ ys) → AllEmpty xs
+empty_front [] ys h = tt
+empty_front (x ∷ xs) ys h = (h.0, h.1, h.2, h.3, h.4, empty_front xs ys h.5)
+
+empty_rest : (xs ys : List (SeatIs Journal)) → AllEmpty (xs ++ ys) → AllEmpty ys
+empty_rest [] ys h = h
+empty_rest (x ∷ xs) ys h = empty_rest xs ys h.5
+
 pub record CutUp (t : TableId) (lanes : ℕ) (p : SeatIs Journal) (ls us qs : List (SeatIs Journal)) : Type 0 where
   pub publisher : IsSeat t 0 0 p
   pub of_lanes : EachFrom (IsSeat t 1) 0 ls
-  pub unused : EachFrom (IsSeat t (1 + lanes)) 0 us
+  pub numbered : Numbered t (lanes + 1) us
+  pub empty : AllEmpty us
   pub queues : EachFrom (IsSeat t 17) 0 qs
 
 pub cut_up : (t : TableId) (lanes : ℕ) (all : List (SeatIs Journal)) (p : SeatIs Journal) (ls us qs : List (SeatIs Journal))
@@ -61,9 +81,14 @@ cut_up t lanes all p ls us qs n e cut l u =
     let parts = each_parts (IsSeat t 0) (0 + 1) (ls ++ us) qs whole.1 in
     let front = each_parts (IsSeat t 0) (0 + 1) ls us parts.0 in
     let both = length-append ls us in
+    let numbers = subst (λ (ss : List (SeatIs Journal)). Numbered t 0 ss) cut n in
+    let empties = subst (λ (ss : List (SeatIs Journal)). AllEmpty ss) cut e in
     record {
       publisher = whole.0;
       of_lanes = from t 1 (0 + 1) ls (omega arith) front.0;
-      unused = from t (1 + lanes) (0 + 1 + length ls) us (omega arith) front.1;
+      numbered =
+          renumbered t (0 + 1 + length ls) (lanes + 1) us (omega arith)
+          (numbered_parts t (0 + 1) ls us (numbered_parts t (0 + 1) (ls ++ us) qs numbers.2.2).0).1;
+      empty = empty_rest ls us (empty_front (ls ++ us) qs empties.5);
       queues = from t 17 (0 + 1 + length (ls ++ us)) qs (omega arith) parts.1;
     }

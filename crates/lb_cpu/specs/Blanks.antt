@@ -12,7 +12,7 @@ use Rattle.lb_trace.specs.declared.trace.Row.{Row}
 use Rattle.lb_trace.specs.declared.trace.TheConstants.{MAX_ROWS}
 use Rattle.lb_trace.specs.Accepted.{IsHeader, is_row}
 use Rattle.lb_core.specs.Machine.{opening_queue}
-use Rattle.lb_ticket.specs.Seats.{BookIs, SeatIs}
+use Rattle.lb_ticket.specs.Seats.{AllEmpty, BookIs, Numbered, SeatIs}
 use Rattle.lb_journal.specs.Journal.{Journal}
 use Rattle.lb_board.specs.Board.{Sight, WriterIs, IsOfBoard, opening, seen_at}
 use Rattle.lb_topub.specs.Versions.{VersionsSeen}
@@ -92,7 +92,8 @@ pub record FitShared (h : Header) (m : Layout) (book : BookIs) (board : List Tab
   pub published : p.topologies ≡ domains_within h.cpus h.distances h.parts ∷ []
   pub seat : IsSeat book.table 0 0 s
 
--- there are 16 seats of lanes, of which those that the trace does not have are unused
+-- there are 16 seats of lanes; those that the trace does not have drew nothing
 pub record FitUnused (h : Header) (book : TableId) (unused : List (SeatIs Journal)) : Type 0 where
-  pub seats_are : EachFrom (IsSeat book (1 + h.lanes)) 0 unused
-  pub count : h.lanes + length unused ≡ 16
+  pub numbered : Numbered book (h.lanes + 1) unused
+  pub empty : AllEmpty unused
+  pub all_lanes : h.lanes + length unused ≡ 16

@@ -1,3 +1,4 @@
 pub mod Cpus
 pub mod Numbering
 pub mod Blanks
+pub mod Starts

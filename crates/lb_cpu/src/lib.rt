@@ -9,6 +9,7 @@ mod blank;
 mod cpus;
 mod cut;
 mod rows;
+mod start;
 
 pub use blank::Blank;
 pub use cpus::Cpus;

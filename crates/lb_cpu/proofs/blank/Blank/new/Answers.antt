@@ -49,7 +49,7 @@ invariant_of-result g c =
       cpus.1,
       lanes.0,
       lanes.1,
-      record { seats_are = cut.unused; count = c.in_ok-seats.ensures.unused },
+      record { numbered = cut.numbered; empty = cut.empty; all_lanes = c.in_ok-seats.ensures.unused },
     )
 
 pub returns-clause-rows : goal.returns-clause-rows
