@@ -1,5 +1,5 @@
 -- An entry of a queue that its lane may draw fits the queue's list, and what cell and lane keep stays.
-use Rattle.std.proofs.Common.{ℕ, ◌≡◌, ◌+◌, ◌<◌, true, false, List, [], ◌∷◌, ◌++◌, Option, Some, None, slice_get, length, map, set, refl, sym, subst, ap, ◌∙◌, arith, All}
+use Rattle.std.proofs.Common.{ℕ, ◌≡◌, ◌+◌, ◌<◌, true, false, List, [], ◌∷◌, ◌++◌, Option, Some, None, slice_get, length, map, refl, sym, subst, ap, ◌∙◌, arith, All}
 use Rattle.std.proofs.lemmas.List.{length-append, length-map, length-set}
 use Rattle.std.proofs.lemmas.List.Elements.{All-map, All-push}
 use Rattle.std.proofs.lemmas.Bool.{lt-ltb}
@@ -40,7 +40,7 @@ use Rattle.lb_cell.specs.Cells.{CellIs, CellKeeps, LaneIs, LaneKeeps, IsPlain, I
 use Rattle.lb_cell.specs.Kinds.{is_of_queue, is_out}
 use Rattle.lb_cell.proofs.Bounds.{stays_in}
 use Rattle.lb_cell.proofs.Going.{named_stays, flight_is_out}
-use Rattle.lb_cell.specs.Draws.{MayDraw, MayAnswerUse, AnswersUseAt, sight_at, queue_left, course_left, item_at}
+use Rattle.lb_cell.specs.Draws.{MayDraw, MayAnswerUse, AnswersUseAt, counted_at, sight_at, queue_left, course_left, item_at}
 
 -- ---- what an entry of a queue carries
 carries_masks : (w : What) → is_of_queue w ≡ true → CarriesMasks w []
@@ -181,14 +181,14 @@ unfolding queue_after
 queue_is h c l w q e = e
 
 -- the course, once the entry's number is counted
-pub course_is : (h : Header) (c : CellIs) (l : LaneIs) (w : What) (q : QueueState) (now new : Course)
+pub course_is : (h : Header) (c : CellIs) (l : LaneIs) (w : What) (q : QueueState) (cpu n : ℕ) (now new : Course)
     → q ≡ queue_by w (sight_at h c l) l.number → now ≡ course_by w (sight_at h c l) c.log.writer.cpu q
-    → new ≡ record now { named = set now.named c.log.writer.cpu (length c.log.seat.list + 1) } → new ≡ course_left h c l w
+    → cpu ≡ c.log.writer.cpu → n ≡ length c.log.seat.list + 1 → new ≡ counted_at cpu n now → new ≡ course_left h c l w
 unfolding course_after
-course_is h c l w q now new e f g =
+course_is h c l w q cpu n now new e f ec en g =
     let at : QueueState → Course = course_by w (sight_at h c l) c.log.writer.cpu in
     let is : now ≡ at (queue_left h c l w) = f ∙ ap at (queue_is h c l w q e) in
-    g ∙ ap (λ (x : Course). record x { named = set x.named c.log.writer.cpu (length c.log.seat.list + 1) }) is
+    g ∙ (λ i. counted_at (ec i) (en i) (is i))
 
 -- the lane has a number for the queue
 pub named_here : (h : Header) (book : TableId) (board : List TableId) (code : Coded Left) (c : CellIs) (l : LaneIs) (w : What)
@@ -262,7 +262,7 @@ pub lane_more : (h : Header) (book : TableId) (board : List TableId) (code : Cod
     (number : ℕ) (q : QueueState) (now new : Course) (known : Known) (landing : List ℕ) → LaneKeeps h book board code l
     → is_of_queue w ≡ true → c.log.writer.cpu < MAX_CPUS → number ≡ l.number
     → now ≡ course_by w (sight_at h c l) c.log.writer.cpu q
-    → new ≡ record now { named = set now.named c.log.writer.cpu (length c.log.seat.list + 1) }
+    → new ≡ counted_at c.log.writer.cpu (length c.log.seat.list + 1) now
     → (is_out w ≡ true → landing ≡ ids now.hand)
     → known.reader ≡ see l.known.reader c.log.writer.cpu (seen_at known.reader c.log.writer.cpu)
     → IsLast book code (length h.cpus) l.number new known.ticket known.note → 0 < known.ticket

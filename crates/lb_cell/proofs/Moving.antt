@@ -14,7 +14,7 @@ use Rattle.lb_queue.specs.declared.awake.Awake.{Awake}
 use Rattle.lb_queue.specs.declared.answers.Stop.{Stop}
 use Rattle.lb_queue.specs.Laws.{FollowsPicks}
 use Rattle.lb_queue.specs.Requests.{next_stop, has_owed}
-use Rattle.lb_queue.specs.Values.{views, view_at}
+use Rattle.lb_queue.specs.Values.{views}
 use Rattle.lb_queue.specs.Queue.{QueueState, away, away_of, clock_at, knows}
 use Rattle.lb_queue.specs.Tasks.{ids, task_with, awake_with}
 use Rattle.lb_queue.specs.Hands.{HandState, loaded, leave, leaves_asleep, leaves_awake, stop_goes, stop_to, take_stop, pushed, take_push, take_pull, taken_by}

@@ -6,7 +6,6 @@ use Rattle.std.proofs.lemmas.Bool.{lt-ltb}
 use base.Stored.{Coded}
 use Rattle.atomic_table.specs.Seated.{TableId}
 use Rattle.lb_base.specs.declared.mask.Mask.{Mask}
-use Rattle.lb_base.specs.declared.mask.TheConstants.{MAX_CPUS}
 use Rattle.lb_trace.specs.declared.trace.Command.{Command}
 use Rattle.lb_trace.specs.declared.trace.Header.{Header}
 use Rattle.lb_core.specs.declared.course.Course.{Course}
@@ -15,8 +14,6 @@ use Rattle.lb_core.specs.declared.entry.FigName.{FigName}
 use Rattle.lb_core.specs.declared.entry.Owner.TheVariants.{Lane}
 use Rattle.lb_core.specs.declared.entry.What.{What}
 use Rattle.lb_core.specs.declared.entry.What.TheVariants as whats
-use Rattle.lb_core.specs.declared.rule.Rule.{Rule}
-use Rattle.lb_core.specs.declared.rule.Rule.TheVariants as rules
 use Rattle.lb_core.specs.Sight.{Sight}
 use Rattle.lb_core.specs.Placed.{is_flight}
 use Rattle.lb_core.specs.Rules.{breaks_here}
@@ -31,7 +28,7 @@ use Rattle.lb_cell.specs.declared.known.Known.{Known}
 use Rattle.lb_cell.specs.LastEntries.{IsLast, DrewOne}
 use Rattle.lb_cell.specs.Kinds.{is_of_lane}
 use Rattle.lb_cell.specs.Cells.{LaneIs, LaneKeeps, IsInRange}
-use Rattle.lb_cell.specs.Own.{MayDrawOwn, MayFollow, OwnAsks, sight_from, sight_own, entry_own, own_left, item_own}
+use Rattle.lb_cell.specs.Own.{MayDrawOwn, MayFollow, OwnAsks, sight_from, sight_own, own_left, item_own}
 
 -- ---- the owner's test
 sight_is : (h : Header) (l : LaneIs) (w : What) (masks : List Mask) (figs : List CpuFig)

@@ -1,14 +1,11 @@
 -- The answer of a queue to a `use` may be drawn: a turn opens, or is shut where one is open.
-use Rattle.std.proofs.Common.{ℕ, ◌≡◌, Bool, true, false, not, ◌&&◌, Option, Some, None, is_some, is_none, List, length, if◌then◌else◌, MatchOption, refl, sym, subst, ap, inl, inr}
-use Rattle.std.proofs.lemmas.List.{length-map}
-use Rattle.std.proofs.lemmas.Bool.{cases_eq, eq-eqb, ne_eqb}
+use Rattle.std.proofs.Common.{ℕ, ◌≡◌, Bool, true, false, not, ◌&&◌, Option, Some, None, is_some, is_none, List, if◌then◌else◌, refl, sym, subst, ap}
 use Rattle.lb_base.specs.declared.mask.Mask.{Mask}
 use Rattle.lb_base.specs.declared.shape.Shape.{Shape}
-use Rattle.lb_interval.specs.declared.Counters.{Counters}
 use Rattle.lb_base.specs.declared.shape.Kind.{Kind}
 use Rattle.lb_queue.specs.declared.answers.TurnReply.TheVariants.{Opened, TurnOpen}
-use Rattle.lb_queue.specs.Queue.{QueueState, clock_at, milliseconds}
-use Rattle.lb_queue.specs.Turns.{counters_found, counters_or_fresh, fresh_at, positions_found, opens, FitCounters}
+use Rattle.lb_queue.specs.Queue.{QueueState}
+use Rattle.lb_queue.specs.Turns.{positions_found, opens}
 use Rattle.lb_trace.specs.declared.trace.Header.{Header}
 use Rattle.lb_core.specs.declared.course.Form.{Form}
 use Rattle.lb_core.specs.declared.course.Form.TheVariants as forms

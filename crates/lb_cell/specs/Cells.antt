@@ -31,6 +31,7 @@ pub record CellIs : Type 0 where
   pub log : Log
   pub room : ℕ
 
+-- the same, by the parts that the code has
 abbrev pub cell_of : CellParts → CellIs
 cell_of c = record { queue = c.queue; log = c.log; room = c.room }
 
@@ -69,6 +70,7 @@ pub record LaneIs : Type 0 where
   pub seat : SeatIs Journal
   pub landing : List ℕ
 
+-- the same, by the parts that the code has
 abbrev pub lane_of : LaneParts → LaneIs
 lane_of l = record { number = l.number; course = l.course; known = l.known; seat = l.seat; landing = l.landing }
 

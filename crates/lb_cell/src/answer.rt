@@ -8,7 +8,6 @@ ghost use Rattle.lb_cell.specs.Commands.{CanAnswer};
 
 use crate::before::Before;
 use crate::cell::Cell;
-use crate::enter::enter;
 use crate::lane::Lane;
 use crate::names::Names;
 use crate::shared::Shared;
@@ -37,7 +36,8 @@ impl<N: Names> Cell<N> {
     {
         let before = Before::of(self, lane);
         let was = self.parts.queue.len();
-        let reply = obey(&mut self.parts.queue, lane.parts.course.at, &lane.parts.course.command);
+        let at = lane.parts.course.at;
+        let reply = obey(&mut self.parts.queue, at, &lane.parts.course.command);
         let awake = self.parts.queue.len();
         // fewer are awake now: the task was
         let was_awake = awake < was;
@@ -48,15 +48,8 @@ impl<N: Names> Cell<N> {
             was_awake,
             awake,
         );
-        enter(
-            rt,
-            alloc,
-            shared,
-            before,
-            &mut self.parts,
-            &mut lane.parts,
-            What::Did { reply },
-        );
+        let what = What::Did { reply };
+        before.enter(rt, alloc, shared, &mut self.parts, &mut lane.parts, what);
         reply
     }
 }

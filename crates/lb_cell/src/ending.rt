@@ -24,11 +24,12 @@ impl<N: Names> Cell<N> {
         ensures log { record { seat = result.1; writer = result.2 } ≡ self.log }
         ensures kept { CellKeeps N.header N.book N.board self }
     {
+        let Cell { parts, names: _ } = self;
         let CellParts {
             queue,
             log,
             room: _,
-        } = self.parts;
+        } = parts;
         let Log { seat, writer } = log;
         (queue, seat, writer)
     }
@@ -45,13 +46,14 @@ impl<N: Names> Lane<N> {
         ensures last { (result.2 ≡ self.course) × (result.3 ≡ self.known.ticket) }
         ensures kept { LaneKeeps N.header N.book N.board ⟦<Left as Coding>⟧.coding self }
     {
+        let Lane { parts, names: _ } = self;
         let LaneParts {
             number: _,
             course,
             mut known,
             mut seat,
             landing: _,
-        } = self.parts;
+        } = parts;
         learn_last(shared.book, &mut seat, &mut known);
         let ticket = known.ticket;
         (seat, known.reader, course, ticket)

@@ -11,7 +11,6 @@ ghost use Rattle.lb_cell.specs.Turns.{CanClose, closing};
 
 use crate::before::Before;
 use crate::cell::Cell;
-use crate::enter::enter;
 use crate::lane::Lane;
 use crate::names::Names;
 use crate::shared::Shared;
@@ -50,23 +49,17 @@ impl<N: Names> Cell<N> {
         let turn = Turn::with(shared.header, domains, &lane.parts.course);
         let shape = turn.shape();
         let outcome = turn.outcome();
-        let left = counters_left(&self.parts.queue, lane.parts.course.at, &shape, outcome, imb);
-        self.parts.queue.close_look(lane.parts.course.at, &shape, outcome, imb);
+        let at = lane.parts.course.at;
+        let left = counters_left(&self.parts.queue, at, &shape, outcome, imb);
+        self.parts.queue.close_look(at, &shape, outcome, imb);
         close(&mut lane.parts.course, word_of(outcome));
-        enter(
-            rt,
-            alloc,
-            shared,
-            before,
-            &mut self.parts,
-            &mut lane.parts,
-            What::Close {
-                position,
-                outcome: word_of(outcome),
-                interval: left.interval,
-                failures: left.failures,
-            },
-        );
+        let what = What::Close {
+            position,
+            outcome: word_of(outcome),
+            interval: left.interval,
+            failures: left.failures,
+        };
+        before.enter(rt, alloc, shared, &mut self.parts, &mut lane.parts, what);
         outcome
     }
 
@@ -91,14 +84,7 @@ impl<N: Names> Cell<N> {
         let has_domains = Turn::with(shared.header, domains, &lane.parts.course).has_domains();
         self.parts.queue.end_turn(lane.parts.course.at);
         turn_ends(alloc, &mut lane.parts.course, has_domains);
-        enter(
-            rt,
-            alloc,
-            shared,
-            before,
-            &mut self.parts,
-            &mut lane.parts,
-            What::Over,
-        );
+        let what = What::Over;
+        before.enter(rt, alloc, shared, &mut self.parts, &mut lane.parts, what);
     }
 }

@@ -81,50 +81,53 @@ fn item_of<N: Names>(
     )
 }
 
-/// Draws the entry of a queue for a lane, upon the cell and the lane as they were before it. The queue has made its
-/// step, and the course its own, but for the number of the entry; the cell's room is what is booked after it.
-pub(crate) fn enter<N: Names, R: Wait>(
-    rt: &R,
-    alloc: Global,
-    shared: &Shared<'_, N>,
-    before: Before<N>,
-    cell: &mut CellParts,
-    lane: &mut LaneParts,
-    what: What,
-)
-    requires log { cell.old.log ≡ before.cell.log }
-    requires room { (cell.old.room < before.cell.log.seat.spare)
-        × (length before.cell.log.seat.list + cell.old.room + 1 < 2 ^ 40) }
-    requires lane { (lane.old.number ≡ before.lane.number) × (lane.old.known ≡ before.lane.known)
-        × (lane.old.seat ≡ before.lane.seat) }
-    requires may { MayDraw N.header before.cell before.lane what }
-    requires queue { cell.old.queue.state ≡ queue_by what (sight_at N.header before.cell before.lane) before.lane.number }
-    requires course { lane.old.course
-        ≡ course_by what (sight_at N.header before.cell before.lane) before.cell.log.writer.cpu cell.old.queue.state }
-    requires landing { is_out what ≡ true → lane.old.landing ≡ ids lane.old.course.hand }
-    ensures cell { CellKeeps N.header N.book N.board (cell_of cell.new) }
-    ensures lane { LaneKeeps N.header N.book N.board ⟦<Left as Coding>⟧.coding (lane_of lane.new) }
-    ensures drew { Drew N.header before.cell (cell_of cell.new) before.lane (lane_of lane.new) what }
-    ensures same { (cell.new.queue ≡ cell.old.queue) × (cell.new.room ≡ cell.old.room) }
-    ensures counted { lane.new.course ≡ counted_at cell.old.log.writer.cpu (length cell.old.log.seat.list + 1) lane.old.course }
-{
-    let item = item_of(
-        alloc,
-        shared,
-        before,
-        cell,
-        lane.number,
-        &mut lane.course,
-        &lane.known,
-        what,
-    );
-    draw_at(
-        rt,
-        shared.book,
-        shared.board,
-        &cell.queue,
-        &mut cell.log,
-        &mut lane.known,
-        item,
-    );
+impl<N: Names> Before<N> {
+    /// Draws the entry of a queue for a lane, upon the cell and the lane as they were before it. The queue has made its
+    /// step, and the course its own, but for the number of the entry; the cell's room is what is booked after it.
+    pub(crate) fn enter<R: Wait>(
+        self,
+        rt: &R,
+        alloc: Global,
+        shared: &Shared<'_, N>,
+        cell: &mut CellParts,
+        lane: &mut LaneParts,
+        what: What,
+    )
+        requires log { cell.old.log ≡ self.cell.log }
+        requires room { (cell.old.room < self.cell.log.seat.spare)
+            × (length self.cell.log.seat.list + cell.old.room + 1 < 2 ^ 40) }
+        requires lane { (lane.old.number ≡ self.lane.number) × (lane.old.known ≡ self.lane.known)
+            × (lane.old.seat ≡ self.lane.seat) }
+        requires may { MayDraw N.header self.cell self.lane what }
+        requires queue { cell.old.queue.state ≡ queue_by what (sight_at N.header self.cell self.lane) self.lane.number }
+        requires course { lane.old.course
+            ≡ course_by what (sight_at N.header self.cell self.lane) self.cell.log.writer.cpu cell.old.queue.state }
+        requires landing { is_out what ≡ true → lane.old.landing ≡ ids lane.old.course.hand }
+        ensures cell { CellKeeps N.header N.book N.board (cell_of cell.new) }
+        ensures lane { LaneKeeps N.header N.book N.board ⟦<Left as Coding>⟧.coding (lane_of lane.new) }
+        ensures drew { Drew N.header self.cell (cell_of cell.new) self.lane (lane_of lane.new) what }
+        ensures same { (cell.new.queue ≡ cell.old.queue) × (cell.new.room ≡ cell.old.room) }
+        ensures counted { lane.new.course
+            ≡ counted_at cell.old.log.writer.cpu (length cell.old.log.seat.list + 1) lane.old.course }
+    {
+        let item = item_of(
+            alloc,
+            shared,
+            self,
+            cell,
+            lane.number,
+            &mut lane.course,
+            &lane.known,
+            what,
+        );
+        draw_at(
+            rt,
+            shared.book,
+            shared.board,
+            &cell.queue,
+            &mut cell.log,
+            &mut lane.known,
+            item,
+        );
+    }
 }

@@ -12,7 +12,6 @@ ghost use Rattle.lb_cell.specs.Hands.{CanLand};
 
 use crate::before::Before;
 use crate::cell::Cell;
-use crate::enter::enter;
 use crate::lane::Lane;
 use crate::names::Names;
 use crate::shared::Shared;
@@ -72,14 +71,7 @@ impl<N: Names> Cell<N> {
         self.parts.room -= 1;
         arrive(alloc, &mut self.parts.queue, &mut lane.parts.course, hand);
         let ids = mem::replace(&mut lane.parts.landing, Items::new(alloc));
-        enter(
-            rt,
-            alloc,
-            shared,
-            before,
-            &mut self.parts,
-            &mut lane.parts,
-            What::Landed { ids },
-        );
+        let what = What::Landed { ids };
+        before.enter(rt, alloc, shared, &mut self.parts, &mut lane.parts, what);
     }
 }

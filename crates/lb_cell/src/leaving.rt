@@ -10,7 +10,6 @@ ghost use Rattle.lb_cell.specs.Hands.{AreFor, HasLeft, WakesElsewhere};
 
 use crate::before::Before;
 use crate::cell::Cell;
-use crate::enter::enter;
 use crate::lane::Lane;
 use crate::lists::HandLists;
 use crate::names::Names;
@@ -61,21 +60,14 @@ pub(crate) fn depart<N: Names, R: Wait>(
         out,
         landing,
     } = lists;
-    taken_off(
-        &mut lane.course,
-        why,
-        to,
-        hand.moment(),
-        records,
-        taken,
-    );
+    taken_off(&mut lane.course, why, to, hand.moment(), records, taken);
     lane.landing = landing;
     let what = What::Out {
         cause: why,
         to,
         ids: out,
     };
-    enter(rt, alloc, shared, before, cell, lane, what);
+    before.enter(rt, alloc, shared, cell, lane, what);
 }
 
 impl<N: Names> Cell<N> {

@@ -12,7 +12,6 @@ ghost use Rattle.lb_cell.specs.Turns.{turn_what};
 
 use crate::before::Before;
 use crate::cell::Cell;
-use crate::enter::enter;
 use crate::lane::Lane;
 use crate::names::Names;
 use crate::shared::Shared;
@@ -60,15 +59,8 @@ impl<N: Names> Cell<N> {
             positions,
             counters,
         );
-        enter(
-            rt,
-            alloc,
-            shared,
-            before,
-            &mut self.parts,
-            &mut lane.parts,
-            What::Turn { positions },
-        );
+        let what = What::Turn { positions };
+        before.enter(rt, alloc, shared, &mut self.parts, &mut lane.parts, what);
     }
 
     // The turn is shut.
@@ -100,15 +92,8 @@ impl<N: Names> Cell<N> {
             shapes,
             has_domains,
         );
-        enter(
-            rt,
-            alloc,
-            shared,
-            before,
-            &mut self.parts,
-            &mut lane.parts,
-            What::Shut,
-        );
+        let what = What::Shut;
+        before.enter(rt, alloc, shared, &mut self.parts, &mut lane.parts, what);
     }
 
     /// Answers the lane's `use`, the last entry that it drew: a turn opens, by a `turn`, and the lane has the counters
@@ -134,18 +119,14 @@ impl<N: Names> Cell<N> {
         ensures drew { Drew N.header self.old self.new lane.old lane.new (turn_what result) }
         ensures booked { Keeps self.old self.new }
     {
-        // reads a field of it, so that what it keeps is known
-        let _room = self.parts.room;
-        let turn = Turn::with(shared.header, domains, &lane.parts.course);
+        let queue = &self.parts.queue;
+        let course = &lane.parts.course;
+        let turn = Turn::with(shared.header, domains, course);
         let list = turn.shapes();
         let has_domains = turn.has_domains();
         let shapes = list.as_slice();
-        let kind = turn_kind(&lane.parts.course);
-        let course = &lane.parts.course;
-        let reply = self
-            .parts
-            .queue
-            .opens(course.at, kind, course.version, shapes);
+        let kind = turn_kind(course);
+        let reply = queue.opens(course.at, kind, course.version, shapes);
         match reply {
             TurnReply::Opened(positions) => {
                 self.open_turn(rt, alloc, shared, lane, shapes, positions, counters);

@@ -54,10 +54,11 @@ impl<N: Names> Cell<N> {
     {
         // what is picked leaves
         pulls_follow_picks();
-        let mut picked = picks_of(alloc, &self.parts.queue, lane.parts.course.at, env)?;
+        let at = lane.parts.course.at;
+        let mut picked = picks_of(alloc, &self.parts.queue, at, env)?;
         let lists = HandLists::new(alloc, picked.ids.len())?;
         let before = Before::of(self, lane);
-        let taken = self.parts.queue.take(lane.parts.course.at, env, &mut picked, hand);
+        let taken = self.parts.queue.take(at, env, &mut picked, hand);
         depart(
             rt,
             alloc,

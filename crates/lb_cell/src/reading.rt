@@ -76,7 +76,8 @@ impl<N: Names> Lane<N> {
         ensures later { self.old.seat.next ≤ self.new.seat.next }
         ensures spare { self.new.seat.spare ≡ self.old.seat.spare }
     {
-        self.parts.seat.follow(shared.book, &mut cell.parts.log.seat);
+        let other = &mut cell.parts.log.seat;
+        self.parts.seat.follow(shared.book, other);
     }
 
     /// The CPU's figure that is seen now, and no earlier one than the lane saw or was told of. It waits while the

@@ -8,7 +8,6 @@ ghost use Rattle.lb_cell.specs.Draws.{Drew, IsDueAt, Keeps};
 
 use crate::before::Before;
 use crate::cell::Cell;
-use crate::enter::enter;
 use crate::lane::Lane;
 use crate::names::Names;
 use crate::shared::Shared;
@@ -35,17 +34,11 @@ impl<N: Names> Cell<N> {
         ensures booked { Keeps self.old self.new }
     {
         let before = Before::of(self, lane);
-        let reply = self.parts.queue.ask_active(lane.parts.course.at, lane.parts.course.cpu);
+        let course = &lane.parts.course;
+        let reply = self.parts.queue.ask_active(course.at, course.cpu);
         go_on(&mut lane.parts.course);
-        enter(
-            rt,
-            alloc,
-            shared,
-            before,
-            &mut self.parts,
-            &mut lane.parts,
-            What::Ask { reply },
-        );
+        let what = What::Ask { reply };
+        before.enter(rt, alloc, shared, &mut self.parts, &mut lane.parts, what);
         reply
     }
 
@@ -66,15 +59,8 @@ impl<N: Names> Cell<N> {
         let before = Before::of(self, lane);
         let reply = self.parts.queue.kick(lane.parts.course.at);
         kicked(alloc, &mut lane.parts.course, reply);
-        enter(
-            rt,
-            alloc,
-            shared,
-            before,
-            &mut self.parts,
-            &mut lane.parts,
-            What::Kick { reply },
-        );
+        let what = What::Kick { reply };
+        before.enter(rt, alloc, shared, &mut self.parts, &mut lane.parts, what);
         reply
     }
 }

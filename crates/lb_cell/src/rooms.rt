@@ -23,7 +23,8 @@ impl<N: Names> Cell<N> {
         ensures log { (self.new.log.seat.list ≡ self.old.log.seat.list) × (self.new.log.writer ≡ self.old.log.writer) }
         ensures ok { OnOk result (self.old.room + k ≤ self.new.log.seat.spare) }
     {
-        self.parts.log.seat.reserve((self.parts.room + u64::from(k)) as usize)
+        let room = self.parts.room + u64::from(k);
+        self.parts.log.seat.reserve(room as usize)
     }
 
     /// Books the landing of `tasks` tasks, and room for `entries` entries. A refusal, for want of memory alone, books

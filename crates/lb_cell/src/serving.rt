@@ -69,7 +69,8 @@ impl<N: Names> Cell<N> {
         // a stop is next where one is owed
         next_stops();
         let before = Before::of(self, lane);
-        self.parts.queue.take_stop(lane.parts.course.at, stop.id, hand);
+        let at = lane.parts.course.at;
+        self.parts.queue.take_stop(at, stop.id, hand);
         depart(
             rt,
             alloc,

@@ -1,4 +1,4 @@
-use Rattle.std.proofs.Common.{◌≡◌, ◌<◌, ◌+◌, subst, sym, ap, ◌∙◌, length, map, set, []}
+use Rattle.std.proofs.Common.{◌≡◌, ◌<◌, ◌+◌, subst, sym, ap, ◌∙◌, length, map, []}
 use Rattle.lb_ticket.specs.Tickets.{pair}
 use Rattle.lb_journal.specs.Journal.{Journal, Fits, queue_by_item, replay}
 use Rattle.lb_journal.specs.contracts.journal.Left.{the_row}
@@ -27,15 +27,10 @@ returns-clause-queue g c =
 pub returns-clause-course : goal.returns-clause-course
 returns-clause-course g c =
     let b = c.args.before in
-    course_is g.N.Names.header b.cell b.lane c.args.what c.args.cell.now.queue.state c.args.course.now c.drew.new.course
-    c.requires.queue
-    c.requires.course
-    (c.drew.ensures
-    ∙ (λ i. record c.args.course.now {
-      named =
-          set c.args.course.now.named ((c.cpu-cpu.ensures ∙ ap (λ (l : Log). l.writer.cpu) c.requires.log) i)
-          ((ap (λ n. n + 1) c.len.ensures ∙ ap (λ (l : Log). length l.seat.list + 1) c.requires.log) i);
-    }))
+    course_is g.N.Names.header b.cell b.lane c.args.what c.args.cell.now.queue.state c.cpu-cpu.result (c.len.result + 1)
+    c.args.course.now c.drew.new.course c.requires.queue c.requires.course
+    (c.cpu-cpu.ensures ∙ ap (λ (l : Log). l.writer.cpu) c.requires.log)
+    (ap (λ n. n + 1) c.len.ensures ∙ ap (λ (l : Log). length l.seat.list + 1) c.requires.log) c.drew.ensures
 
 pub returns-clause-item : goal.returns-clause-item
 returns-clause-item g c =

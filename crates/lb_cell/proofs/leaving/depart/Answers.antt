@@ -18,8 +18,8 @@ enter-requires-clause-may g c =
 pub enter-requires-clause-course : goal.enter-requires-clause-course
 enter-requires-clause-course g c =
     let b = c.args.before in
-    noted g.N.Names.header b.cell b.lane c.args.why c.args.taken c.args.hand.now c.args.cell.now.queue.state c.fill.new.self.records
-    c.to-to.result c.moment.result c.args.lane.now.course c.taken_off.new.course c.requires.left
+    noted g.N.Names.header b.cell b.lane c.args.why c.args.taken c.args.hand.now c.args.cell.now.queue.state
+    c.fill.new.self.records c.to-to.result c.moment.result c.args.lane.now.course c.taken_off.new.course c.requires.left
     (ap (λ (x : LaneIs). x.course) c.requires.lane) c.fill.ensures.records c.to-to.ensures c.moment.ensures c.taken_off.ensures
 
 pub enter-requires-clause-landing : goal.enter-requires-clause-landing

@@ -34,8 +34,8 @@ invariant_of-self g c =
     c.of-3.result.value c.of-4.result.value c.new-item.ensures (search rules) (search rules) (search rules) (search rules)
     (search rules) in
     let leaves = subst (λ (j : Journal). Leaves n.book the_row.coded j c.draw_noted.result c.draw_noted.new.known.note) is
-    (subst (λ b. Leaves b the_row.coded c.new-item.result c.draw_noted.result c.draw_noted.new.known.note) c.shared.invariant.book_is
-    c.draw_noted.ensures.leaves) in
+    (subst (λ b. Leaves b the_row.coded c.new-item.result c.draw_noted.result c.draw_noted.new.known.note)
+    c.shared.invariant.book_is c.draw_noted.ensures.leaves) in
     pub_more n.header n.book n.board the_row.coded l count c.args.version c.published.new.course c.draw_noted.new.known
     c.self.invariant (search rules) (search rules) c.draw_noted.ensures.known.1 (search rules)
 
@@ -61,8 +61,8 @@ returns g c =
     (record {
       list =
           subst
-          (λ (j : Journal). c.draw_noted.new.seat.list ≡ c.args.seat.now.list ++ record { ticket = c.draw_noted.result; item = j } ∷ [])
-          is c.draw_noted.ensures.list;
+          (λ (j : Journal). c.draw_noted.new.seat.list
+          ≡ c.args.seat.now.list ++ record { ticket = c.draw_noted.result; item = j } ∷ []) is c.draw_noted.ensures.list;
       seat = c.draw_noted.ensures.seat;
       above = c.draw_noted.ensures.later.0;
       course = c.published.ensures ∙ pub_course n.header l count c.args.version;
