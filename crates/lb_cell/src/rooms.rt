@@ -45,6 +45,13 @@ impl<N: Names> Cell<N> {
         Ok(())
     }
 
+    /// Whether the landing of so many tasks is booked, and room for so many entries.
+    pub fn can_unbook(&self, tasks: u32, entries: u32) -> bool
+        ensures { IsTrue result ↔ ((tasks ≤ self.now.queue.booked) × (entries ≤ self.now.room)) }
+    {
+        u64::from(tasks) <= self.parts.queue.booked() && u64::from(entries) <= self.parts.room
+    }
+
     /// Gives up booked landings, and booked room.
     pub fn unbook(&mut self, tasks: u32, entries: u32)
         requires entries { entries ≤ self.old.room }

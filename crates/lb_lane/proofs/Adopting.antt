@@ -116,7 +116,8 @@ pub use_left : (h : Header) (l : SideIs) (v : ℕ) (kind : Kind) (cpu : ℕ) (ma
 unfolding course_after
 use_left h l v kind cpu masks figs = refl
 
-same_masks : (h : Header) (a b : List Mask) → Some (domains_within h.cpus h.distances a) ≡ Some (domains_within h.cpus h.distances b)
+same_masks : (h : Header) (a b : List Mask)
+    → Some (domains_within h.cpus h.distances a) ≡ Some (domains_within h.cpus h.distances b)
     → a ≡ b
 same_masks h a b e = ap (λ (o : Option DomainsWithin). (unwrap_or o (domains_within h.cpus h.distances a)).masks) e
 
@@ -133,10 +134,12 @@ use_read h code read next ticket j v kind cpu masks is le (inr p) = inr (record 
   masks = is ∙ p.masks_are;
 })
 
-pub use_adds : (h : Header) (board : List TableId) (versions : Book) (code : Coded Journal) (l : LaneIs) (side : SideIs) (x : Chosen)
+pub use_adds : (h : Header) (board : List TableId) (versions : Book) (code : Coded Journal) (l : LaneIs) (side : SideIs)
+    (x : Chosen)
     (kind : Kind) (figs : List CpuFig) (ticket : ℕ) → LaneKeeps h board versions code l → IsChosen h l x
     → Drew h l.side side (Adopt x.version kind x.cpu) x.masks figs ticket → figs ≡ [] → side.known.reader ≡ l.side.known.reader
-    → AddsTo h code l (record l { side = side; turned = x.cpu; domains = x.domains }) (Adopt x.version kind x.cpu) x.masks figs ticket
+    → AddsTo h code l (record l { side = side; turned = x.cpu; domains = x.domains }) (Adopt x.version kind x.cpu) x.masks figs
+    ticket
 use_adds h board versions code l side x kind figs ticket k chosen drew none es =
     let c = l.side.course in
     let left = drew.course ∙ use_left h l.side x.version kind x.cpu x.masks figs in

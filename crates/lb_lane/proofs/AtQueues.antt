@@ -9,7 +9,6 @@ use mathlib.Core.Logic.{dite}
 use native.Mathlib.Decide.{ℕ_discrete}
 use Rattle.logbook.specs.Pages.{Book}
 use Rattle.atomic_table.specs.Seated.{TableId}
-use Rattle.lb_base.specs.declared.mask.Mask.{Mask}
 use Rattle.lb_base.specs.declared.shape.Kind.{Kind}
 use Rattle.lb_base.specs.declared.shape.Kind.TheVariants.{Tick as TickTurn, Idle, Nohz}
 use Rattle.lb_base.specs.Sets.{least}
@@ -32,7 +31,7 @@ use Rattle.lb_core.specs.declared.entry.OutcomeWord.TheVariants as words
 use Rattle.lb_core.specs.declared.entry.What.{What}
 use Rattle.lb_core.specs.declared.entry.What.TheVariants as whats
 use Rattle.lb_core.specs.Course.{named_at, is_tick, is_newly, turn_kind}
-use Rattle.lb_core.specs.CourseAfter.{after_sleep, answered, closes, comes_to_rest, course_after, course_by, goes_on, goes_to, is_due_at, kicked, kicks_next, lands, left_idle, takes_off, turn_ends, turn_ends_by}
+use Rattle.lb_core.specs.CourseAfter.{after_sleep, answered, closes, comes_to_rest, course_after, course_by, goes_to, is_due_at, kicked, kicks_next, lands, left_idle, takes_off, turn_ends, turn_ends_by}
 use Rattle.lb_core.specs.Leaving.{Leaving, leaving}
 use Rattle.lb_core.specs.OfTrace.{rows_drawn}
 use Rattle.lb_core.specs.QueueAfter.{cause_of, queue_after}
@@ -42,7 +41,7 @@ use Rattle.lb_ticket.specs.Tickets.{pair}
 use Rattle.lb_journal.specs.Journal.{Journal}
 use Rattle.lb_cell.specs.Kinds.{is_of_lane}
 use Rattle.lb_journal.specs.Owners.{SeatUses}
-use Rattle.lb_board.specs.Board.{Sight, seen_at}
+use Rattle.lb_board.specs.Board.{seen_at}
 use Rattle.lb_seen.proofs.Beginnings.{prefix_length}
 use Rattle.lb_cell.specs.Kinds.{is_of_queue}
 use Rattle.lb_cell.specs.Cells.{CellIs, CellKeeps, LaneIs as SideIs}
@@ -179,7 +178,8 @@ module _ (h : Header) (book : TableId) (board : List TableId) (versions : Book) 
   numbers : (l : LaneIs) (side : SideIs) (c c' : CellIs) (w : What) → LaneKeeps h board versions code l
       → length l.side.course.named ≡ length h.cpus → CellKeeps h book board c → Drew h c c' l.side side w
       → SeesMore l.side.known.reader side.known.reader
-      → side.course.named ≡ set l.side.course.named c.log.writer.cpu (length c.log.seat.list + 1) → (cpu : ℕ) → cpu < length h.cpus
+      → side.course.named ≡ set l.side.course.named c.log.writer.cpu (length c.log.seat.list + 1) → (cpu : ℕ)
+      → cpu < length h.cpus
       → named_at side.course cpu < length (seen_at side.known.reader cpu)
   numbers l side c c' w k long keeps drew sees named cpu lt =
       let own = c.log.writer.cpu in
@@ -205,7 +205,8 @@ module _ (h : Header) (book : TableId) (board : List TableId) (versions : Book) 
       let grows = prefix_length (seen_at l.side.known.reader cpu) (seen cpu) (sees cpu) in
       subst (λ (v : ℕ). v < length (seen cpu)) (sym (get_or-set_other ns own cpu n 0 ne)) (omega (arith, was, grows))))
 
-  pub at_queue : (l : LaneIs) (side : SideIs) (c c' : CellIs) (w : What) → LookSeesMore → SawStays → LaneKeeps h board versions code l
+  pub at_queue : (l : LaneIs) (side : SideIs) (c c' : CellIs) (w : What) → LookSeesMore → SawStays
+      → LaneKeeps h board versions code l
       → length l.side.course.named ≡ length h.cpus → CellKeeps h book board c → is_of_queue w ≡ true
       → is_due l.side.course.form ≡ false → Drew h c c' l.side side w → LaneKeeps h board versions code (record l { side = side })
   at_queue l side c c' w looks stay k long keeps kind due drew =
@@ -242,9 +243,11 @@ module _ (h : Header) (book : TableId) (board : List TableId) (versions : Book) 
       }
 
   -- or it was refused, and nothing was drawn
-  pub at_queue_if : {A E : Type 0} (X : Type 0) (r : Result A E) (l : LaneIs) (side : SideIs) (c c' : CellIs) (w : What) → LookSeesMore → SawStays
+  pub at_queue_if : {A E : Type 0} (X : Type 0) (r : Result A E) (l : LaneIs) (side : SideIs) (c c' : CellIs) (w : What)
+      → LookSeesMore → SawStays
       → LaneKeeps h board versions code l → length l.side.course.named ≡ length h.cpus → CellKeeps h book board c
-      → is_of_queue w ≡ true → is_due l.side.course.form ≡ false → OnOk r (Drew h c c' l.side side w) → OnErr r ((c' ≡ c) × (side ≡ l.side) × X)
+      → is_of_queue w ≡ true → is_due l.side.course.form ≡ false → OnOk r (Drew h c c' l.side side w)
+      → OnErr r ((c' ≡ c) × (side ≡ l.side) × X)
       → LaneKeeps h board versions code (record l { side = side })
   at_queue_if X (Ok x) l side c c' w looks stay k long keeps kind due drew same =
       at_queue l side c c' w looks stay k long keeps kind due drew

@@ -1,5 +1,6 @@
 -- What a lane copies of a version that it vouches for is that version's; and what it keeps stays as it sees more versions.
-use Rattle.std.proofs.Common.{ℕ, ◌≡◌, ◌<◌, ◌≤◌, List, Option, Some, None, Result, Ok, Err, IfOk, IfSome, unwrap_or, length, sym, subst, ap, ◌∙◌, arith}
+use Rattle.std.proofs.Common.{ℕ, ◌≡◌, ◌<◌, ◌≤◌, List, Option, Some, None, Result, Ok, Err, IfOk, IfSome, length, sym, subst, ap, ◌∙◌, arith}
+use Rattle.std.proofs.lemmas.Option.{same_Some}
 use base.Stored.{Coded}
 use mathlib.Core.List.{IsPrefix}
 use Rattle.logbook.specs.Pages.{Book}
@@ -18,15 +19,12 @@ use Rattle.lb_lane.specs.Vouched.{IsVouched}
 use Rattle.lb_lane.specs.Uses.{HasCpu, IsCopyOf, IsChosen}
 use Rattle.lb_lane.proofs.Vouching.{vouches_more}
 
-unwrap_same : (a b : DomainsWithin) → Some a ≡ Some b → a ≡ b
-unwrap_same a b e = ap (λ (o : Option DomainsWithin). unwrap_or o a) e
-
 module _ (h : Header) (board : List TableId) (versions : Book) (code : Coded Journal) where
   pub has_cpu : (l : LaneIs) (cpu : ℕ) → LaneKeeps h board versions code l → cpu < length h.cpus
       → HasCpu l.looker.topologies l.vouched cpu
   has_cpu l cpu k lt = λ v one here t shown.
       let x : IsVouched h code l.side.seat.read l.side.seat.next l.looker.topologies v = k.vouches v one here in
-      let is : domains_within h.cpus h.distances x.masks ≡ t = unwrap_same _ _ (sym x.shown ∙ shown) in
+      let is : domains_within h.cpus h.distances x.masks ≡ t = same_Some _ _ (sym x.shown ∙ shown) in
       let long : length t.all ≡ length h.cpus =
       ap (λ (y : DomainsWithin). length y.all) (sym is) ∙ length-topology_of h.cpus h.distances x.masks in
       subst (λ n. cpu < n) (sym long) lt
@@ -35,12 +33,14 @@ module _ (h : Header) (board : List TableId) (versions : Book) (code : Coded Jou
   pub sees_versions : (l : LaneIs) (looker : VersionsSeen) → LaneKeeps h board versions code l → looker.book ≡ l.looker.book
       → IsPrefix l.looker.topologies looker.topologies → LaneKeeps h board versions code (record l { looker = looker })
   sees_versions l looker k book front =
-      let more : length l.looker.topologies ≤ length looker.topologies = prefix_length l.looker.topologies looker.topologies front in
+      let more : length l.looker.topologies ≤ length looker.topologies =
+      prefix_length l.looker.topologies looker.topologies front in
       record {
         machine = k.machine;
         cells = k.cells;
         looker = book ∙ k.looker;
-        vouches = vouches_more h code l.side.seat.read l.side.seat.next l.looker.topologies looker.topologies l.vouched front k.vouches;
+        vouches =
+            vouches_more h code l.side.seat.read l.side.seat.next l.looker.topologies looker.topologies l.vouched front k.vouches;
         some = k.some;
         seen = let s = k.seen in omega (arith, s, more);
         version = let s = k.version in omega (arith, s, more);
@@ -63,7 +63,7 @@ module _ (h : Header) (board : List TableId) (versions : Book) (code : Coded Jou
       → IsCopyOf l.looker.topologies x → x.version ≡ length l.looker.topologies → x.version ≤ l.vouched → IsChosen h l x
   chosen_one l x k lt c last here =
       let v : IsVouched h code l.side.seat.read l.side.seat.next l.looker.topologies x.version = k.vouches x.version c.one here in
-      let is : c.shown ≡ domains_within h.cpus h.distances v.masks = unwrap_same _ _ (sym c.here ∙ v.shown) in
+      let is : c.shown ≡ domains_within h.cpus h.distances v.masks = same_Some _ _ (sym c.here ∙ v.shown) in
       let masks : v.masks ≡ x.masks = sym (c.masks ∙ ap (λ (y : DomainsWithin). y.masks) is) in
       record {
         copy = record {

@@ -1,14 +1,6 @@
 -- A look over the figures that are due breaks no rule, and what the lane keeps stays.
-use Rattle.std.proofs.Common.{ℕ, ◌≡◌, ◌<◌, ◌≤◌, true, false, not, ◌||◌, List, [], ◌∷◌, Some, None, ltb, length, map, get_or, set, take, refl, sym, subst, ap, ◌∙◌, arith, All}
-use Rattle.std.specs.List.{list_any}
-use Rattle.std.proofs.lemmas.Bool.{le-ltb}
-use Rattle.std.proofs.lemmas.List.{append-nil, get_or-set_same, get_or-set_other, length-set}
-use Rattle.std.proofs.lemmas.Option.{slice_get_within}
-use Rattle.std.proofs.lemmas.List.Elements.{All-map, All-tail}
-use Rattle.std.proofs.lemmas.List.Folds.{list_any_none}
+use Rattle.std.proofs.Common.{ℕ, ◌≡◌, ◌<◌, ◌≤◌, true, false, List, [], None, length, refl, sym, subst, ap, ◌∙◌, arith, All}
 use base.Stored.{Coded}
-use mathlib.Core.Logic.{dite}
-use native.Mathlib.Decide.{ℕ_discrete}
 use Rattle.logbook.specs.Pages.{Book}
 use Rattle.atomic_table.specs.Seated.{TableId}
 use Rattle.lb_base.specs.declared.mask.Mask.{Mask}
@@ -16,8 +8,6 @@ use Rattle.lb_domain.specs.declared.domain.Domain.{Domain}
 use Rattle.lb_domain.specs.Domains.{domains_of, domain_at}
 use Rattle.lb_domain.specs.Parted.{IsParted}
 use Rattle.lb_domain.specs.Laws.{GroupsPart, LieInside}
-use Rattle.lb_imbalance.specs.Destination.{is_busy}
-use Rattle.lb_seen.proofs.Beginnings.{prefix_length}
 use Rattle.lb_base.specs.Mask.{members, without}
 use Rattle.lb_imbalance.specs.declared.decision.Decision.{Decision}
 use Rattle.lb_trace.specs.declared.trace.Header.{Header}
@@ -26,29 +16,25 @@ use Rattle.lb_core.specs.declared.course.Form.{Form}
 use Rattle.lb_core.specs.declared.course.Form.TheVariants as forms
 use Rattle.lb_core.specs.declared.entry.CpuFig.{CpuFig}
 use Rattle.lb_core.specs.declared.entry.FigName.{FigName}
-use Rattle.lb_core.specs.declared.entry.What.{What}
 use Rattle.lb_core.specs.declared.entry.What.TheVariants.{Look}
 use Rattle.lb_core.specs.declared.rule.Rule.{Rule}
 use Rattle.lb_core.specs.declared.rule.Rule.TheVariants.{Ticket, Prev, Stage, Row as RowRule, Place, Reply as ReplyRule, Version, Figure, Decision as DecisionRule, Pick, Flight, Counters as CountersRule, Owed, End}
-use Rattle.lb_core.specs.Same.{same_numbers}
-use Rattle.lb_core.specs.Course.{named_at, turn_domain, turn_domains, turn_kind}
-use Rattle.lb_core.specs.CourseAfter.{course_after, raised_numbers}
+use Rattle.lb_core.specs.Course.{named_at, turn_domain, turn_domains}
+use Rattle.lb_core.specs.CourseAfter.{course_after}
 use Rattle.lb_core.specs.Stage.{stage_allows, draws}
 use Rattle.lb_core.specs.Rules.{breaks_here, figures_due}
-use Rattle.lb_core.specs.Sight.{Sight as StepSight, by_cpu}
+use Rattle.lb_core.specs.Sight.{Sight as StepSight}
 use Rattle.lb_core.specs.Machine.{no_queue}
 use Rattle.lb_journal.specs.Journal.{Journal, names_of}
 use Rattle.lb_board.specs.Board.{Sight, seen_at}
 use Rattle.lb_cell.specs.Cells.{LaneIs as SideIs}
-use Rattle.lb_cell.specs.Reads.{SeesMore}
 use Rattle.lb_cell.specs.Own.{OwnAsks, sight_from, sight_own, entry_own, own_left}
 use Rattle.lb_lane.specs.Lanes.{LaneIs, LaneKeeps, is_due}
-use Rattle.lb_lane.specs.Own.{Drew}
-use Rattle.lb_lane.specs.Figures.{IsRead, AreOf, AllEarlier}
+use Rattle.lb_lane.specs.Figures.{AreOf}
 use Rattle.lb_lane.specs.Looks.{LookAsks, Looked, MayLook, look_due, look_of, looked_at, decides}
 use Rattle.lb_lane.proofs.Drawing.{AddsTo}
 use Rattle.lb_lane.proofs.Naming.{NamesLeft, names_add, names_inside, names_right}
-use Rattle.lb_core.proofs.Equality.{equal_itself, numbers_itself, decision_itself}
+use Rattle.lb_core.proofs.Equality.{equal_itself, decision_itself}
 
 -- the figures of the position in work are due
 due_is : (form : Form) (h : Header) (course : Course) (s : StepSight) → look_due form h course ≡ true
@@ -147,12 +133,11 @@ look_allowed h l m a b n names d figs same due numbers inside are en ed rule =
 pub look_asks : (l m : SideIs) (n : ℕ) (names : List FigName) (d : Decision) (p : ℕ) (x : Mask) (figs : List CpuFig)
     → m.course ≡ l.course → n ≤ 64 → l.course.cpu < n → n ≤ length l.course.named → All (λ f. f.cpu < n) figs
     → names ≡ names_of figs → OwnAsks (Look p x names d) m.course None
-look_asks l m n names d p x figs same few cpu named inside en =
-    (
-      subst (λ (c : Course). c.cpu < 64) (sym same) (omega (arith, few, cpu)),
-      subst (λ (t : Type 0). t) (λ i. All (λ f. f.cpu < length (sym same i).named) (sym en i))
-          (names_inside n l.course.named figs named inside),
-    )
+look_asks l m n names d p x figs same few cpu named inside en = (
+  subst (λ (c : Course). c.cpu < 64) (sym same) (omega (arith, few, cpu)),
+  subst (λ (t : Type 0). t) (λ i. All (λ f. f.cpu < length (sym same i).named) (sym en i))
+      (names_inside n l.course.named figs named inside),
+)
 
 -- ---- what is kept
 look_left : (h : Header) (l : SideIs) (domain : Domain) (figs : List CpuFig)
@@ -174,7 +159,8 @@ look_adds h board versions code l side d k asks room x =
     (look_not_due c.form h c asks.due) refl tt refl
 
 -- ---- a lane may look where its domains were copied
-pub may_look : (h : Header) (board : List TableId) (versions : Book) (code : Coded Journal) (l : LaneIs) → LaneKeeps h board versions code l
+pub may_look : (h : Header) (board : List TableId) (versions : Book) (code : Coded Journal) (l : LaneIs)
+    → LaneKeeps h board versions code l
     → length l.side.course.named ≡ length h.cpus → LookAsks h l → GroupsPart → LieInside → MayLook h (length board) l.side
 may_look h board versions code l k named asks part inside =
     let c = l.side.course in
@@ -202,4 +188,3 @@ may_look h board versions code l k named asks part inside =
       named = omega (arith, named, cells);
       numbers = λ j lt. k.numbers j (subst (λ n. j < n) cells lt);
     }
-

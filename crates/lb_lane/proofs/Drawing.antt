@@ -73,15 +73,20 @@ may_draw h l w own masks figs asks allowed carries names = record {
   carries_figs = names;
 }
 
--- room was made before it
+-- room was made before it, or marked
+pub allowed_after : (h : Header) (l m : SideIs) (w : What) (masks ms : List Mask) (figs : List CpuFig) → SameBut l m → ms ≡ masks
+    → ((rule : Rule) → breaks_here rule (sight_own h l masks figs) (entry_own l w) ≡ false) → (rule : Rule)
+    → breaks_here rule (sight_own h m ms figs) (entry_own m w) ≡ false
+allowed_after h l m w masks ms figs same is all rule =
+    subst (λ (t : Type 0). t)
+    (λ i. breaks_here rule (sight_from h (sym same.course i) (sym is i) figs)
+    (entry_own (record l { number = sym same.number i; known = sym same.known i }) w) ≡ false) (all rule)
+
 pub may_after : (h : Header) (l m : SideIs) (w : What) (masks : List Mask) (figs : List CpuFig) → SameBut l m
     → MayDrawOwn h l w masks figs → MayDrawOwn h m w masks figs
 may_after h l m w masks figs same may = record {
   of_lane = may.of_lane;
-  allowed = λ rule.
-      subst (λ (t : Type 0). t)
-      (λ i. breaks_here rule (sight_from h (sym same.course i) masks figs)
-      (entry_own (record l { number = sym same.number i; known = sym same.known i }) w) ≡ false) (may.allowed rule);
+  allowed = allowed_after h l m w masks masks figs same refl may.allowed;
   carries_masks = may.carries_masks;
   carries_figs = may.carries_figs;
 }
@@ -108,7 +113,8 @@ drew_of h l l' w masks figs ticket d = record {
 
 -- room was made before it
 pub drew_after : (h : Header) (l m l' : SideIs) (w : What) (masks : List Mask) (figs : List CpuFig) (ticket : ℕ) → SameBut l m
-    → (m.seat.read ≡ l.seat.read) × (m.seat.next ≡ l.seat.next) → DrewOwn h m l' w masks figs ticket → Drew h l l' w masks figs ticket
+    → (m.seat.read ≡ l.seat.read) × (m.seat.next ≡ l.seat.next) → DrewOwn h m l' w masks figs ticket
+    → Drew h l l' w masks figs ticket
 drew_after h l m l' w masks figs ticket same view d =
     let item : item_own h m w masks figs ≡ item_own h l w masks figs =
     (λ i. item_own h (record l { number = same.number i; course = same.course i; known = same.known i }) w masks figs) in
@@ -129,7 +135,8 @@ pub drew_since : (h : Header) (l m l' : SideIs) (w : What) (masks : List Mask) (
     → Drew h l l' w masks figs ticket
 drew_since h l m l' w masks figs ticket list course number held landing read next d =
     let item : item_own h m w masks figs ≡ item_own h l w masks figs =
-    (λ i. item_own h (record l { number = number i; course = course i; known = record l.known { ticket = held i } }) w masks figs) in
+    (λ i. item_own h (record l { number = number i; course = course i; known = record l.known { ticket = held i } }) w masks figs)
+    in
     record {
       list = d.list ∙ (λ i. list i ++ record { ticket = ticket; item = item i } ∷ []);
       course = d.course ∙ ap (λ j. j.after) item;
@@ -144,10 +151,12 @@ drew_since h l m l' w masks figs ticket list course number held landing read nex
 rows_append : (es fs : List Entry) → rows_drawn (es ++ fs) ≡ rows_drawn es ++ rows_drawn fs
 rows_append [] fs = refl
 rows_append (e ∷ es) fs =
-    ap (λ l. row_of e.what e.lane ++ l) (rows_append es fs) ∙ sym (append_assoc (row_of e.what e.lane) (rows_drawn es) (rows_drawn fs))
+    ap (λ l. row_of e.what e.lane ++ l) (rows_append es fs)
+    ∙ sym (append_assoc (row_of e.what e.lane) (rows_drawn es) (rows_drawn fs))
 
 pub rows_more : (list more : List (Drawn Journal)) (d : Drawn Journal) → more ≡ list ++ d ∷ []
-    → rows_drawn (map (λ x. x.item.entry) more) ≡ rows_drawn (map (λ x. x.item.entry) list) ++ row_of d.item.entry.what d.item.entry.lane
+    → rows_drawn (map (λ x. x.item.entry) more)
+    ≡ rows_drawn (map (λ x. x.item.entry) list) ++ row_of d.item.entry.what d.item.entry.lane
 rows_more list more d is =
     ap (λ l. rows_drawn (map (λ x. x.item.entry) l)) is
     ∙ (ap rows_drawn (map-append (λ (x : Drawn Journal). x.item.entry) list (d ∷ []))
@@ -157,7 +166,8 @@ rows_more list more d is =
 -- ---- what is kept
 -- what is new of an own entry: the lane has rows now, and the entry's are its next ones; the version that it uses was read,
 -- the figures that it names were seen, and it is no end
-pub record AddsTo (h : Header) (code : Coded Journal) (l l' : LaneIs) (w : What) (masks : List Mask) (figs : List CpuFig) (ticket : ℕ)
+pub record AddsTo (h : Header) (code : Coded Journal) (l l' : LaneIs) (w : What) (masks : List Mask) (figs : List CpuFig)
+    (ticket : ℕ)
     : Type 0 where
   pub looker : l'.looker ≡ l.looker
   pub trace : l'.rows ≡ l.rows
@@ -175,7 +185,8 @@ pub record AddsTo (h : Header) (code : Coded Journal) (l l' : LaneIs) (w : What)
   pub few : AreFew l'.domains
   pub numbers : (cpu : ℕ) → cpu < length h.cpus → named_at l'.side.course cpu < length (seen_at l'.side.known.reader cpu)
 
-pub kept : (h : Header) (board : List TableId) (versions : Book) (code : Coded Journal) (l l' : LaneIs) (w : What) (masks : List Mask)
+pub kept : (h : Header) (board : List TableId) (versions : Book) (code : Coded Journal) (l l' : LaneIs) (w : What)
+    (masks : List Mask)
     (figs : List CpuFig) (ticket : ℕ) → SawStays → LaneKeeps h board versions code l → Drew h l.side l'.side w masks figs ticket
     → AddsTo h code l l' w masks figs ticket → LaneKeeps h board versions code l'
 kept h board versions code l l' w masks figs ticket stays k drew adds =

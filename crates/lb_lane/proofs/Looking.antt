@@ -48,7 +48,8 @@ one_more a b c cpus cpus' figs figs' f cpu ab bc so_far here is ec ef =
     let new : IsRead a c f = record {
       is = here.is;
       later =
-          let s : length (seen_at a f.cpu) ≤ length (seen_at b f.cpu) = prefix_length (seen_at a f.cpu) (seen_at b f.cpu) (ab f.cpu) in
+          let s : length (seen_at a f.cpu) ≤ length (seen_at b f.cpu) =
+          prefix_length (seen_at a f.cpu) (seen_at b f.cpu) (ab f.cpu) in
           let t = here.later in
           omega (arith, s, t);
     } in
@@ -68,7 +69,8 @@ read_since a b c cpus figs ab are = record {
   read = λ i d lt.
       let f : CpuFig = get_or figs i d in
       let r : IsRead b c f = are.read i d lt in
-      let s : length (seen_at a f.cpu) ≤ length (seen_at b f.cpu) = prefix_length (seen_at a f.cpu) (seen_at b f.cpu) (ab f.cpu) in
+      let s : length (seen_at a f.cpu) ≤ length (seen_at b f.cpu) =
+      prefix_length (seen_at a f.cpu) (seen_at b f.cpu) (ab f.cpu) in
       let t = r.later in
       record { is = r.is; later = omega (arith, s, t) };
 }

@@ -1,6 +1,6 @@
 -- An entry that names figures which were read in the same call: none of them is before one that the lane named, and what
 -- the lane keeps stays.
-use Rattle.std.proofs.Common.{ℕ, ◌≡◌, ◌<◌, ◌≤◌, true, false, not, ◌||◌, List, [], ◌∷◌, ◌++◌, ltb, length, map, get_or, set, take, refl, sym, subst, ap, ◌∙◌, arith, All}
+use Rattle.std.proofs.Common.{ℕ, ◌≡◌, ◌<◌, ◌≤◌, false, not, ◌||◌, List, [], ◌∷◌, ◌++◌, ltb, length, map, get_or, set, take, refl, sym, subst, ap, ◌∙◌, arith, All}
 use Rattle.std.specs.List.{list_any}
 use Rattle.std.proofs.lemmas.Bool.{le-ltb}
 use Rattle.std.proofs.lemmas.List.{append-nil, get_or-set_same, get_or-set_other, length-set}
@@ -133,5 +133,6 @@ names_add h board versions code l side due what k room x left late none uses goe
           let below : All (λ f. f.fig.n < length (seen f.cpu)) figs =
           λ i e li. slice_get_within (seen (get_or figs i e).cpu) _ _ (x.read.read i e li).is in
           subst (λ (ns : List ℕ). get_or ns cpu 0 < length (seen cpu)) (sym left.4)
-          (raised figs c.named side.known.reader (length board) room more x.inside below cpu (subst (λ n. cpu < n) (sym k.cells) lt));
+          (raised figs c.named side.known.reader (length board) room more x.inside below cpu
+          (subst (λ n. cpu < n) (sym k.cells) lt));
     }

@@ -1,5 +1,5 @@
 -- What a lane and the publisher behind its lock keep before any entry.
-use Rattle.std.proofs.Common.{ℕ, ◌≡◌, ◌+◌, ◌<◌, ◌≤◌, false, List, [], ◌∷◌, Some, length, map, get_or, replicate, slice_get, take, refl, sym, subst, ap, ◌∙◌, arith, inl, All}
+use Rattle.std.proofs.Common.{ℕ, ◌≡◌, ◌<◌, ◌≤◌, false, List, [], ◌∷◌, Some, length, map, slice_get, take, refl, sym, subst, ap, ◌∙◌, arith, inl, All}
 use Rattle.std.proofs.lemmas.List.{get_or-replicate}
 use Rattle.std.proofs.lemmas.List.Elements.{All-nil}
 use Rattle.std.proofs.lemmas.Option.{slice_get_within}
@@ -7,7 +7,6 @@ use base.Stored.{Coded}
 use Rattle.logbook.specs.Pages.{Book}
 use Rattle.atomic_table.specs.Seated.{TableId}
 use Rattle.lb_levels.specs.Faults.{CanBeRead}
-use Rattle.lb_domain.specs.declared.domain.Domain.{Domain}
 use Rattle.lb_domain.specs.Domains.{domains_of}
 use Rattle.lb_domain.specs.Topologies.{AreFew, DomainsWithin, domains_within}
 use Rattle.lb_topub.specs.Versions.{VersionsSeen}
@@ -27,7 +26,7 @@ use Rattle.lb_board.specs.Board.{seen_at}
 use Rattle.lb_cell.specs.Cells.{LaneIs as SideIs}
 use Rattle.lb_cell.specs.Reads.{Saw}
 use Rattle.lb_lane.specs.Lanes.{LaneKeeps}
-use Rattle.lb_lane.specs.Publishers.{PublisherIs, PublisherKeeps}
+use Rattle.lb_lane.specs.Publishers.{PublisherKeeps}
 use Rattle.lb_lane.specs.Vouched.{Vouches}
 
 -- a lane that took up no version has no domains
@@ -53,13 +52,15 @@ vouches_one h code read next topologies first v one here =
       source = inl (is, refl);
     }
 
-pub new_lane : (h : Header) (board : List TableId) (versions : Book) (code : Coded Journal) (side : SideIs) (looker : VersionsSeen)
+pub new_lane : (h : Header) (board : List TableId) (versions : Book) (code : Coded Journal) (side : SideIs)
+    (looker : VersionsSeen)
     (rows : List TraceRow) → CanBeRead h.cpus h.distances → length board ≡ length h.cpus
     → side.course ≡ opening_course (length h.cpus) → side.seat.list ≡ []
     → ((cpu : ℕ) → cpu < length h.cpus → 0 < length (seen_at side.known.reader cpu)) → looker.book ≡ versions
     → slice_get looker.topologies 0 ≡ Some (domains_within h.cpus h.distances h.parts) → All (λ r. r.lane ≡ side.number) rows
     → All (λ r. is_command h r.command ≡ true) rows → length rows ≤ 100000
-    → LaneKeeps h board versions code (record { side = side; looker = looker; rows = rows; vouched = 1; turned = 0; domains = [] })
+    → LaneKeeps h board versions code
+    (record { side = side; looker = looker; rows = rows; vouched = 1; turned = 0; domains = [] })
 new_lane h board versions code side looker rows machine cells course list seen book first owned declared short =
     let Seen : Drawn Journal → Type 0 = λ d. All (Saw side.known.reader d.ticket) d.item.figs in
     let GoesOn : Drawn Journal → Type 0 = λ d. is_of_lane d.item.entry.what ≡ true in

@@ -22,7 +22,8 @@ use Rattle.lb_lane.specs.Vouched.{IsVouched, Vouches}
 
 module _ (h : Header) (book : TableId) (versions : Book) (code : Coded Journal) where
   first_vouched : (p : PublisherIs) (read : List Held) (next : ℕ) (topologies : List DomainsWithin) (v : ℕ)
-      → PublisherKeeps h book versions p → IsPrefix p.publisher.topologies topologies → v ≡ 1 → IsVouched h code read next topologies v
+      → PublisherKeeps h book versions p → IsPrefix p.publisher.topologies topologies → v ≡ 1
+      → IsVouched h code read next topologies v
   first_vouched p read next topologies v k front is = record {
     masks = h.parts;
     shown =
@@ -66,7 +67,8 @@ module _ (h : Header) (book : TableId) (versions : Book) (code : Coded Journal) 
       ]
 
   -- so it keeps what every lane keeps
-  pub vouched : (board : List TableId) (l : LaneIs) (n : ℕ) → LaneKeeps h board versions code l → 1 ≤ n → n ≤ length l.looker.topologies
+  pub vouched : (board : List TableId) (l : LaneIs) (n : ℕ) → LaneKeeps h board versions code l → 1 ≤ n
+      → n ≤ length l.looker.topologies
       → Vouches h code l.side.seat.read l.side.seat.next l.looker.topologies n
       → LaneKeeps h board versions code (record l { vouched = n })
   vouched board l n k one seen all = record {

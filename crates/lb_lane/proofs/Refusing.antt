@@ -1,6 +1,6 @@
 -- Where nothing was drawn, though the lane has seen, read and marked more, what it keeps stays.
 use mathlib.Core.List.{IsPrefix}
-use Rattle.std.proofs.Common.{true, false, ◌≡◌, ◌≤◌, ◌<◌, Result, Ok, Err, OnErr, List, [], ◌++◌, length, map, take, sym, subst, ap, ◌∙◌, arith, All}
+use Rattle.std.proofs.Common.{false, ◌≡◌, ◌≤◌, ◌<◌, Result, Ok, Err, OnErr, List, [], ◌++◌, length, map, take, sym, subst, ap, ◌∙◌, arith, All}
 use Rattle.std.proofs.lemmas.List.{append-nil}
 use base.Stored.{Coded}
 use Rattle.logbook.specs.Pages.{Book}
@@ -69,7 +69,8 @@ unmoved l r m n sees marks later read same view =
     }
 
 pub still : (h : Header) (board : List TableId) (versions : Book) (code : Coded Journal) (l : LaneIs) (side : SideIs)
-    → SawStays → UsesStay → LaneKeeps h board versions code l → Unmoved l.side side → LaneKeeps h board versions code (record l { side = side })
+    → SawStays → UsesStay → LaneKeeps h board versions code l → Unmoved l.side side
+    → LaneKeeps h board versions code (record l { side = side })
 still h board versions code l side stays use_stays k u =
     let course : l.side.course ≡ side.course = sym u.course in
     let list : l.side.seat.list ≡ side.seat.list = sym u.list in
@@ -80,7 +81,8 @@ still h board versions code l side stays use_stays k u =
       looker = k.looker;
       vouches =
           subst (λ hs. Vouches h code hs side.seat.next l.looker.topologies l.vouched) (sym u.read)
-          (vouches_read h code l.side.seat.read u.more l.side.seat.next side.seat.next l.looker.topologies l.vouched u.next k.vouches);
+          (vouches_read h code l.side.seat.read u.more l.side.seat.next side.seat.next l.looker.topologies l.vouched u.next
+          k.vouches);
       some = k.some;
       seen = k.seen;
       version = subst (λ (c : Course). c.named_version ≤ length l.looker.topologies) course k.version;

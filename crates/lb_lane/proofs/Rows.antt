@@ -1,10 +1,10 @@
 -- The next row of a lane breaks no rule, and is its next in the list.
-use Rattle.std.proofs.Common.{ltb, is_none, None, ℕ, ◌≡◌, ◌+◌, ◌<◌, ◌≤◌, true, false, not, List, [], ◌∷◌, ◌++◌, Option, Some, length, get_or, slice_get, take, unwrap_or, refl, sym, subst, ap, ◌∙◌, arith, All}
+use Rattle.std.proofs.Common.{ltb, is_none, None, Option, true, ℕ, ◌≡◌, ◌+◌, ◌<◌, ◌≤◌, false, not, List, [], ◌∷◌, ◌++◌, Some, length, get_or, slice_get, take, refl, sym, subst, ap, ◌∙◌, arith, All}
 use Rattle.std.specs.Prelude.{◌↔◌}
 use Rattle.std.proofs.lemmas.Bool.{and_parts}
 use Rattle.std.proofs.lemmas.List.{take_more}
 use Rattle.std.proofs.lemmas.List.Elements.{All-nil}
-use Rattle.std.proofs.lemmas.Option.{slice_get-get_or}
+use Rattle.std.proofs.lemmas.Option.{same_Some, slice_get-get_or}
 use base.Stored.{Coded}
 use mathlib.Core.List.{IsPrefix}
 use Rattle.logbook.specs.Pages.{Book}
@@ -64,7 +64,8 @@ pub allowed : (h : Header) (l : SideIs) (at : ℕ) (command : Command) → l.cou
 unfolding stage_allows draws
 allowed h l at command rest declared Stage =
     rw (equal_itself l.number)
-    (subst (λ (f : Form). not (draws f h l.course no_queue l.number (Row (l.course.rows + 1) at command)) ≡ false) (sym rest) refl)
+    (subst (λ (f : Form). not (draws f h l.course no_queue l.number (Row (l.course.rows + 1) at command)) ≡ false) (sym rest)
+    refl)
 allowed h l at command rest declared RowRule = rw (equal_itself (l.course.rows + 1)) declared
 allowed h l at command rest declared Ticket = refl
 allowed h l at command rest declared Prev = refl
@@ -79,20 +80,18 @@ allowed h l at command rest declared CountersRule = refl
 allowed h l at command rest declared Owed = refl
 allowed h l at command rest declared End = refl
 
-unwrap_same : (a b : TraceRow) → Some a ≡ Some b → a ≡ b
-unwrap_same a b e = ap (λ (o : Option TraceRow). unwrap_or o a) e
-
 -- what holds of all rows holds of the one at a place
 pub at_place : (P : TraceRow → Type 0) (rows : List TraceRow) (n : ℕ) (row : TraceRow) → All P rows → slice_get rows n ≡ Some row
     → n < length rows → P row
 at_place P rows n row all here lt =
-    subst P (unwrap_same _ _ (sym (slice_get-get_or rows n row lt) ∙ here)) (all n row lt)
+    subst P (same_Some _ _ (sym (slice_get-get_or rows n row lt) ∙ here)) (all n row lt)
 
 -- one row more
-pub row_more : (rows : List TraceRow) (n lane : ℕ) (row : TraceRow) → slice_get rows n ≡ Some row → row.lane ≡ lane → n < length rows
+pub row_more : (rows : List TraceRow) (n lane : ℕ) (row : TraceRow) → slice_get rows n ≡ Some row → row.lane ≡ lane
+    → n < length rows
     → take n rows ++ row_of (Row (n + 1) row.at row.command) lane ≡ take (n + 1) rows
 row_more rows n lane row here own lt =
-    let is : get_or rows n row ≡ row = unwrap_same _ _ (sym (slice_get-get_or rows n row lt) ∙ here) in
+    let is : get_or rows n row ≡ row = same_Some _ _ (sym (slice_get-get_or rows n row lt) ∙ here) in
     let mine : record { lane = lane; at = row.at; command = row.command } ≡ get_or rows n row =
     (λ i. record { lane = sym own i; at = row.at; command = row.command }) ∙ sym is in
     ap (λ (r : TraceRow). take n rows ++ r ∷ []) mine ∙ sym (take_more rows n row lt)
@@ -108,11 +107,13 @@ allowed_as h l rows at command masks figs rest declared er em ef rule =
 
 -- ---- what is kept
 row_left : (h : Header) (l : SideIs) (n at : ℕ) (command : Command) (masks : List Mask) (figs : List CpuFig)
-    → own_left h l (Row n at command) masks figs ≡ record l.course { form = forms.Asked; rows = n; at = at; command = Some command }
+    → own_left h l (Row n at command) masks figs
+    ≡ record l.course { form = forms.Asked; rows = n; at = at; command = Some command }
 unfolding course_after
 row_left h l n at command masks figs = refl
 
-pub row_adds : (h : Header) (board : List TableId) (versions : Book) (code : Coded Journal) (l : LaneIs) (side : SideIs) (rows at : ℕ)
+pub row_adds : (h : Header) (board : List TableId) (versions : Book) (code : Coded Journal) (l : LaneIs) (side : SideIs)
+    (rows at : ℕ)
     (command : Command) (row : TraceRow) (masks : List Mask) (figs : List CpuFig) (ticket : ℕ) → LaneKeeps h board versions code l
     → Drew h l.side side (Row (rows + 1) at command) masks figs ticket → rows ≡ l.side.course.rows → rows < length l.rows
     → slice_get l.rows rows ≡ Some row → at ≡ row.at → command ≡ row.command → figs ≡ []
@@ -143,7 +144,8 @@ row_adds h board versions code l side rows at command row masks figs ticket k dr
       turns = λ e. k.turns (ap is_due rest) ∙ sym (ap (λ (c : Course). c.cpu) left);
       few = k.few;
       numbers = λ cpu lt.
-          subst (λ (t : Type 0). t) (λ i. named_at (record l.side.course { named = named i }) cpu < length (seen_at (sym es i) cpu))
+          subst (λ (t : Type 0). t) (λ i. named_at (record l.side.course { named = named i })
+          cpu < length (seen_at (sym es i) cpu))
           (k.numbers cpu lt);
       goes_on = refl;
     }

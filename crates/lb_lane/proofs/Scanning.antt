@@ -1,11 +1,10 @@
 -- A scan over the figures that are due breaks no rule, and what the lane keeps stays.
-use Rattle.std.proofs.Common.{ℕ, ◌≡◌, ◌-◌, ◌<◌, ◌≤◌, true, false, not, ◌||◌, List, [], Option, Some, None, ltb, length, map, refl, sym, subst, ap, arith, All}
+use Rattle.std.proofs.Common.{ℕ, ◌≡◌, ◌-◌, ◌<◌, ◌≤◌, false, not, ◌||◌, List, [], Option, Some, None, ltb, length, map, refl, sym, subst, ap, arith, All}
 use Rattle.std.specs.List.{list_any}
 use base.Stored.{Coded}
 use Rattle.logbook.specs.Pages.{Book}
 use Rattle.atomic_table.specs.Seated.{TableId}
-use Rattle.lb_base.specs.declared.mask.Mask.{Mask}
-use Rattle.lb_base.specs.Mask.{has, members}
+use Rattle.lb_base.specs.Mask.{members}
 use Rattle.lb_domain.specs.Laws.{LieInside}
 use Rattle.lb_trace.specs.declared.trace.Header.{Header}
 use Rattle.lb_core.specs.declared.course.Course.{Course}
@@ -18,7 +17,7 @@ use Rattle.lb_core.specs.declared.rule.Rule.{Rule}
 use Rattle.lb_core.specs.declared.rule.Rule.TheVariants.{Ticket, Prev, Stage, Row as RowRule, Place, Reply as ReplyRule, Version, Figure, Decision as DecisionRule, Pick, Flight, Counters as CountersRule, Owed, End}
 use Rattle.lb_core.specs.Same.{same_numbers}
 use Rattle.lb_core.proofs.Equality.{equal_itself, number_itself}
-use Rattle.lb_core.specs.Course.{named_at, turn_domains, widest_span}
+use Rattle.lb_core.specs.Course.{named_at, turn_domains}
 use Rattle.lb_core.specs.CourseAfter.{course_after}
 use Rattle.lb_core.specs.Stage.{stage_allows, draws}
 use Rattle.lb_core.specs.Rules.{breaks_here, figures_due}
@@ -91,7 +90,8 @@ scan_adds h board versions code l side target k due room x =
     (ap is_due due) refl tt refl
 
 -- ---- a lane may scan where its turn's CPU has domains
-pub may_scan : (h : Header) (board : List TableId) (versions : Book) (code : Coded Journal) (l : LaneIs) → LaneKeeps h board versions code l
+pub may_scan : (h : Header) (board : List TableId) (versions : Book) (code : Coded Journal) (l : LaneIs)
+    → LaneKeeps h board versions code l
     → length l.side.course.named ≡ length h.cpus → ScanAsks h l → LieInside → MayScan h (length board) l.side
 may_scan h board versions code l k named asks inside =
     let c = l.side.course in

@@ -1,5 +1,5 @@
 -- A queue may answer the `use` that a lane drew in the same hold of its lock; and whether a push comes first.
-use Rattle.std.proofs.Common.{ℕ, zero, suc, ◌≡◌, ◌<◌, ◌≤◌, Bool, true, false, not, ◌&&◌, IfSome, Option, Some, None, is_some, List, [], ◌∷◌, if◌then◌else◌, get_or, slice_get, length, map, refl, sym, subst, ap, ◌∙◌, arith}
+use Rattle.std.proofs.Common.{ℕ, zero, suc, ◌≡◌, ◌<◌, Bool, true, false, not, ◌&&◌, IfSome, Option, Some, None, is_some, List, [], ◌∷◌, if◌then◌else◌, get_or, slice_get, length, refl, sym, subst, ap, ◌∙◌, arith}
 use Rattle.std.proofs.lemmas.List.{length-map}
 use Rattle.lb_base.specs.declared.shape.Kind.{Kind}
 use Rattle.lb_base.specs.declared.shape.Kind.TheVariants.{Tick}
@@ -65,7 +65,8 @@ in_order [] at all i = tt
 in_order (d ∷ ds) at all zero = all 0 (omega arith)
 in_order (d ∷ ds) at all (suc i) = in_order ds (λ p. at (suc p)) (λ p lt. all (suc p) (omega (arith, lt))) i
 
-pub opening_asks : (h : Header) (c : CellIs) (l m : LaneIs) (x : Chosen) (kind : Kind) (ticket : ℕ) → Adopted h c l m x kind ticket
+pub opening_asks : (h : Header) (c : CellIs) (l m : LaneIs) (x : Chosen) (kind : Kind) (ticket : ℕ)
+    → Adopted h c l m x kind ticket
     → IsChosen h l x → TurnAsks c l x kind → StandInOrder → OpeningAsks h c.queue.state m.side.course
 opening_asks h c l m x kind ticket a chosen asks stand =
     let q : QueueState = c.queue.state in
@@ -80,7 +81,8 @@ opening_asks h c l m x kind ticket a chosen asks stand =
       fit = λ e. rw is at asks.fit e;
     })
 
-pub counters_fit : (h : Header) (c : CellIs) (l m : LaneIs) (x : Chosen) (kind : Kind) (ticket : ℕ) → Adopted h c l m x kind ticket
+pub counters_fit : (h : Header) (c : CellIs) (l m : LaneIs) (x : Chosen) (kind : Kind) (ticket : ℕ)
+    → Adopted h c l m x kind ticket
     → IsChosen h l x → length (turn_domains h m.side.course) ≡ length x.domains
 counters_fit h c l m x kind ticket a chosen =
     ap (λ y. length (turn_domains h y)) (used h c l m x kind ticket a) ∙ ap length (sym chosen.copy.domains)

@@ -153,7 +153,8 @@ unfolding course_after
 left_is h l count v = refl
 
 pub published : (h : Header) (board : List TableId) (versions : Book) (code : Coded Journal) (l : LaneIs) (side : SideIs)
-    (looker : VersionsSeen) (s s' : SeatIs Journal) (v ticket : ℕ) (topologies : List DomainsWithin) → LaneKeeps h board versions code l
+    (looker : VersionsSeen) (s s' : SeatIs Journal) (v ticket : ℕ) (topologies : List DomainsWithin)
+    → LaneKeeps h board versions code l
     → DrewPub h l.side side s s' v ticket → looker.book ≡ l.looker.book → IsPrefix l.looker.topologies looker.topologies
     → IsPrefix topologies looker.topologies → v ≡ length topologies → l.side.course.form ≡ forms.Asked
     → LaneKeeps h board versions code (record l { side = side; looker = looker })
@@ -192,6 +193,7 @@ published h board versions code l side looker s s' v ticket topologies k drew bo
       goes_on = subst (λ (x : SeatIs Journal). All (λ d. is_of_lane d.item.entry.what ≡ true) x.list) seat k.goes_on;
       numbers = λ cpu lt.
           subst (λ (t : Type 0). t)
-          (λ i. named_at (record l.side.course { named = sym (ap (λ (c : Course). c.named) left) i }) cpu < length (seen_at (reader i) cpu))
+          (λ i. named_at (record l.side.course { named = sym (ap (λ (c : Course). c.named) left) i })
+          cpu < length (seen_at (reader i) cpu))
           (k.numbers cpu lt);
     }

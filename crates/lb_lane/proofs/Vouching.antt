@@ -51,7 +51,8 @@ vouches_read h code read more next next' topologies n le all = λ v one here.
     record { masks = x.masks; shown = x.shown; source = source_read h code read more next next' x.masks v le x.source }
 
 -- more versions were seen
-pub vouches_more : (h : Header) (code : Coded Journal) (read : List Held) (next : ℕ) (topologies more : List DomainsWithin) (n : ℕ)
+pub vouches_more : (h : Header) (code : Coded Journal) (read : List Held) (next : ℕ) (topologies more : List DomainsWithin)
+    (n : ℕ)
     → IsPrefix topologies more → Vouches h code read next topologies n → Vouches h code read next more n
 vouches_more h code read next topologies more n front all = λ v one here.
     let x = all v one here in

@@ -25,8 +25,10 @@ pub record TurnAsks (c : CellIs) (l : LaneIs) (x : Chosen) (kind : Kind) : Type 
   pub owed : waits_for_stop kind c.queue.state ≡ false
   pub fit : FitCounters c.queue.state x.version (shapes_of x.domains)
 
--- the lane took up the version, after all that the queue had drawn, and the queue has answered that
+-- no push had to come first: the lane took up the version, after all that the queue had drawn, and the queue has answered
+-- that
 pub record TurnAnswered (h : Header) (c c' : CellIs) (l l' : LaneIs) (x : Chosen) (kind : Kind) (r : TurnReply) : Type 0 where
+  pub served : waits_for_push kind l.side.course c.queue.state ≡ false
   pub mid : LaneIs
   pub ticket : ℕ
   pub adopted : Adopted h c l mid x kind ticket

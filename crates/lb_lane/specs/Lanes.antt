@@ -25,7 +25,8 @@ use Rattle.lb_cell.specs.Cells.{LaneIs as SideIs}
 use Rattle.lb_cell.specs.Reads.{SawAll}
 use Rattle.lb_lane.specs.Vouched.{Vouches}
 
--- it vouches for the first `vouched` versions that it has seen; `domains` are those of the CPU `turned` in the version that the lane used last
+-- it vouches for the first `vouched` versions that it has seen; `domains` are those of the CPU `turned` in the version that
+-- it used last
 pub record LaneIs : Type 0 where
   pub side : SideIs
   pub looker : VersionsSeen

@@ -18,7 +18,7 @@ use std::sync::Wait;
 impl<N: Names + Versions> Lane<N> {
     /// Draws the `use` of a chosen version, in the hold of the lock of the queue that answers it: its ticket is above all
     /// that the queue has drawn. It refuses for want of memory alone, and draws nothing then.
-    pub fn adopt<R: Wait>(
+    pub(crate) fn adopt<R: Wait>(
         &mut self,
         rt: &R,
         alloc: Global,

@@ -1,10 +1,10 @@
 //! The entries that a lane draws at queues for its row: the answer, and tasks that leave and land.
-ghost use Rattle.std.specs.Prelude.{◌≡◌, ◌≤◌, ◌<◌, ◌+◌, ◌-◌, ◌++◌, [], Some, length, map, OnOk, OnErr};
+ghost use Rattle.std.specs.Prelude.{◌≡◌, ◌≤◌, ◌<◌, ◌+◌, ◌-◌, ◌++◌, ◌↔◌, [], Some, length, map, IsTrue, OnOk, OnErr};
+ghost use Rattle.lb_act.specs.Hands.{IsLoaded};
 ghost use Rattle.lb_cell.specs.Cells.{HasRoom};
 ghost use Rattle.lb_cell.specs.Commands.{CanAnswer};
 ghost use Rattle.lb_cell.specs.Draws.{Drew, IsDueAt, Keeps};
-ghost use Rattle.lb_act.specs.Hands.{IsLoaded};
-ghost use Rattle.lb_cell.specs.Hands.{WakesElsewhere};
+ghost use Rattle.lb_cell.specs.Hands.{CanLand, WakesElsewhere};
 ghost use Rattle.lb_cell.specs.Serving.{out_cause, out_target};
 ghost use Rattle.lb_core.specs.declared.course.Form.TheVariants as form;
 ghost use Rattle.lb_core.specs.declared.entry.What.TheVariants as what;
@@ -130,6 +130,13 @@ impl<N: Names + Versions> Lane<N> {
         self.side.keeps();
         cell.keeps();
         cell.serve(rt, alloc, shared, &mut self.side, hand)
+    }
+
+    /// Whether what a landing of the lane's hand asks of the queue holds.
+    pub fn can_land(&self, cell: &Cell<N>, hand: &Hand) -> bool
+        ensures { IsTrue result ↔ CanLand cell.now self.now.side.course hand.now }
+    {
+        cell.can_land(&self.side, hand)
     }
 
     /// The tasks of the lane's hand land at the queue, as by [`Cell::land`].

@@ -1,3 +1,5 @@
+ghost use Rattle.std.specs.Prelude.{◌≡◌, length};
+
 use lb_base::Items;
 use lb_domain::Domain;
 use lb_trace::Masks;
@@ -9,4 +11,13 @@ pub struct Chosen {
     pub(crate) masks: Masks,
     pub(crate) cpu: u32,
     pub(crate) domains: Items<Domain>,
+}
+
+impl Chosen {
+    /// How many domains the CPU has in the version: a turn takes so many counters.
+    pub fn count(&self) -> usize
+        ensures { result ≡ length self.now.domains }
+    {
+        self.domains.len()
+    }
 }

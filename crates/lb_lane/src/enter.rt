@@ -31,7 +31,8 @@ pub(crate) fn enter<N: Names, R: Wait>(
     figs: Figs,
 ) -> Result<u64, NoMemory>
     requires asks { OwnAsks what side.old.course command }
-    requires allowed { (rule : Rule) → breaks_here rule (sight_own N.header side.old masks figs) (entry_own side.old what) ≡ false }
+    requires allowed { (rule : Rule)
+        → breaks_here rule (sight_own N.header side.old masks figs) (entry_own side.old what) ≡ false }
     requires carries { CarriesMasks what masks × CarriesFigs what figs }
     requires range { IsInRange (own_left N.header side.old what masks figs) }
     ensures ok { IfOk result (λ ticket. Drew N.header side.old side.new what masks figs ticket) }

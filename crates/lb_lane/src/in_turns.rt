@@ -1,9 +1,9 @@
 //! The entries that a lane draws at queues in a turn of a CPU: the take of a pull, the close of a position and what it
 //! asks for, the end of the turn, and kicks.
 ghost use Rattle.std.specs.Prelude.{◌≡◌, ◌≤◌, [], Some, true, length, IfOk, IsSome, OnOk, OnErr};
+ghost use Rattle.lb_act.specs.Hands.{IsLoaded};
 ghost use Rattle.lb_cell.specs.Cells.{HasRoom};
 ghost use Rattle.lb_cell.specs.Draws.{Drew, IsDueAt, Keeps};
-ghost use Rattle.lb_act.specs.Hands.{IsLoaded};
 ghost use Rattle.lb_cell.specs.Turns.{CanClose, closing};
 ghost use Rattle.lb_core.specs.declared.course.Form.TheVariants as form;
 ghost use Rattle.lb_core.specs.declared.entry.What.TheVariants as what;

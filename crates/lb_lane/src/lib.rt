@@ -1,5 +1,5 @@
-//! A lane, and the entries that it draws in its own list: rows, looks, scans and uses of versions; and the publisher of
-//! versions behind its lock (docs/rules/threads.md).
+//! A lane, and the entries that it draws: in its own list rows, looks, scans and uses of versions, and at queues what
+//! its course asks for; and the publisher of versions behind its lock (docs/rules/threads.md).
 //!
 //! What a lane names was published before it names it: a figure was seen, and a version's `pub` was read, and the lane's
 //! next ticket stands above the tickets of both.

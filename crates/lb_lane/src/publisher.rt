@@ -2,6 +2,7 @@
 ghost use Rattle.std.specs.Prelude.{◌≡◌, ◌≤◌, ◌++◌, OnOk, length, map};
 ghost use mathlib.Core.List.{IsPrefix};
 ghost use Rattle.lb_cell.specs.Reads.{SameBut};
+ghost use Rattle.lb_lane.specs.Publishers.{PublisherKeeps};
 ghost use Rattle.lb_ticket.specs.Facts.{held_of};
 
 use crate::lane::Lane;
@@ -51,6 +52,14 @@ pub(crate) fn tell<R: Wait>(rt: &R, looker: &mut Looker, publisher: &mut Publish
 }
 
 impl<N: Names + Versions> PublisherCell<N> {
+    /// What is kept behind the lock.
+    pub fn keeps(&self)
+        ensures { PublisherKeeps N.header N.book N.versions self.now }
+    {
+        // reads a field of it, so that what it keeps is known
+        let _seat = &self.seat;
+    }
+
     /// Lets a lane vouch for all versions: it reads the `pub` of each, so that each further ticket of it is above them,
     /// and its looker is told of them.
     pub fn vouch<R: Wait>(&mut self, rt: &R, shared: &Shared<'_, N>, lane: &mut Lane<N>)
@@ -61,7 +70,8 @@ impl<N: Names + Versions> PublisherCell<N> {
         ensures later { lane.old.side.seat.next ≤ lane.new.side.seat.next }
         ensures read { lane.new.side.seat.read
             ≡ lane.old.side.seat.read ++ map (held_of ⟦<Journal as Coding>⟧.coding) self.old.seat.list }
-        ensures rest { (lane.new.rows ≡ lane.old.rows) × (lane.new.turned ≡ lane.old.turned) × (lane.new.domains ≡ lane.old.domains) }
+        ensures rest { (lane.new.rows ≡ lane.old.rows) × (lane.new.turned ≡ lane.old.turned)
+            × (lane.new.domains ≡ lane.old.domains) }
     {
         // what the lane saw and read stays
         saw_stays();

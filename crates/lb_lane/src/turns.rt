@@ -77,7 +77,8 @@ fn fit_counters(queue: &Queue, chosen: &Chosen) -> bool
     ensures { IsTrue result ↔ FitCounters queue.now.state chosen.now.version (shapes_of chosen.now.domains) }
 {
     match queue.all_counters() {
-        Some(counters) if chosen.version == queue.version() => counters.len() == chosen.domains.len(),
+        Some(counters) if chosen.version == queue.version() => counters.len()
+            == chosen.domains.len(),
         _ => true,
     }
 }

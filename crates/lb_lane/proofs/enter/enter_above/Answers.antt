@@ -1,13 +1,12 @@
-use Rattle.std.proofs.Common.{List, ◌≡◌, None, [], false, sym, subst, ap}
+use Rattle.std.proofs.Common.{List, None, [], sym, subst, ap}
 use Rattle.lb_base.specs.declared.mask.Mask.{Mask}
 use Rattle.lb_core.specs.declared.course.Course.{Course}
-use Rattle.lb_core.specs.Rules.{breaks_here}
 use Rattle.lb_journal.specs.Journal.{CarriesMasks}
 use Rattle.lb_cell.specs.Cells.{IsInRange}
-use Rattle.lb_cell.specs.Own.{OwnAsks, sight_from, entry_own, own_left}
+use Rattle.lb_cell.specs.Own.{OwnAsks, own_left}
 use Rattle.lb_lane.specs.Figures.{AllEarlier}
 use Rattle.lb_lane.specs.Own.{Drew, Unmoved}
-use Rattle.lb_lane.proofs.Drawing.{drew_since, range_after}
+use Rattle.lb_lane.proofs.Drawing.{allowed_after, drew_since, range_after}
 use Rattle.lb_lane.proofs.Looking.{sees_self}
 use Rattle.lb_lane.proofs.Naming.{earlier_yet}
 use Rattle.lb_lane.proofs.Refusing.{on_err, unmoved}
@@ -18,12 +17,9 @@ enter-requires-clause-asks g c =
     subst (λ (x : Course). OwnAsks c.args.what x None) (sym c.mark_above_all.ensures.same.course) c.requires.asks
 
 pub enter-requires-clause-allowed : goal.enter-requires-clause-allowed
-enter-requires-clause-allowed g c = λ rule.
-    let s = c.mark_above_all.ensures.same in
-    subst (λ (t : Type 0). t)
-    (λ i. breaks_here rule (sight_from g.N.Names.header (sym s.course i) (sym c.new-masks.ensures i) c.args.figs)
-    (entry_own (record c.args.side.now { number = sym s.number i; known = sym s.known i }) c.args.what) ≡ false)
-    (c.requires.allowed rule)
+enter-requires-clause-allowed g c =
+    allowed_after g.N.Names.header c.args.side.now c.mark_above_all.new.side c.args.what [] c.new-masks.result c.args.figs
+    c.mark_above_all.ensures.same c.new-masks.ensures c.requires.allowed
 
 pub enter-requires-clause-carries : goal.enter-requires-clause-carries
 enter-requires-clause-carries g c =

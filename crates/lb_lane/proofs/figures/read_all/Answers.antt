@@ -17,7 +17,8 @@ loop-next-init g c =
           none_read s.known.reader s.known.reader _ c.new-figs.result
           (walk_starts c.args.due c.first-next.result c.first-next.ensures.cpus) c.new-figs.ensures;
       inside =
-          subst (All (λ f. f.cpu < length g.N.Names.board)) (sym c.new-figs.ensures) (All-nil (λ f. f.cpu < length g.N.Names.board));
+          subst (All (λ f. f.cpu < length g.N.Names.board)) (sym c.new-figs.ensures)
+          (All-nil (λ f. f.cpu < length g.N.Names.board));
     }
 
 pub returns-in_err-push-clause-sees : goal.returns-in_err-push-clause-sees

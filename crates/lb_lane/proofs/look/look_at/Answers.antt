@@ -1,4 +1,4 @@
-use Rattle.std.proofs.Common.{rules, ◌≡◌, ◌∙◌, ◌≤◌, [], true, false, sym, ap, subst, arith}
+use Rattle.std.proofs.Common.{rules, ◌≡◌, ◌∙◌, [], true, false, sym, ap, subst, arith}
 use Rattle.lb_base.specs.Mask.{has, members}
 use Rattle.lb_domain.specs.declared.domain.Domain.{Domain}
 use Rattle.lb_core.specs.declared.entry.What.{What}
@@ -90,8 +90,8 @@ returns-clause-ok g c =
     c.decide_on-decision.ensures
     ∙ (λ i. decides (c.requires.domain i) ((c.course.ensures ∙ s.course) i) (c.as_slice-2.ensures i)) in
     let named : c.in_ok-figures.figures ≡ names_of figs = search rules in
-    let what : Look c.course-2.result.now.position c.course-3.result.now.excluded c.in_ok-figures.figures c.decide_on-decision.result
-    ≡ look_of d l.course figs =
+    let what : Look c.course-2.result.now.position c.course-3.result.now.excluded c.in_ok-figures.figures
+    c.decide_on-decision.result ≡ look_of d l.course figs =
     (λ i. Look ((c.course-2.ensures ∙ s.course) i).position ((c.course-3.ensures ∙ s.course) i).excluded (named i) (decided i)) in
     let next : l.seat.next ≡ r.seat.next = ap (λ (x : SeatIs Journal). x.next) (sym s.seat) in
     let drawn : Drew h r n (look_of d l.course figs) [] figs ticket =
@@ -102,7 +102,8 @@ returns-clause-ok g c =
         inside = c.in_ok-figs.ensures.inside;
         ticket = ticket;
         drew =
-            drew_since h l r n (look_of d l.course figs) [] figs ticket (ap (λ x. x.list) s.seat) s.course s.number s.ticket s.landing
+            drew_since h l r n (look_of d l.course figs) [] figs ticket (ap (λ x. x.list) s.seat) s.course s.number s.ticket
+            s.landing
             (ap (λ x. x.read) s.seat) (omega (arith, next)) drawn;
         read = subst (λ (x : Sight). AreOf l.known.reader x (members (looked_at d l.course)) figs) reader are;
         earlier = c.in_ok-enter_above.ensures.above;

@@ -25,7 +25,8 @@ loop-next-preserved c =
     let m = c.args.group in
     let cpu = c.in-Some.cpu in
     let here : IsAt m cpu = rw c.in-Some.is at c.loop-next.invariant.at in
-    let so_far : c.loop-next.sum ≡ c.args.before + sum_by f (members_below m cpu) = rw c.in-Some.is at c.loop-next.invariant.so_far in
+    let so_far : c.loop-next.sum ≡ c.args.before + sum_by f (members_below m cpu) =
+    rw c.in-Some.is at c.loop-next.invariant.so_far in
     let here_is : c.of.result ≡ f cpu = c.of.ensures ∙ ap (number_of c.args.number) (search rules) in
     let more : sum_by f (members_below m _) ≡ sum_by f (members_below m cpu) + f cpu =
     ap (sum_by f) (walk_steps m cpu c.next_after-next.result here c.next_after-next.ensures.cpus)

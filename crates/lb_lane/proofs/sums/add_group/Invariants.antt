@@ -10,7 +10,8 @@ use Rattle.lb_lane.proofs.sums.add_group.Given as goal
 abbrev pub invariant-loop-next : goal.invariant-loop-next
 invariant-loop-next l = record {
   at : Stands l.group l.next;
-  so_far : l.sum ≡ l.fn.before + sum_by (λ cpu. number_of l.fn.number (fig_at l.figs cpu)) (members_below l.group (passed l.next));
+  so_far : l.sum ≡ l.fn.before + sum_by (λ cpu. number_of l.fn.number (fig_at l.figs cpu))
+      (members_below l.group (passed l.next));
   below : l.sum < 1099511627776;
 }
 

@@ -13,7 +13,8 @@ pub draw-ticket-requires-clause-may : goal.draw-ticket-requires-clause-may
 draw-ticket-requires-clause-may g c =
     let n = g.N.Names in
     let i = c.self.inside in
-    let l : LaneIs = record { side = i.side; looker = i.looker; rows = i.rows; vouched = i.vouched; turned = i.turned; domains = i.domains } in
+    let l : LaneIs =
+    record { side = i.side; looker = i.looker; rows = i.rows; vouched = i.vouched; turned = i.turned; domains = i.domains } in
     let x = c.args.chosen in
     let what = Adopt x.version c.args.kind x.cpu in
     let chosen : IsChosen n.header l x = subst (λ (k : LaneIs). IsChosen n.header k x) (sym c.self.view_is) c.requires.chosen in
@@ -30,7 +31,8 @@ pub draw-ticket-requires-clause-range : goal.draw-ticket-requires-clause-range
 draw-ticket-requires-clause-range g c =
     let n = g.N.Names in
     let i = c.self.inside in
-    let l : LaneIs = record { side = i.side; looker = i.looker; rows = i.rows; vouched = i.vouched; turned = i.turned; domains = i.domains } in
+    let l : LaneIs =
+    record { side = i.side; looker = i.looker; rows = i.rows; vouched = i.vouched; turned = i.turned; domains = i.domains } in
     let x = c.args.chosen in
     let what = Adopt x.version c.args.kind x.cpu in
     let chosen : IsChosen n.header l x = subst (λ (k : LaneIs). IsChosen n.header k x) (sym c.self.view_is) c.requires.chosen in
@@ -47,7 +49,8 @@ invariant_of-self-2 g c =
     let n = g.N.Names in
     let v = g.N.Versions.versions in
     let i = c.self.inside in
-    let l : LaneIs = record { side = i.side; looker = i.looker; rows = i.rows; vouched = i.vouched; turned = i.turned; domains = i.domains } in
+    let l : LaneIs =
+    record { side = i.side; looker = i.looker; rows = i.rows; vouched = i.vouched; turned = i.turned; domains = i.domains } in
     let x = c.args.chosen in
     let what = Adopt x.version c.args.kind x.cpu in
     let chosen : IsChosen n.header l x = subst (λ (k : LaneIs). IsChosen n.header k x) (sym c.self.view_is) c.requires.chosen in
@@ -59,7 +62,8 @@ invariant_of-self-2 g c =
     let figs = c.new-figs.result in
     let ticket = c.draw-ticket.result in
     let drew = drew_of n.header f d what x.masks figs ticket c.draw-ticket.ensures in
-    kept n.header n.board v the_row.coded (record l { side = f }) (record l { side = d; turned = x.cpu; domains = x.domains }) what
+    kept n.header n.board v the_row.coded (record l { side = f }) (record l { side = d; turned = x.cpu; domains = x.domains })
+    what
     x.masks figs ticket c.saw_stays.ensures k drew
     (use_adds n.header n.board v the_row.coded (record l { side = f }) d x c.args.kind figs ticket k
     (chosen_still n.header l f x u.course chosen) drew c.new-figs.ensures c.draw-ticket.ensures.reader)

@@ -15,5 +15,6 @@ invariant_of-self g c =
     subst (λ (k : LaneIs). CanClose n.header k.side.course c.args.cell.now.log.writer.cpu) (sym c.self.view_is) c.requires.due in
     let late = done_not_due l.side.course.form n.header l.side.course due.done in
     at_queue n.header n.book n.board g.N.Versions.versions the_row.coded l c.close.new.lane c.args.cell.now c.close.new.self
-    (closing n.header c.args.cell.now l.side) c.look_sees_more.ensures c.saw_stays.ensures c.self.invariant c.keeps.ensures.named c.keeps-2.ensures
+    (closing n.header c.args.cell.now l.side) c.look_sees_more.ensures c.saw_stays.ensures c.self.invariant c.keeps.ensures.named
+    c.keeps-2.ensures
     refl late c.close.ensures.drew

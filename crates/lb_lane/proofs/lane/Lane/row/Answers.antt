@@ -37,7 +37,8 @@ pub invariant_of-self-2 : goal.invariant_of-self-2
 invariant_of-self-2 g c =
     let n = g.N.Names in
     let i = c.self.inside in
-    let l : LaneIs = record { side = i.side; looker = i.looker; rows = i.rows; vouched = i.vouched; turned = i.turned; domains = i.domains } in
+    let l : LaneIs =
+    record { side = i.side; looker = i.looker; rows = i.rows; vouched = i.vouched; turned = i.turned; domains = i.domains } in
     let rows = c.course.result.now.rows in
     let row = c.get-row.result.now in
     let command = c.in_ok-copy.field-0 in
@@ -46,8 +47,10 @@ invariant_of-self-2 g c =
     subst (λ n. n < length i.rows) (sym er)
     (subst (λ (k : LaneIs). k.side.course.rows < length k.rows) (sym c.self.view_is) c.requires.more) in
     let ticket = c.in_ok-enter.field-0 in
-    kept n.header n.board g.N.Versions.versions the_row.coded l (record l { side = c.enter.new.side }) (Row (rows + 1) row.at command)
+    kept n.header n.board g.N.Versions.versions the_row.coded l (record l { side = c.enter.new.side })
+    (Row (rows + 1) row.at command)
     c.new-masks.result c.new-figs.result ticket c.saw_stays.ensures c.self.invariant (search rules)
     (row_adds n.header n.board g.N.Versions.versions the_row.coded l c.enter.new.side rows row.at command row c.new-masks.result
-    c.new-figs.result ticket c.self.invariant (search rules) er more (search rules) refl (search rules) (search rules) (search rules)
+    c.new-figs.result ticket c.self.invariant (search rules) er more (search rules) refl (search rules) (search rules)
+    (search rules)
     (ap (λ (k : LaneIs). k.side.course.form) c.self.view_is ∙ c.requires.rest))

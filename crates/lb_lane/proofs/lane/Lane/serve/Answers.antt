@@ -13,7 +13,10 @@ invariant_of-self g c =
     let i = c.self.inside in
     let l : LaneIs =
     record { side = i.side; looker = i.looker; rows = i.rows; vouched = i.vouched; turned = i.turned; domains = i.domains } in
-    let late : is_due l.side.course.form ≡ false = ap is_due (ap (λ (k : LaneIs). k.side.course.form) c.self.view_is ∙ c.requires.due.form) in
+    let late : is_due l.side.course.form ≡ false =
+    ap is_due (ap (λ (k : LaneIs). k.side.course.form) c.self.view_is ∙ c.requires.due.form) in
     at_queue_if n.header n.book n.board g.N.Versions.versions the_row.coded _ c.serve.result l c.serve.new.lane c.args.cell.now
-    c.serve.new.self (Out (out_cause c.args.cell.now.queue.state) c.args.hand.now.to (ids c.serve.new.hand.tasks)) c.look_sees_more.ensures
-    c.saw_stays.ensures c.self.invariant c.keeps.ensures.named c.keeps-2.ensures refl late c.serve.ensures.drew c.serve.ensures.refused
+    c.serve.new.self (Out (out_cause c.args.cell.now.queue.state) c.args.hand.now.to (ids c.serve.new.hand.tasks))
+    c.look_sees_more.ensures
+    c.saw_stays.ensures c.self.invariant c.keeps.ensures.named c.keeps-2.ensures refl late c.serve.ensures.drew
+    c.serve.ensures.refused

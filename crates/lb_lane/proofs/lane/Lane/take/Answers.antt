@@ -13,7 +13,9 @@ invariant_of-self g c =
     let i = c.self.inside in
     let l : LaneIs =
     record { side = i.side; looker = i.looker; rows = i.rows; vouched = i.vouched; turned = i.turned; domains = i.domains } in
-    let late : is_due l.side.course.form ≡ false = ap is_due (ap (λ (k : LaneIs). k.side.course.form) c.self.view_is ∙ c.requires.due.form) in
+    let late : is_due l.side.course.form ≡ false =
+    ap is_due (ap (λ (k : LaneIs). k.side.course.form) c.self.view_is ∙ c.requires.due.form) in
     at_queue_if n.header n.book n.board g.N.Versions.versions the_row.coded _ c.take.result l c.take.new.lane c.args.cell.now
     c.take.new.self (Out cause.Pull c.args.hand.now.to (ids c.take.new.hand.tasks)) c.look_sees_more.ensures
-    c.saw_stays.ensures c.self.invariant c.keeps.ensures.named c.keeps-2.ensures refl late c.take.ensures.drew c.take.ensures.refused
+    c.saw_stays.ensures c.self.invariant c.keeps.ensures.named c.keeps-2.ensures refl late c.take.ensures.drew
+    c.take.ensures.refused

@@ -1,9 +1,10 @@
-use Rattle.std.proofs.Common.{rules, ◌≡◌, ◌∙◌, None, false, if◌then◌else◌, length, subst, sym, ap}
+use Rattle.std.proofs.Common.{rules, ◌≡◌, ◌∙◌, None, if◌then◌else◌, subst, sym}
 use Rattle.lb_core.specs.declared.course.Form.TheVariants as forms
 use Rattle.lb_core.specs.Asks.{OpeningAsks}
 use Rattle.lb_core.specs.Stage.{waits_for_push}
 use Rattle.lb_cell.specs.Cells.{CellIs}
-use Rattle.lb_cell.specs.Draws.{IsDueAt, MayAnswerUse}
+use Rattle.lb_cell.specs.Draws.{Drew, IsDueAt, MayAnswerUse}
+use Rattle.lb_cell.specs.Turns.{turn_what}
 use Rattle.lb_lane.proofs.Turning.{answers_now, counters_fit, due_now, no_push, opening_asks}
 use Rattle.lb_lane.proofs.lane.Lane.turn.Goals as goal
 
@@ -34,3 +35,22 @@ answer_use-reply-requires-clause-counters g c =
     c.requires.counters
     ∙ sym (counters_fit g.N.Names.header c.args.cell.now c.args.self.now c.adopt.new.self c.args.chosen c.args.kind
     c.in_ok-adopt.field-0 c.in_ok-adopt.ensures.ok c.requires.chosen)
+
+pub returns-clause-ok : goal.returns-clause-ok
+returns-clause-ok g c =
+    let l = c.args.self.now in
+    let q = c.args.cell.now.queue.state in
+    let none : None ≡ (if waits_for_push c.args.kind l.side.course q then q.active else None) = search rules in
+    let e = c.answer_use-reply.ensures in
+    record {
+      served = no_push c.args.kind l.side.course q none;
+      mid = c.adopt.new.self;
+      ticket = c.in_ok-adopt.field-0;
+      adopted = c.in_ok-adopt.ensures.ok;
+      answered = subst
+          (λ (x : CellIs).
+          Drew g.N.Names.header x c.answer_use-reply.new.cell c.adopt.new.self.side c.answer_use-reply.new.self.side
+          (turn_what c.answer_use-reply.result))
+          c.adopt.ensures.cell e.drew;
+      rest = e.rest;
+    }

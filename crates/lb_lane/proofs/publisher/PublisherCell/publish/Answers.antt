@@ -66,9 +66,11 @@ pub invariant_of-lane : goal.invariant_of-lane
 invariant_of-lane g c =
     let n = g.N.Names in
     let i = c.lane.inside in
-    let l : LaneIs = record { side = i.side; looker = i.looker; rows = i.rows; vouched = i.vouched; turned = i.turned; domains = i.domains } in
+    let l : LaneIs =
+    record { side = i.side; looker = i.looker; rows = i.rows; vouched = i.vouched; turned = i.turned; domains = i.domains } in
     let asks : RebuildAsks n.header l.side.course =
     subst (λ (k : LaneIs). RebuildAsks n.header k.side.course) (sym c.lane.view_is) c.requires.asked in
     published n.header n.board g.N.Versions.versions the_row.coded l c.draw_pub.new.self c.tell.new.looker c.make_room.new.seat
-    c.draw_pub.new.seat c.in_ok-version.version c.draw_pub.result c.publish.new.self.topologies c.lane.invariant c.draw_pub.ensures
+    c.draw_pub.new.seat c.in_ok-version.version c.draw_pub.result c.publish.new.self.topologies c.lane.invariant
+    c.draw_pub.ensures
     c.tell.ensures.book c.tell.ensures.later c.tell.ensures.told c.in_ok-version.ensures.ok.1 asks.form

@@ -24,14 +24,16 @@ invariant_of-lane g c =
     let n = g.N.Names in
     let v = g.N.Versions.versions in
     let i = c.lane.inside in
-    let l : LaneIs = record { side = i.side; looker = i.looker; rows = i.rows; vouched = i.vouched; turned = i.turned; domains = i.domains } in
+    let l : LaneIs =
+    record { side = i.side; looker = i.looker; rows = i.rows; vouched = i.vouched; turned = i.turned; domains = i.domains } in
     let p : PublisherIs = record { publisher = c.self.inside.publisher; seat = c.self.inside.seat } in
     let f = c.follow.new.self in
     let looker = c.tell.new.looker in
     let u = followed l.side l.side f _ (same_self l.side) (refl, refl) c.follow.ensures.same c.follow.ensures.read
     c.follow.ensures.later.0 in
     let k = still n.header n.board v the_row.coded l f c.saw_stays.ensures c.uses_stay.ensures c.lane.invariant u in
-    let k2 = sees_versions n.header n.board v the_row.coded (record l { side = f }) looker k c.tell.ensures.book c.tell.ensures.later in
+    let k2 =
+    sees_versions n.header n.board v the_row.coded (record l { side = f }) looker k c.tell.ensures.book c.tell.ensures.later in
     let is : length p.seat.list ≡ c.len.result =
     sym (c.len.ensures ∙ ap (λ (s : SeatIs Journal). length s.list) c.follow.ensures.other) in
     let all : Vouches n.header the_row.coded f.seat.read f.seat.next looker.topologies (c.len.result + 1) =
