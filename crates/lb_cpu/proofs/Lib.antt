@@ -1,3 +1,5 @@
 mod Numbering
 mod Cutting
 mod Opening
+mod Places
+mod Leaving
