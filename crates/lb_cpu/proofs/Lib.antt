@@ -2,3 +2,8 @@ mod There
 mod Differing
 mod Flying
 mod Taking
+mod Numbering
+mod Cutting
+mod Opening
+mod Places
+mod Leaving

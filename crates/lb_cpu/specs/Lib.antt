@@ -2,3 +2,6 @@ pub mod Cpus
 pub mod Drawn
 pub mod Hands
 pub mod Commands
+pub mod Numbering
+pub mod Blanks
+pub mod Starts
