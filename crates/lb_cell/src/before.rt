@@ -1,3 +1,4 @@
+//! The cell and the lane as they were before an entry, for the draw at its end.
 ghost use Rattle.std.specs.Prelude.{◌≡◌};
 
 use crate::cell::Cell;

@@ -1,3 +1,4 @@
+//! What stands behind the lock of a queue, as a type; the calls on it stand in the files beside.
 use crate::names::Names;
 use crate::parts::CellParts;
 use lb_queue::Queue;

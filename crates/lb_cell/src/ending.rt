@@ -1,4 +1,4 @@
-//! A cell and a lane are taken apart at the end.
+//! For the closing of the ticket book: a cell gives back its queue, seat and writer, a lane its seat and reader.
 ghost use Rattle.std.specs.Prelude.{◌≡◌, ◌++◌};
 ghost use Rattle.lb_ticket.specs.Seats.{KeepsList};
 ghost use Rattle.lb_cell.specs.Cells.{CellKeeps, LaneKeeps};

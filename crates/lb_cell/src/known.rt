@@ -1,3 +1,4 @@
+//! What a lane holds of its last entry, and what it has seen of the figures.
 use lb_board::Reader;
 use lb_ticket::Note;
 

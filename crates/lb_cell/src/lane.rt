@@ -1,3 +1,4 @@
+//! A lane's side of the entries that it draws, as a type; what a whole lane has is `lb_lane`'s type of that name.
 use crate::names::Names;
 use crate::parts::LaneParts;
 use lb_core::Course;

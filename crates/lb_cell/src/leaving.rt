@@ -1,4 +1,4 @@
-//! Tasks that leave a queue: by a wake that has to happen elsewhere.
+//! Tasks that leave a queue: by a wake that has to happen elsewhere, and the `out` of any cause.
 ghost use Rattle.std.specs.Prelude.{◌≡◌, ◌<◌, ◌+◌, ◌^◌, [], length, OnOk, OnErr};
 ghost use Rattle.lb_queue.specs.Tasks.{ids};
 ghost use Rattle.lb_queue.specs.declared.answers.OutCause.TheVariants as cause;

@@ -1,7 +1,7 @@
 //! A run queue with its entries and its published figures, as they stand behind one lock, and a lane's side of each
 //! entry that it draws there (docs/rules/threads.md).
 //!
-//! Each call of a [`Cell`] draws one entry: the queue makes its step, the entry joins the queue's list at the next
+//! Each call of a [`Cell`] that draws, draws one entry: the queue makes its step, the entry joins the queue's list at the next
 //! ticket, the queue's new figure is published, and the lane goes on along its course.
 #![tactic(auto)]
 

@@ -1,3 +1,4 @@
+//! A queue's list of entries with its published figures.
 use lb_board::Writer;
 use lb_journal::Journal;
 use lb_ticket::Seat;

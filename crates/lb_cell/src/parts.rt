@@ -1,3 +1,5 @@
+//! The fields of a cell and of a lane as plain values. A call changes them step by step, and only what it leaves is a cell
+//! or a lane again.
 use crate::known::Known;
 use crate::log::Log;
 use lb_core::{Course, Ids};

@@ -1,3 +1,4 @@
+//! What all threads share, as one value that is handed to each call.
 ghost use Rattle.std.specs.Prelude.{◌≡◌, ◌≤◌, length};
 ghost use Rattle.lb_base.specs.declared.mask.TheConstants.{MAX_CPUS};
 

@@ -98,12 +98,7 @@ impl<N: Names + Versions> Cpus<N> {
     }
 
     // The publisher answers.
-    fn rebuild<R: Wait>(
-        &self,
-        rt: &R,
-        alloc: Global,
-        lane: &mut Lane<N>,
-    ) -> Result<Reply, NoMemory>
+    fn rebuild<R: Wait>(&self, rt: &R, alloc: Global, lane: &mut Lane<N>) -> Result<Reply, NoMemory>
         requires { RebuildAsks N.header lane.old.side.course }
         ensures ok { IfOk result (λ reply.
             MadeVersion N.header N.book N.versions ⟦<Journal as Coding>⟧.coding lane.old lane.new reply) }
