@@ -1,3 +1,4 @@
+//! What a lane copies of a version for a turn.
 ghost use Rattle.std.specs.Prelude.{◌≡◌, length};
 
 use lb_base::Items;

@@ -1,3 +1,4 @@
+//! A lane, as a type: its side of the entries at queues, and what it has beside it.
 use crate::versions::Versions;
 use lb_base::Items;
 use lb_cell::{Lane as Side, Names};
