@@ -1,4 +1,4 @@
 mod There
 mod Differing
 mod Flying
-mod Taking
+mod InService

@@ -6,10 +6,17 @@
 #![tactic(auto)]
 
 mod booking;
+mod closing;
 mod command;
 mod cpus;
+mod due;
 mod landing;
 mod locks;
+mod looking;
+mod requests;
+mod serving;
+mod taking;
+mod turning;
 mod waking;
 
 pub use cpus::Cpus;
