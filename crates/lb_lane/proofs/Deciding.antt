@@ -73,7 +73,7 @@ draws_look forms.ScanDue h course lane p x names d e = absurd (cc e)
 draws_look forms.Kicking h course lane p x names d e = absurd (cc e)
 draws_look forms.Ended h course lane p x names d e = absurd (cc e)
 
-look_not_due : (form : Form) (h : Header) (course : Course) → look_due form h course ≡ true → is_due form ≡ false
+pub look_not_due : (form : Form) (h : Header) (course : Course) → look_due form h course ≡ true → is_due form ≡ false
 look_not_due forms.Rest h course e = refl
 look_not_due forms.Position h course e = refl
 look_not_due forms.Landed h course e = refl

@@ -14,3 +14,4 @@ mod Versioning
 mod AtQueues
 mod Turning
 mod Opening
+mod DueNow

@@ -10,6 +10,7 @@ mod at_queues;
 mod choose;
 mod chosen;
 mod domains;
+mod due;
 mod ending;
 mod enter;
 mod figures;
