@@ -1,5 +1,5 @@
 pub mod Answering
-pub mod Lists
+pub mod Tests
 pub mod Opened
 pub mod Outgoing
 pub mod Pushing

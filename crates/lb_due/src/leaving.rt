@@ -2,16 +2,16 @@
 ghost use Rattle.std.specs.Prelude.{◌≡◌, ℕ, IfOk, Some, false};
 ghost use Rattle.lb_queue.specs.Tasks.{ids};
 ghost use Rattle.lb_queue.specs.Requests.{next_stop};
-ghost use Rattle.lb_queue.specs.Values.{views};
 ghost use Rattle.lb_core.specs.Leaving.{out_by, stop_out, push_out, pull_out, wake_out};
 ghost use Rattle.lb_due.specs.Outs.{out_due};
 ghost use Rattle.lb_engine.specs.Asks.{PullAsks};
 
 use crate::turns::env_due;
+use lb_act::{picks_of, views_of};
 use lb_active::active_pick;
-use lb_base::{Items, NoMemory, TaskView};
+use lb_base::{Items, NoMemory};
 use lb_core::{Course, Form, Ids, What};
-use lb_detach::{Env, Picked, picks};
+use lb_detach::Env;
 use lb_engine::Engine;
 use lb_queue::laws::pulls_follow_picks;
 use lb_queue::{OutCause, Queue};
@@ -89,17 +89,6 @@ fn wake_due(
     }
 }
 
-// The awake tasks of a queue, as a pull sees them.
-fn views_of(alloc: Global, queue: &Queue, at: u64) -> Result<Vec<TaskView>, NoMemory>
-    ensures { IfOk result (λ list. list.items ≡ views queue.now.state at) }
-{
-    let mut views = Vec::with_capacity(alloc, queue.len() as usize)?;
-    for i in 0..queue.len() {
-        views.push_reserved(queue.view(at, i));
-    }
-    Ok(views)
-}
-
 // The push that is due.
 fn push_due(alloc: Global, queue: &Queue, at: u64) -> Result<Option<Out>, NoMemory>
     ensures { IfOk result (λ due. due ≡ out_due (push_out queue.now.state.active at queue.now.state)) }
@@ -128,9 +117,7 @@ fn pull_due(alloc: Global, queue: &Queue, at: u64, env: &Env) -> Result<Option<O
 {
     // the tasks that are picked leave
     pulls_follow_picks();
-    let views = views_of(alloc, queue, at)?;
-    let mut picked = Picked::new(alloc, views.len())?;
-    picks(&views, env, &mut picked);
+    let picked = picks_of(alloc, queue, at, env)?;
     Ok(Some(Out {
         cause: OutCause::Pull,
         to: env.to,

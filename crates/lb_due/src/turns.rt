@@ -1,7 +1,7 @@
 //! What the turn of a course fixes: its positions, and how one of them ends.
-ghost use Rattle.std.specs.Prelude.{◌≡◌, [], false, is_some, unwrap_or};
+ghost use Rattle.std.specs.Prelude.{◌≡◌, false, is_some};
 ghost use Rattle.lb_imbalance.specs.Decision.{decision};
-ghost use Rattle.lb_queue.specs.Turns.{opens, counters_at, open_kind};
+ghost use Rattle.lb_queue.specs.Turns.{opens};
 ghost use Rattle.lb_core.specs.Course.{env_of, looks_again, outcome_of, turn_domain, turn_domains, shapes_of, turn_kind};
 ghost use Rattle.lb_core.specs.Rules.{closed_counters, figures_due, positions_due, word_of};
 ghost use Rattle.lb_core.specs.Sight.{Sight};
@@ -10,14 +10,15 @@ ghost use Rattle.lb_ready.specs.Next.{bare};
 ghost use Rattle.lb_turn.specs.Turns.{HasDue, MayDecide};
 ghost use Rattle.lb_engine.specs.Asks.{HasTurn, HasPosition};
 
-use lb_base::{Fig, Kind, Mask};
+use lb_act::counters_left;
+use lb_base::{Fig, Mask};
 use lb_core::{Course, OutcomeWord, What};
 use lb_course::turn_kind;
 use lb_detach::Env;
 use lb_engine::Engine;
 use lb_imbalance::Decision;
-use lb_interval::{Counters, after};
-use lb_queue::{NANOSECONDS_PER_MILLISECOND, Queue, TurnReply, tries};
+use lb_interval::Counters;
+use lb_queue::{Queue, TurnReply};
 use lb_turn::{Turn, flag, word_of};
 
 // The turn of a course.
@@ -82,47 +83,19 @@ pub fn positions_due(engine: &Engine, course: &Course, queue: &Queue) -> Mask
 }
 
 /// The counters that the position in work leaves, if it ends now.
-#[tactic(auto, unfolding(lb_core::specs::Rules::closed_counters, lb_queue::specs::Turns::counters_closed))]
+#[tactic(auto, unfolding(lb_core::specs::Rules::closed_counters))]
 pub fn counters_due(engine: &Engine, course: &Course, queue: &Queue) -> Counters
     requires { HasPosition engine.now.machine course.now }
     ensures { result ≡ closed_counters (bare engine.now.machine course.now queue.now.state) }
 {
     let turn = turn_of(engine, course);
-    let shape = turn.shape();
-    after(
-        &counters_of(queue, shape.position),
-        kind_of_turn(queue),
+    counters_left(
+        queue,
+        course.at,
+        &turn.shape(),
         turn.outcome(),
         flag(course),
-        shape.span.weight(),
-        tries(shape.name),
-        queue.clock().max(course.at) / NANOSECONDS_PER_MILLISECOND,
     )
-}
-
-// The queue's counters of a position, or zeros where it has none.
-fn counters_of(queue: &Queue, position: u32) -> Counters
-    ensures { result ≡ counters_at (unwrap_or queue.now.state.counters []) position }
-{
-    match queue.counters(position) {
-        Some(counters) => counters,
-        None => Counters {
-            last: 0,
-            interval: 0,
-            failures: 0,
-            imb: false,
-        },
-    }
-}
-
-// The kind of the open turn; a tick's where none is open.
-fn kind_of_turn(queue: &Queue) -> Kind
-    ensures { result ≡ open_kind queue.now.state.open_turn }
-{
-    match queue.open_turn() {
-        Some(turn) => turn.kind,
-        None => Kind::Tick,
-    }
 }
 
 /// The CPUs whose figures are due.

@@ -1,7 +1,6 @@
 pub mod Queues
 pub mod Serving
 pub mod Publishing
-pub mod Opening
 pub mod Leaving
 pub mod Settling
 pub mod Fitting
@@ -9,6 +8,7 @@ pub mod Starting
 pub mod Turning
 pub mod Figures
 pub mod Booking
+pub mod Counted
 pub mod Answering
 pub mod Taking
 pub mod Hands

@@ -46,6 +46,10 @@ tasks_for cpu (Some h) = if h.to == cpu then length h.tasks else 0
 abbrev pub held_for : ℕ → List (Option HandState) → ℕ
 held_for cpu hands = sum_by (tasks_for cpu) hands
 
+-- how many tasks all lanes have in hand
+abbrev pub in_hands : List Course → ℕ
+in_hands courses = sum_by (λ c. length c.hand) courses
+
 -- each lane has a hand or none, as its course says, and at each queue just as many landings are booked as the
 -- hands that go there hold
 pub record HandsFit (p : Held) : Type 0 where

@@ -1,6 +1,6 @@
 -- What the step of an entry asks of the engine, by its owner and its kind; and what it does to hands and
 -- bookings.
-use Rattle.std.specs.Prelude.{◌≡◌, ℕ, ◌<◌, ◌≤◌, Bool, true, false, is_some, IsSome, IsSomeAnd, All, List, length}
+use Rattle.std.specs.Prelude.{◌≡◌, ℕ, ◌+◌, ◌^◌, ◌<◌, ◌≤◌, Bool, true, false, is_some, IsSome, IsSomeAnd, All, List, length}
 use Rattle.lb_base.specs.declared.mask.TheConstants.{MAX_CPUS}
 use Rattle.lb_queue.specs.declared.answers.OutCause.{OutCause}
 use Rattle.lb_queue.specs.Queue.{QueueState}
@@ -18,7 +18,7 @@ use Rattle.lb_core.specs.Machine.{MachineState, course_at, queue_at, figures_at,
 use Rattle.lb_core.specs.Placed.{is_flight}
 use Rattle.lb_core.specs.Asks.{CommandAsks, LandingAsks, OpeningAsks}
 use Rattle.lb_engine.specs.Asks.{TicksBelow, IsMapped, RebuildAsks, HasTurn, HasPosition, PullAsks, IsPublished}
-use Rattle.lb_engine.specs.Held.{Held, hand_at}
+use Rattle.lb_engine.specs.Held.{Held, hand_at, in_hands}
 use Rattle.lb_engine.specs.Leaves.{IsDue, HasTakenOff, HasLanded}
 use Rattle.lb_engine.specs.Steps.{of_queue}
 
@@ -50,12 +50,14 @@ pub record AnswerAsks (m : MachineState) (q : QueueState) (c : Course) : Type 0 
   pub command : CommandAsks c.command q
   pub mapped : IsMapped m q (task_of c.command)
 
--- the `out` is the one that is due, goes to a CPU of the machine, and its tasks are declared
+-- the `out` is the one that is due, goes to a CPU of the machine, and its tasks are declared; and all tasks in hand
+-- are few
 pub record OutAsks (m : MachineState) (cpu lane : ℕ) (cause : OutCause) (target : ℕ) (tasks : List ℕ) : Type 0 where
   pub due : IsDue (leaving (sight m (of_queue cpu lane (Out cause target tasks)))) cause target (length tasks)
   pub to : target < length m.queues
   pub pull : PullAsks (course_at m.courses lane).form m (course_at m.courses lane)
   pub places : All (λ t. t < length m.places) tasks
+  pub few : in_hands m.courses + length tasks < 2 ^ 32
 
 -- the tasks of the hand come to this queue, and are declared
 pub record LandedStepAsks (m : MachineState) (q : QueueState) (cpu : ℕ) (c : Course) (tasks : List ℕ) : Type 0 where

@@ -1,7 +1,6 @@
 mod Premises
 mod Missing
 mod Kept
-mod Drawing
 mod Closed
 mod ClosedStop
 mod ClosedLook

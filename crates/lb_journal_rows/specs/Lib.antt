@@ -1,4 +1,3 @@
 pub mod Lists
 pub mod Seats
-pub mod Drawing
 pub mod Missing

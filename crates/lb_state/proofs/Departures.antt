@@ -1,8 +1,8 @@
 -- What the step of an `out` asks, where it may be added to a ready machine: it is the one that is due, and goes
--- to a CPU of the machine with tasks that are declared. The machine after it is ready too, and has them in
--- the hand of a lane in flight.
-use Rattle.std.proofs.Common.{arith, ◌≡◌, ℕ, ◌+◌, ◌<◌, Bool, true, false, List, length, map, set, Option, Some, None, refl, sym, ◌∙◌, ap, subst, not, get_or-set_same}
-use Rattle.std.specs.Prelude.{All, ◌==◌, ◌||◌}
+-- to a CPU of the machine with tasks that are declared, and few. The machine after it is ready too, and has them
+-- in the hand of a lane in flight.
+use Rattle.std.proofs.Common.{arith, ◌≡◌, ℕ, ◌+◌, ◌<◌, ◌≤◌, false, List, length, Option, Some, None, refl, sym, ◌∙◌, ap, subst, get_or-set_same}
+use Rattle.std.specs.Prelude.{All}
 use Rattle.std.proofs.lemmas.Bool.{or_parts, eqb-true, not-false}
 use Rattle.std.proofs.lemmas.List.{length-map}
 use Rattle.lb_queue.specs.declared.answers.OutCause.{OutCause}
@@ -12,14 +12,13 @@ use Rattle.lb_trace.specs.declared.trace.Header.{Header}
 use Rattle.lb_core.specs.declared.course.Course.{Course}
 use Rattle.lb_core.specs.declared.entry.Owner.TheVariants.{Queue}
 use Rattle.lb_core.specs.declared.entry.What.TheVariants.{Out}
+use Rattle.lb_core.specs.declared.place.Place.TheVariants.{Hand as HandOf}
 use Rattle.lb_core.specs.declared.rule.Rule.TheVariants.{Pick}
 use Rattle.lb_core.specs.CourseAfter.{takes_off, drew, course_after}
 use Rattle.lb_core.specs.Leaving.{Leaving, leaving}
 use Rattle.lb_core.specs.Legal.{MayBeAdded}
 use Rattle.lb_core.specs.Machine.{MachineState, course_at, no_course, sight}
-use Rattle.lb_core.specs.Placed.{IsPlaced}
 use Rattle.lb_core.specs.Rules.{is_other_out}
-use Rattle.lb_core.specs.Same.{same_cause, same_numbers}
 use Rattle.lb_core.specs.Step.{after}
 use Rattle.lb_core.proofs.Equality.{cause_is, numbers_same}
 use Rattle.lb_core.proofs.Placing.{entry, lane_there}
@@ -28,6 +27,7 @@ use Rattle.lb_ready.specs.Ready.{IsReady, Fits}
 use Rattle.lb_engine.specs.Leaves.{IsOut, IsDue}
 use Rattle.lb_engine.specs.Steps.{of_queue}
 use Rattle.lb_engine.specs.Takes.{OutAsks}
+use Rattle.lb_state.proofs.Counted.{few_at, few_in_hands}
 use Rattle.lb_state.proofs.QueueEntries.{pull_asks, each_declared}
 
 -- ---- the one that is due
@@ -83,6 +83,13 @@ goes_inside : (m : MachineState) (lane cpu n : ℕ) (l : Leaving) (c : Course) �
     → course_at m.courses lane ≡ drew (Queue cpu) n (takes_off (Some l) c) → l.to < length m.header.cpus
 goes_inside m lane cpu n l c k is = (subst (Fits m.ended m.header m.ticket) is (k.fits lane)).form
 
+holds_few : (m : MachineState) (lane cpu n : ℕ) (l : Leaving) (c : Course) → IsReady m
+    → course_at m.courses lane ≡ drew (Queue cpu) n (takes_off (Some l) c) → length (ids l.hand) ≤ 4096
+holds_few m lane cpu n l c k is =
+    let few = subst (λ (x : Course). length (ids x.hand) ≤ length m.header.tasks) is (few_at m (HandOf lane) k.placed) in
+    let tasks = k.accepted.most_tasks in
+    omega (arith, few, tasks)
+
 holds_declared : (m : MachineState) (lane cpu n : ℕ) (l : Leaving) (c : Course) → IsReady m
     → course_at m.courses lane ≡ drew (Queue cpu) n (takes_off (Some l) c) → All (λ t. t < length m.places) (ids l.hand)
 holds_declared m lane cpu n l c k is = subst (λ (x : Course). All (λ t. t < length m.places) (ids x.hand)) is
@@ -120,4 +127,10 @@ out_asks m cpu lane prev cause to tasks k h later =
       pull = pull_asks (course_at m.courses lane).form m lane k (k.turns lane);
       places = subst (λ (x : ℕ). All (λ t. t < x) tasks) places
           (subst (All (λ t. t < length m'.places)) (sym said.tasks_are) (holds_declared m' lane cpu n said.one c later is));
+      few = (
+          let hands = few_in_hands m k in
+          let count = ap length said.tasks_are in
+          let more = holds_few m' lane cpu n said.one c later is in
+          omega (arith, hands, count, more)
+          );
     }

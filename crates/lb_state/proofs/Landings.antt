@@ -1,12 +1,12 @@
 -- The hands of a ready machine can land: each goes to a CPU of the machine, where its landings are booked, and
 -- no task stands twice, in a hand or on a queue.
-use Rattle.std.proofs.Common.{arith, ◌≡◌, ℕ, zero, suc, ◌+◌, ◌<◌, ◌≤◌, Bool, true, false, cond, List, [], ◌∷◌, length, get_or, Option, Some, None, refl, sym, ◌∙◌, ap}
-use Rattle.std.specs.Prelude.{All, IfSome, ◌==◌}
+use Rattle.std.proofs.Common.{arith, ◌≡◌, ℕ, zero, suc, ◌+◌, ◌<◌, ◌≤◌, Bool, true, false, cond, List, [], ◌∷◌, length, Option, Some, None, refl, ◌∙◌, ap}
+use Rattle.std.specs.Prelude.{IfSome, ◌==◌}
 use Rattle.std.proofs.lemmas.Bool.{and_parts, eqb-true}
 use Rattle.std.proofs.lemmas.List.{get_or_default}
 use Rattle.std.proofs.lemmas.List.Sums.{sum_by-cons}
 use Rattle.lb_queue.specs.Hands.{HandState}
-use Rattle.lb_queue.specs.Tasks.{ids, awake_ids, occurs}
+use Rattle.lb_queue.specs.Tasks.{ids, occurs}
 use Rattle.lb_queue.specs.declared.record.TaskRecord.{TaskRecord}
 use Rattle.lb_trace.specs.declared.trace.Header.{Header}
 use Rattle.lb_core.specs.declared.course.Course.{Course}
@@ -15,12 +15,13 @@ use Rattle.lb_core.specs.declared.course.Form.TheVariants.{Flight}
 use Rattle.lb_core.specs.declared.place.Place.{Place}
 use Rattle.lb_core.specs.declared.place.Place.TheVariants.{Awake as AwakeAt, Asleep as AsleepAt, Gone as GoneAt, Hand as HandOf}
 use Rattle.lb_core.specs.Machine.{MachineState, course_at, queue_at, place_at}
-use Rattle.lb_core.specs.Placed.{is_flight, is_its_place, times, standing, IsPlaced}
+use Rattle.lb_core.specs.Placed.{is_flight, is_its_place, times, IsPlaced}
 use Rattle.lb_core.specs.Same.{same_place}
 use Rattle.lb_ready.specs.Ready.{IsReady, FitsForm, unnamed}
-use Rattle.lb_engine.specs.Held.{Held, HandsFit, Holds, hand_at}
-use Rattle.lb_engine.specs.Ending.{CanLand, times_in, times_held, times_queued}
+use Rattle.lb_engine.specs.Held.{Holds, hand_at}
+use Rattle.lb_engine.specs.Ending.{times_in, times_held, times_queued}
 use Rattle.lb_state.specs.Laws.{HandsMayLand}
+use Rattle.lb_state.proofs.Counted.{once}
 
 -- ---- where hands go
 flies_inside : (f : Form) (ended : Bool) (h : Header) (c : Course) → is_flight f ≡ true → FitsForm ended h f c → c.to < length h.cpus
@@ -33,7 +34,7 @@ goes m lane None k held = tt
 goes m lane (Some h) k held =
     let inside = flies_inside (course_at m.courses lane).form m.ended m.header
     (unnamed (course_at m.courses lane)) held.flight (k.fits lane).form in
-    let to = held.to in
+    let to = held.loaded.to in
     let queues = k.sizes.queues in
     omega arith
 
@@ -48,19 +49,12 @@ never m p q t placed e n = by_test (is_its_place m p t) refl (placed.once p t)
         absurd (let b : same_place p q ≡ true = rw e at a in let z : ⊥ = cc in z)
     by_test false y o = o ∙ rw y refl
 
-once : (m : MachineState) (p : Place) (t : ℕ) → IsPlaced m → times m p t ≤ 1
-once m p t placed = by_test (is_its_place m p t) (placed.once p t)
-  where
-    by_test : (b : Bool) → times m p t ≡ cond {A = ℕ} b 1 0 → times m p t ≤ 1
-    by_test true o = omega arith
-    by_test false o = omega arith
-
 -- in a hand as often as in the hand of its course, or not at all
 in_hand : (m : MachineState) (lane t : ℕ) (hand : Option HandState) → Holds hand (course_at m.courses lane)
     → times_in t hand ≤ times m (HandOf lane) t
 in_hand m lane t None held = omega arith
 in_hand m lane t (Some h) held = let e : times_in t (Some h) ≡ times m (HandOf lane) t =
-    ap (λ (x : List TaskRecord). occurs t (ids x)) held.tasks in omega arith
+    ap (λ (x : List TaskRecord). occurs t (ids x)) held.loaded.tasks in omega arith
 
 -- ---- over all hands
 all : (t : ℕ) (h : Option HandState) (hs : List (Option HandState)) → times_in t h ≤ 0 → times_held t hs ≡ 0 → times_held t (h ∷ hs) ≡ 0

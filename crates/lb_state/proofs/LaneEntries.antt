@@ -1,7 +1,7 @@
 -- What the step of an entry of a lane or the publisher asks, where it may be added to a ready machine: the row
 -- names what is declared, the version and the figures were published, the masks part the CPUs.
-use Rattle.std.proofs.Common.{arith, ◌≡◌, ℕ, zero, suc, ◌-◌, ◌<◌, ◌≤◌, max, Bool, true, false, List, [], ◌∷◌, length, map, ltb, get_or, Option, Some, None, refl, sym, ◌∙◌, ap, subst, not}
-use Rattle.std.specs.Prelude.{All, ◌==◌, ◌||◌}
+use Rattle.std.proofs.Common.{arith, ◌≡◌, ℕ, zero, suc, ◌-◌, ◌<◌, ◌≤◌, max, Bool, true, false, List, [], ◌∷◌, length, map, ltb, get_or, Option, Some, refl, ◌∙◌, ap}
+use Rattle.std.specs.Prelude.{All}
 use Rattle.std.specs.List.{list_all, list_any}
 use Rattle.std.proofs.lemmas.Bool.{and_parts, or_parts, lt-ltb, ltb-true, ltb-false, not-false}
 use Rattle.lb_base.specs.declared.mask.Mask.{Mask}
@@ -10,7 +10,6 @@ use Rattle.lb_base.proofs.Sets.{all_members}
 use Rattle.lb_imbalance.proofs.Groups.{has_left}
 use Rattle.lb_imbalance.specs.declared.decision.Decision.{Decision}
 use Rattle.lb_domain.specs.Laws.{LieInside}
-use Rattle.lb_queue.specs.Queue.{QueueState}
 use Rattle.lb_trace.specs.declared.trace.Command.{Command}
 use Rattle.lb_trace.specs.declared.trace.Command.TheVariants.{Tick, Rebuild}
 use Rattle.lb_trace.specs.declared.trace.Header.{Header}
@@ -21,21 +20,21 @@ use Rattle.lb_core.specs.declared.entry.FigName.{FigName}
 use Rattle.lb_core.specs.declared.entry.Owner.{Owner}
 use Rattle.lb_core.specs.declared.entry.Owner.TheVariants.{Publisher, Lane, Queue}
 use Rattle.lb_core.specs.declared.entry.What.{What}
-use Rattle.lb_core.specs.declared.entry.What.TheVariants.{Row, Adopt, Look, Scan, End, Did, Out, Landed, Turn, Shut, Close, Ask, Kick, Over, Pub}
+use Rattle.lb_core.specs.declared.entry.What.TheVariants.{Row, Adopt, Look, Scan, End, Pub}
 use Rattle.lb_core.specs.declared.rule.Rule.TheVariants.{Row as RowRule, Version, Figure}
-use Rattle.lb_core.specs.Course.{no_domain, turn_domain, turn_domains, widest_span}
+use Rattle.lb_core.specs.Course.{no_domain, turn_domains}
 use Rattle.lb_core.specs.Legal.{MayBeAdded}
-use Rattle.lb_core.specs.Machine.{MachineState, course_at, figures_at, entries_at, sight}
+use Rattle.lb_core.specs.Machine.{MachineState, course_at, entries_at, sight}
 use Rattle.lb_core.specs.OpenTurns.{TurnIn}
 use Rattle.lb_core.specs.Rules.{is_undeclared, figures_due}
 use Rattle.lb_core.specs.Sight.{Sight}
-use Rattle.lb_core.specs.Stage.{draws, queue_due, is_queue, is_owner}
+use Rattle.lb_core.specs.Stage.{draws, queue_due, is_queue}
 use Rattle.lb_core.proofs.Equality.{numbers_same}
 use Rattle.lb_core.proofs.Placing.{entry, is_no_queue, form_lets}
 use Rattle.lb_core.proofs.Unbroken.{unbroken_here, unbroken_elsewhere}
 use Rattle.lb_ready.specs.Ready.{IsReady, HasSizes, FitsForm, unnamed}
 use Rattle.lb_ready.specs.Lanes.{PartsCpus, Suits}
-use Rattle.lb_engine.specs.Asks.{TicksBelow, RebuildAsks, IsPublished}
+use Rattle.lb_engine.specs.Asks.{TicksBelow, RebuildAsks}
 use Rattle.lb_engine.specs.Takes.{NamesAsks, LaneAsks}
 
 -- ---- rows, versions, masks

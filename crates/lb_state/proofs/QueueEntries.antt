@@ -1,8 +1,8 @@
 -- What the step of an entry of a queue asks, where it may be added to a ready machine: the place of the task
 -- that is answered for, the turn that is open, the tasks that land.
-use Rattle.std.proofs.Common.{arith, ◌≡◌, ℕ, zero, suc, ◌+◌, ◌<◌, ◌≤◌, Bool, true, false, cond, List, [], ◌∷◌, length, map, ltb, get_or, Option, Some, None, is_some, is_none, refl, sym, ◌∙◌, ap, subst, not}
-use Rattle.std.specs.Prelude.{All, IfSome, IsSome, ◌==◌, ◌||◌, ◌&&◌}
-use Rattle.std.proofs.lemmas.Bool.{and_parts, or_parts, ltb-true, eqb-true, eq-eqb, not-false}
+use Rattle.std.proofs.Common.{arith, ◌≡◌, ℕ, zero, suc, ◌<◌, ◌≤◌, Bool, true, false, cond, List, [], ◌∷◌, length, ltb, get_or, Option, Some, None, is_some, is_none, refl, sym, ◌∙◌, subst, not}
+use Rattle.std.specs.Prelude.{All, IsSome}
+use Rattle.std.proofs.lemmas.Bool.{and_parts, ltb-true, eqb-true, eq-eqb, not-false}
 use Rattle.lb_queue.specs.declared.answers.Reply.{Reply}
 use Rattle.lb_queue.specs.Queue.{QueueState, is_awake}
 use Rattle.lb_queue.specs.Turns.{IsOpenAt}
@@ -20,7 +20,7 @@ use Rattle.lb_core.specs.declared.entry.What.TheVariants.{Did, Landed, Turn, Shu
 use Rattle.lb_core.specs.declared.place.Place.{Place}
 use Rattle.lb_core.specs.declared.place.Place.TheVariants.{Awake as AwakeAt, Asleep as AsleepAt, Gone as GoneAt, Hand as HandOf}
 use Rattle.lb_core.specs.declared.rule.Rule.TheVariants.{Place as PlaceRule, Flight}
-use Rattle.lb_core.specs.Course.{task_of, turn_domain, turn_domains}
+use Rattle.lb_core.specs.Course.{task_of, turn_domain}
 use Rattle.lb_core.specs.Asks.{CommandAsks}
 use Rattle.lb_core.specs.Elsewhere.{is_at, task_elsewhere, answered_elsewhere}
 use Rattle.lb_core.specs.Legal.{MayBeAdded}
@@ -37,7 +37,6 @@ use Rattle.lb_ready.specs.Laws.{TasksStand}
 use Rattle.lb_ready.specs.Ready.{IsReady, Names}
 use Rattle.lb_engine.specs.Asks.{IsMapped, is_awake_place, HasTurn, HasPosition, PullAsks}
 use Rattle.lb_engine.specs.Takes.{AnswerAsks, LandedStepAsks, TurnStepAsks, CloseAsks, OverAsks}
-use Rattle.lb_queue.specs.declared.record.TaskRecord.{TaskRecord}
 
 abbrev pub opens_or_shuts : What → Bool
 opens_or_shuts (Turn ps) = true

@@ -1,6 +1,5 @@
 -- An entry that may be added to a ready machine meets what its step asks of the engine.
-use Rattle.std.proofs.Common.{arith, ◌≡◌, ℕ, ◌<◌, Bool, true, false, length, Option, refl, sym, ◌∙◌, not}
-use Rattle.std.proofs.lemmas.Bool.{or_parts, not-false}
+use Rattle.std.proofs.Common.{arith, ◌≡◌, ℕ, ◌<◌, true, false, length, refl}
 use Rattle.lb_domain.specs.Laws.{LieInside}
 use Rattle.lb_queue.specs.Queue.{QueueState}
 use Rattle.lb_trace.specs.declared.trace.Header.{Header}
@@ -10,13 +9,12 @@ use Rattle.lb_core.specs.declared.course.Form.TheVariants.{Flight}
 use Rattle.lb_core.specs.declared.entry.Owner.{Owner}
 use Rattle.lb_core.specs.declared.entry.Owner.TheVariants.{Publisher, Lane, Queue}
 use Rattle.lb_core.specs.declared.entry.What.{What}
-use Rattle.lb_core.specs.declared.entry.What.TheVariants.{Row, Adopt, Look, Scan, End, Did, Out, Landed, Turn, Shut, Close, Ask, Kick, Over, Pub}
+use Rattle.lb_core.specs.declared.entry.What.TheVariants.{Did, Out, Landed, Turn, Shut, Close, Ask, Kick, Over}
 use Rattle.lb_core.specs.declared.rule.Rule.TheVariants.{Reply as ReplyRule}
 use Rattle.lb_core.specs.Legal.{MayBeAdded}
 use Rattle.lb_core.specs.Machine.{MachineState, course_at, queue_at, sight}
 use Rattle.lb_core.specs.Placed.{is_flight}
 use Rattle.lb_core.specs.Stage.{draws, queue_due, is_owner}
-use Rattle.lb_core.specs.Step.{after}
 use Rattle.lb_core.proofs.Placing.{entry, lane_there, cpu_there, form_lets}
 use Rattle.lb_core.proofs.Unbroken.{unbroken_here}
 use Rattle.lb_ready.specs.Calls.{QueueAsks}

@@ -1,14 +1,13 @@
 -- What an `out` that may be added says: a pull is of a lane that balances a domain, and no more tasks leave
 -- than the trace has.
-use Rattle.std.proofs.Common.{arith, ◌≡◌, ℕ, ◌+◌, ◌≤◌, Bool, true, false, cond, not, List, length, Option, Some, None, refl, sym, ◌∙◌, ap, get_or-set_same}
-use Rattle.std.proofs.lemmas.Bool.{or_parts, and_parts, not-false, ltb-true}
+use Rattle.std.proofs.Common.{arith, ◌≡◌, ℕ, ◌+◌, ◌≤◌, true, false, not, List, length, Option, Some, None, refl, sym, ◌∙◌, ap, get_or-set_same}
+use Rattle.std.proofs.lemmas.Bool.{or_parts, not-false}
 use Rattle.lb_queue.specs.declared.answers.OutCause.{OutCause}
 use Rattle.lb_queue.specs.declared.answers.OutCause.TheVariants.{Pull}
 use Rattle.lb_queue.specs.declared.answers.Stop.{Stop}
 use Rattle.lb_queue.specs.Queue.{QueueState, away}
 use Rattle.lb_queue.specs.Requests.{next_stop}
 use Rattle.lb_queue.specs.Tasks.{ids}
-use Rattle.lb_queue.proofs.Counting.{length_below}
 use Rattle.lb_trace.specs.declared.trace.Command.{Command}
 use Rattle.lb_trace.specs.declared.trace.Command.TheVariants.{Wake as WakeTask}
 use Rattle.lb_core.specs.declared.course.Course.{Course}
@@ -25,7 +24,7 @@ use Rattle.lb_core.specs.Leaving.{Leaving, leaving, out_by, wake_out, wake_to, s
 use Rattle.lb_core.specs.Legal.{MayBeAdded}
 use Rattle.lb_core.specs.Machine.{MachineState, no_course, course_at, sight}
 use Rattle.lb_core.specs.OpenTurns.{IsAtPosition, TurnIn}
-use Rattle.lb_core.specs.Placed.{is_its_place, IsPlaced}
+use Rattle.lb_core.specs.Placed.{IsPlaced}
 use Rattle.lb_core.specs.Rules.{is_other_out}
 use Rattle.lb_core.specs.Same.{same_cause}
 use Rattle.lb_core.specs.Step.{after}
@@ -34,6 +33,7 @@ use Rattle.lb_core.proofs.Placing.{entry, lane_there}
 use Rattle.lb_core.proofs.Unbroken.{unbroken_here}
 use Rattle.lb_ready.specs.Ready.{IsReady}
 use Rattle.lb_summary.specs.Counting.{PullsWhere, MayCount}
+use Rattle.lb_state.proofs.Counted.{few_at}
 
 -- ---- the `out` that is due
 -- it is that of the entry
@@ -107,26 +107,6 @@ pulls_where m o lane prev Pull to tasks k h =
 pulls_where m o lane prev cause to tasks k h = tt
 
 -- ---- tasks in a hand
--- there are no more than the trace has
-few_in_hand : (m : MachineState) (lane : ℕ) → IsPlaced m → length (ids (course_at m.courses lane).hand) ≤ length m.header.tasks
-few_in_hand m lane placed =
-    let below = length_below (length m.places) (ids (course_at m.courses lane).hand)
-    (λ t. let o = one_at_most (is_its_place m (HandOf lane) t) in let e = placed.once (HandOf lane) t in omega arith)
-    (λ t high. placed.once (HandOf lane) t ∙ ap (λ b. cond {A = ℕ} b 1 0) (undeclared t high)) in
-    let n = placed.mapped in
-    omega arith
-  where
-    one_at_most : (b : Bool) → cond {A = ℕ} b 1 0 ≤ 1
-    one_at_most true = omega arith
-    one_at_most false = omega arith
-
-    undeclared : (t : ℕ) → length m.places ≤ t → is_its_place m (HandOf lane) t ≡ false
-    undeclared t high = by_test (is_its_place m (HandOf lane) t) refl
-      where
-        by_test : (b : Bool) → is_its_place m (HandOf lane) t ≡ b → b ≡ false
-        by_test true e = let lt = ltb-true t (length m.places) ((and_parts _ _ e).0) in absurd (omega arith)
-        by_test false e = refl
-
 hand_taken : (o : Owner) (n : ℕ) (x : Option Leaving) (l : Leaving) (c : Course) → x ≡ Some l
     → (drew o n (takes_off x c)).hand ≡ l.hand
 hand_taken Publisher n x l c h = rw h refl
@@ -145,7 +125,7 @@ few_leave m o lane prev cause to tasks h placed =
     let taken = hand_taken o ((sight m e).count + 1) (leaving (sight m e)) d.out (sight m e).course d.due in
     let hand = ap (λ (x : Course). x.hand) c ∙ taken in
     let same : tasks ≡ ids (course_at (after m e).courses lane).hand = d.same_tasks ∙ ap ids (sym hand) in
-    let few = few_in_hand (after m e) lane placed in
+    let few = few_at (after m e) (HandOf lane) placed in
     rw same few
 
 -- ---- each entry may be counted

@@ -1,6 +1,6 @@
-use super::*;
-use lb_base::{Mask, TaskView};
-use std::test::Fail;
+//! Which tasks a pull takes, and in which order the others stay.
+use lb_base::{Mask, MoveKind, TaskView};
+use lb_detach::{Env, Picked, picks};
 
 fn task(id: u32, running: bool, hot: bool, cpu: u64) -> TaskView {
     TaskView {
@@ -43,38 +43,64 @@ const PULL: Env = Env {
 };
 
 #[test]
-fn leaves_running_and_hot_tasks(rt: HostRuntime) -> Result<(), Fail> {
-    let mut picked = Picked::new(rt.alloc(), 3)?;
+fn leaves_running_and_hot_tasks(rt: HostRuntime) {
+    let Ok(mut picked) = Picked::new(rt.alloc(), 3) else {
+        panic!(rt; "no room")
+    };
     let list = [
         task(3, false, false, 1),
         task(2, false, true, 1),
         task(1, true, false, 1),
     ];
-    for (failures, taken, first, second) in [(1, 3, 2, 1), (2, 2, 1, 3)] {
-        picks(&list, &Env { failures, ..PULL }, &mut picked);
-        assert_eq!(rt; picked.ids.as_slice(), [taken].as_slice());
-        assert_eq!(rt; picked.order.as_slice(), [first, second].as_slice());
-        assert_eq!(rt; picked.left, 0);
-        assert!(rt; !picked.some_pinned && !picked.all_pinned);
-    }
+    let hot_stays = Env {
+        failures: 1,
+        ..PULL
+    };
+    picks(&list, &hot_stays, &mut picked);
+    assert!(rt; is_picked(&picked, &[3], &[2, 1], 0) && is_free(&picked));
+    let hot_goes = Env {
+        failures: 2,
+        ..PULL
+    };
+    picks(&list, &hot_goes, &mut picked);
+    assert!(rt; is_picked(&picked, &[2], &[1, 3], 0) && is_free(&picked));
     // No CPU has the number 64, so every task is pinned elsewhere.
     picks(&list, &Env { to: 64, ..PULL }, &mut picked);
     assert!(rt; picked.ids.is_empty() && picked.some_pinned && picked.all_pinned);
-    Ok(())
 }
 
 #[test]
-fn ends_after_32_unless_all_are_pinned(rt: HostRuntime) -> Result<(), Fail> {
-    let mut picked = Picked::new(rt.alloc(), 33)?;
-    let turned = turned();
+fn ends_after_32(rt: HostRuntime) {
+    let Ok(mut picked) = Picked::new(rt.alloc(), 33) else {
+        panic!(rt; "no room")
+    };
     picks(&many(true), &PULL, &mut picked);
-    assert!(rt; picked.ids.is_empty() && picked.left == 1);
-    assert_eq!(rt; picked.order.as_slice(), turned.as_slice());
-    assert!(rt; !picked.some_pinned && !picked.all_pinned);
+    assert!(rt; is_picked(&picked, &[], &turned(), 1) && is_free(&picked));
+}
+
+#[test]
+fn goes_on_while_all_are_pinned(rt: HostRuntime) {
+    let Ok(mut picked) = Picked::new(rt.alloc(), 33) else {
+        panic!(rt; "no room")
+    };
     picks(&many(false), &PULL, &mut picked);
-    assert_eq!(rt; picked.ids.as_slice(), [32].as_slice());
-    assert_eq!(rt; picked.order.len(), 32);
-    assert!(rt; turned.starts_with(picked.order.as_slice()));
-    assert!(rt; picked.some_pinned && !picked.all_pinned && picked.left == 0);
-    Ok(())
+    assert!(rt; is_last_picked(&picked) && picked.left == 0);
+    assert!(rt; picked.some_pinned && !picked.all_pinned);
+}
+
+// Whether these tasks are taken, and those stay, and so much is left to move.
+fn is_picked(picked: &Picked, ids: &[u32], order: &[u32], left: u64) -> bool {
+    picked.ids.as_slice() == ids && picked.order.as_slice() == order && picked.left == left
+}
+
+// Whether each examined task may run at the destination.
+fn is_free(picked: &Picked) -> bool {
+    !picked.some_pinned && !picked.all_pinned
+}
+
+// Whether the task 32 is taken, and all others stay.
+fn is_last_picked(picked: &Picked) -> bool {
+    picked.ids.as_slice() == [32].as_slice()
+        && picked.order.len() == 32
+        && turned().starts_with(picked.order.as_slice())
 }

@@ -1,49 +1,42 @@
+//! The whole decision of a CPU about a domain.
 ghost use Rattle.std.specs.Prelude.{◌≡◌, ◌<◌, ◌^◌};
 
-use crate::{Decision, decide};
 use lb_base::{Fig, Kind, LevelName, Mask, MoveKind, Shape};
-use std::test::Fail;
+use lb_imbalance::{Decision, decide};
 
 #[test]
-fn two_cpus_of_one_cache(rt: HostRuntime) -> Result<(), Fail> {
+fn two_cpus_of_one_cache(rt: HostRuntime) {
     let full = (2, 1_000, 1_024, 1_024);
-    let one_light = (1, 100, 100, 100);
-    let three_light = (3, 900, 300, 300);
-    let idle = (0, 0, 0, 0);
     let load = Decision::Pull {
         source: 1,
         kind: MoveKind::Load,
         imbalance: 85,
     };
-    let cases = [
-        (
-            (2, 1_500, 1_024, 1_024),
-            (2, 1_500, 1_024, 1_024),
-            Kind::Tick,
-            Decision::Balanced,
-        ),
-        (
-            full,
-            (2, 1_170, 1_024, 1_024),
-            Kind::Tick,
-            Decision::Balanced,
-        ),
-        (full, (2, 1_171, 1_024, 1_024), Kind::Tick, load),
-        // a busy destination is left alone, one that has just become idle is not
-        (one_light, three_light, Kind::Tick, Decision::Balanced),
-        (one_light, three_light, Kind::Idle, tasks(1, 1)),
-        // a waiting task is pulled, a single one is not
-        (idle, (2, 1_024, 900, 1_300), Kind::Nohz, tasks(1, 1)),
-        (idle, (1, 1_024, 900, 1_024), Kind::Tick, Decision::Balanced),
-    ];
-    for (local, other, kind, decision) in cases {
-        assert_eq!(rt; decide_for_two(local, other, kind), decision);
-    }
-    Ok(())
+    let level = (2, 1_500, 1_024, 1_024);
+    assert!(rt; decide_for_two(level, level, Kind::Tick) == Decision::Balanced);
+    let below = (2, 1_170, 1_024, 1_024);
+    assert!(rt; decide_for_two(full, below, Kind::Tick) == Decision::Balanced);
+    let above = (2, 1_171, 1_024, 1_024);
+    assert!(rt; decide_for_two(full, above, Kind::Tick) == load);
 }
 
 #[test]
-fn two_cores_of_two_threads(rt: HostRuntime) -> Result<(), Fail> {
+fn a_busy_and_an_idle_destination(rt: HostRuntime) {
+    // a busy destination is left alone, one that has just become idle is not
+    let one_light = (1, 100, 100, 100);
+    let three_light = (3, 900, 300, 300);
+    assert!(rt; decide_for_two(one_light, three_light, Kind::Tick) == Decision::Balanced);
+    assert!(rt; decide_for_two(one_light, three_light, Kind::Idle) == tasks(1, 1));
+    // a waiting task is pulled, a single one is not
+    let idle = (0, 0, 0, 0);
+    let waiting = (2, 1_024, 900, 1_300);
+    let single = (1, 1_024, 900, 1_024);
+    assert!(rt; decide_for_two(idle, waiting, Kind::Nohz) == tasks(1, 1));
+    assert!(rt; decide_for_two(idle, single, Kind::Tick) == Decision::Balanced);
+}
+
+#[test]
+fn two_cores_of_two_threads(rt: HostRuntime) {
     let shape = Shape {
         name: LevelName::Mc,
         below: Some(LevelName::Smt),
@@ -59,19 +52,9 @@ fn two_cores_of_two_threads(rt: HostRuntime) -> Result<(), Fail> {
     ];
     let none = Mask { bits: 0 };
     let third = Mask { bits: 0b0100 };
-    assert_eq!(rt;
-        decide(&shape, &groups, &figs, 1, Kind::Tick, none),
-        Decision::NotMine
-    );
-    assert_eq!(rt;
-        decide(&shape, &groups, &figs, 0, Kind::Tick, none),
-        tasks(2, 2)
-    );
-    assert_eq!(rt;
-        decide(&shape, &groups, &figs, 0, Kind::Tick, third),
-        tasks(3, 1)
-    );
-    Ok(())
+    assert!(rt; decide(&shape, &groups, &figs, 1, Kind::Tick, none) == Decision::NotMine);
+    assert!(rt; decide(&shape, &groups, &figs, 0, Kind::Tick, none) == tasks(2, 2));
+    assert!(rt; decide(&shape, &groups, &figs, 0, Kind::Tick, third) == tasks(3, 1));
 }
 
 // The decision of CPU 0 of two that share a cache, by their tasks, loads, utilisations and

@@ -1,41 +1,60 @@
-ghost use Rattle.std.specs.Prelude.{◌≤◌, IfOk};
+//! Sources and sinks whose calls fail where they are told to, and those over std's streams.
+ghost use Rattle.std.specs.Prelude.{◌≤◌, ◌<◌, ◌^◌, IfOk};
 
-use super::*;
-use std::alloc::{AllocError, Global};
+use lb_io::{
+    Failed, MemSink, MemSource, ReadError, ReadSource, Sink, Source, WriteSink, read_all, write_all,
+};
+use std::alloc::Global;
 use std::io;
-use std::test::Fail;
+use std::process::Abort;
 
-fn source(alloc: Global, bytes: &[u8], fail_at: &[u64]) -> Result<MemSource, AllocError> {
-    let bytes = Vec::from_slice(alloc, bytes)?;
-    Ok(MemSource::new(bytes, Vec::from_slice(alloc, fail_at)?))
+// The first read gives the bytes, the second the end.
+#[test]
+fn reads_fail_at_the_listed_calls(rt: HostRuntime) {
+    let refusals = [
+        refusal(&rt, rt.alloc(), 3, 0),
+        refusal(&rt, rt.alloc(), 2, 0),
+        refusal(&rt, rt.alloc(), 3, 1),
+        refusal(&rt, rt.alloc(), 3, 2),
+        refusal(&rt, rt.alloc(), 3, 3),
+    ];
+    let fault = Some(ReadError::ReadFault);
+    assert!(rt; refusals == [None, Some(ReadError::TooLong), fault, fault, None]);
+}
+
+// Why three bytes are not read, of which at most `max` are asked for, where the call `fail_at` fails.
+fn refusal(rt: &impl Abort, alloc: Global, max: u64, fail_at: u64) -> Option<ReadError>
+    requires { max < 2 ^ 32 }
+{
+    let Ok(bytes) = Vec::from_slice(alloc, b"abc") else {
+        panic!(rt; "no room")
+    };
+    let Ok(calls) = Vec::from_slice(alloc, &[fail_at]) else {
+        panic!(rt; "no room")
+    };
+    let mut src = MemSource::new(bytes, calls);
+    match read_all(alloc, &mut src, max) {
+        Ok(bytes) => {
+            assert!(rt; bytes.as_slice() == b"abc".as_slice());
+            None
+        }
+        Err(error) => Some(error),
+    }
 }
 
 #[test]
-fn fails_at_the_listed_calls(rt: HostRuntime) -> Result<(), Fail> {
-    let alloc = rt.alloc();
-
-    // The first read gives the bytes, the second the end.
-    for (max, fail_at, want) in [
-        (3, 0, Ok(b"abc".as_slice())),
-        (2, 0, Err(ReadError::TooLong)),
-        (3, 1, Err(ReadError::ReadFault)),
-        (3, 2, Err(ReadError::ReadFault)),
-        (3, 3, Ok(b"abc".as_slice())),
-    ] {
-        let mut src = source(alloc, b"abc", &[fail_at])?;
-        match (read_all(alloc, &mut src, max), want) {
-            (Ok(bytes), Ok(want)) => assert_eq!(rt; bytes.as_slice(), want),
-            (Err(error), Err(want)) => assert_eq!(rt; error, want),
-            _ => assert!(rt; false, "at most {max}, failing at call {fail_at}"),
-        }
-    }
-
-    let mut out = MemSink::new(alloc, Vec::from_slice(alloc, &[2])?);
-    assert_eq!(rt; write_all(&mut out, b"ab"), Ok(()));
-    assert_eq!(rt; write_all(&mut out, b"cd"), Err(Failed));
-    assert_eq!(rt; write_all(&mut out, b"ef"), Ok(()));
-    assert_eq!(rt; out.bytes(), b"abef".as_slice());
-    Ok(())
+fn writes_fail_at_the_listed_calls(rt: HostRuntime) {
+    let Ok(calls) = Vec::from_slice(rt.alloc(), &[2]) else {
+        panic!(rt; "no room")
+    };
+    let mut out = MemSink::new(rt.alloc(), calls);
+    let written = [
+        write_all(&mut out, b"ab"),
+        write_all(&mut out, b"cd"),
+        write_all(&mut out, b"ef"),
+    ];
+    assert!(rt; written == [Ok(()), Err(Failed), Ok(())]);
+    assert!(rt; out.bytes() == b"abef".as_slice());
 }
 
 // A stream that moves one byte at its first call and nothing at its second, and then fails.
@@ -74,20 +93,20 @@ impl io::Write for Ending {
 }
 
 #[test]
-fn adapts_the_streams_of_std(rt: HostRuntime) {
+fn adapts_the_readers_of_std(rt: HostRuntime) {
     let mut buf = [0; 2];
     let mut src = ReadSource::new(Ending { calls: 0 });
-    for want in [Ok(1), Ok(0), Err(Failed)] {
-        assert_eq!(rt; src.read(&mut buf), want);
-    }
-    let mut out = WriteSink::new(Ending { calls: 0 });
-    for want in [Ok(1), Err(Failed), Err(Failed)] {
-        assert_eq!(rt; out.write(b"ab"), want);
-    }
-
+    let moved = [src.read(&mut buf), src.read(&mut buf), src.read(&mut buf)];
+    assert!(rt; moved == [Ok(1), Ok(0), Err(Failed)]);
     let mut src = ReadSource::new(b"abc".as_slice());
-    for want in [Ok(2), Ok(1), Ok(0)] {
-        assert_eq!(rt; src.read(&mut buf), want);
-    }
-    assert_eq!(rt; WriteSink::new(rt.stdout()).write(b"abc"), Ok(3));
+    let moved = [src.read(&mut buf), src.read(&mut buf), src.read(&mut buf)];
+    assert!(rt; moved == [Ok(2), Ok(1), Ok(0)]);
+}
+
+#[test]
+fn adapts_the_writers_of_std(rt: HostRuntime) {
+    let mut out = WriteSink::new(Ending { calls: 0 });
+    let moved = [out.write(b"ab"), out.write(b"ab"), out.write(b"ab")];
+    assert!(rt; moved == [Ok(1), Err(Failed), Err(Failed)]);
+    assert!(rt; WriteSink::new(rt.stdout()).write(b"abc") == Ok(3));
 }

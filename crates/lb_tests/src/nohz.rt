@@ -1,17 +1,22 @@
-use super::*;
+//! Which CPU without a tick is kicked, and for which turns are made.
+use lb_base::{Fig, Mask};
+use lb_nohz::{kick_target, turns};
 
 #[test]
 fn kicks_as_the_rule_says(rt: HostRuntime) {
-    let cases = [
-        ([1, 0, 257], 3, Some(0), 1),
-        ([0, 256, 256], 7, None, 0),
-        ([0, 257, 1], 7, Some(1), 6),
-        ([1, 0, 1], 6, Some(2), 4),
+    let kicks = [
+        kicked([1, 0, 257], Mask { bits: 3 }),
+        kicked([0, 256, 256], Mask { bits: 7 }),
+        kicked([0, 257, 1], Mask { bits: 7 }),
+        kicked([1, 0, 1], Mask { bits: 6 }),
     ];
-    for (flags, span, target, bits) in cases {
-        let want = (target, Mask { bits });
-        assert_eq!(rt; kicked(flags, Mask { bits: span }), want, "among {span}");
-    }
+    let wanted = [
+        (Some(0), Mask { bits: 1 }),
+        (None, Mask { bits: 0 }),
+        (Some(1), Mask { bits: 6 }),
+        (Some(2), Mask { bits: 4 }),
+    ];
+    assert!(rt; kicks == wanted);
 }
 
 fn kicked(flags: [u64; 3], span: Mask) -> (Option<u32>, Mask) {

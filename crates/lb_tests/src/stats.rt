@@ -1,32 +1,30 @@
+//! The statistics and the type of a group of CPUs.
 ghost use Rattle.std.specs.Prelude.{◌≡◌};
 
-use crate::{classify, group_stats};
-use lb_base::{Fig, GroupType, Mask, Stats};
-use std::test::Fail;
+use lb_base::GroupType::{FullyBusy, HasSpare, Imbalanced, Overloaded};
+use lb_base::{Fig, Mask, Stats};
+use lb_stats::{classify, group_stats};
 
 #[test]
-fn groups_at_the_edges_of_their_types(rt: HostRuntime) -> Result<(), Fail> {
-    let cases = [
-        (2, 1, 1_024, 875, 875, false, 117, GroupType::HasSpare),
-        (2, 1, 1_024, 876, 876, false, 117, GroupType::Overloaded),
-        (1, 1, 1_024, 876, 876, false, 117, GroupType::FullyBusy),
-        (1, 1, 1_024, 876, 876, true, 117, GroupType::Imbalanced),
-        (2, 1, 1_024, 0, 1_198, false, 117, GroupType::HasSpare),
-        (2, 1, 1_024, 0, 1_199, false, 117, GroupType::Overloaded),
-        (1, 2, 2_048, 2_000, 2_000, false, 110, GroupType::HasSpare),
-        (5, 0, 0, 0, 0, true, 117, GroupType::HasSpare),
+fn groups_at_the_edges_of_their_types(rt: HostRuntime) {
+    let types = [
+        classify(2, 1, 1_024, 875, 875, false, 117),
+        classify(2, 1, 1_024, 876, 876, false, 117),
+        classify(1, 1, 1_024, 876, 876, false, 117),
+        classify(1, 1, 1_024, 876, 876, true, 117),
+        classify(2, 1, 1_024, 0, 1_198, false, 117),
+        classify(2, 1, 1_024, 0, 1_199, false, 117),
+        classify(1, 2, 2_048, 2_000, 2_000, false, 110),
+        classify(5, 0, 0, 0, 0, true, 117),
     ];
-    for (nr, weight, cap, util, runnable, imbalanced, pct, group) in cases {
-        assert_eq!(rt;
-            classify(nr, weight, cap, util, runnable, imbalanced, pct),
-            group
-        );
-    }
-    Ok(())
+    let wanted = [
+        HasSpare, Overloaded, FullyBusy, Imbalanced, HasSpare, Overloaded, HasSpare, HasSpare,
+    ];
+    assert!(rt; types == wanted);
 }
 
 #[test]
-fn the_flag_of_the_position_below_marks_a_group(rt: HostRuntime) -> Result<(), Fail> {
+fn the_flag_of_the_position_below_marks_a_group(rt: HostRuntime) {
     let figs = [
         fig(2, 1_500, 1_024, 1_024, 0),
         fig(0, 120, 40, 0, 1 << 8),
@@ -42,15 +40,14 @@ fn the_flag_of_the_position_below_marks_a_group(rt: HostRuntime) -> Result<(), F
         weight: 2,
         idle: 1,
         avg: 1_110,
-        group: GroupType::Imbalanced,
+        group: Imbalanced,
     };
-    assert_eq!(rt; group_stats(&figs, group, 1, 117), stats);
+    assert!(rt; group_stats(&figs, group, 1, 117) == stats);
     let unmarked = Stats {
-        group: GroupType::HasSpare,
+        group: HasSpare,
         ..stats
     };
-    assert_eq!(rt; group_stats(&figs, group, 0, 117), unmarked);
-    Ok(())
+    assert!(rt; group_stats(&figs, group, 0, 117) == unmarked);
 }
 
 fn fig(nr: u64, load: u64, util: u64, runnable: u64, flags: u64) -> Fig

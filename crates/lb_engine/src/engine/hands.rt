@@ -261,19 +261,12 @@ impl Engine {
 
     // Books so many landings at the queue of a CPU. A refusal changes nothing.
     fn book(&mut self, cpu: u32, count: usize) -> Result<(), NoMemory>
-        requires { cpu < length self.old.machine.queues }
+        requires cpu { cpu < length self.old.machine.queues }
+        requires few { booked_at self.old.booked cpu + count < 2 ^ 32 }
         ensures ok { OnOk result (self.new ≡ record self.old { booked = slice_set self.old.booked cpu (booked_at self.old.booked cpu + count) }) }
-        ensures few { OnOk result (count < 2 ^ 32) }
         ensures refused { OnErr result (self.new ≡ self.old) }
     {
-        // No memory holds so many tasks that their number does not fit.
-        let most = u64::from(u32::MAX);
-        let count = count as u64;
-        let queue = &mut self.queues[cpu as usize];
-        if count > most || queue.booked() > most - count {
-            return Err(NoMemory);
-        }
-        queue.book(count)?;
+        self.queues[cpu as usize].book(count as u64)?;
         Ok(())
     }
 
@@ -352,6 +345,7 @@ impl Engine {
         requires cpu { cpu < length self.old.machine.queues }
         requires lanes { lane < length self.old.hands }
         requires to { to < length self.old.machine.queues }
+        requires few { booked_at self.old.booked to + length ids.now < 2 ^ 32 }
         requires pull { PullAsks (course_at self.old.machine.courses lane).form self.old.machine (course_at self.old.machine.courses lane) }
         requires due { IsDue (leaving (sight self.old.machine (of_queue cpu lane (what.Out cause to ids.now)))) cause to (length ids.now) }
         requires places { All (λ t. t < length self.old.machine.places) ids.now }

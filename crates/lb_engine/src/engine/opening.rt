@@ -1,7 +1,6 @@
 //! The engine before any entry.
-ghost use Rattle.std.specs.Prelude.{◌≡◌, ◌<◌, ◌≤◌, ◌++◌, map, replicate, length, None, IfOk, OnOk, ◌∷◌, []};
+ghost use Rattle.std.specs.Prelude.{◌≡◌, ◌++◌, map, replicate, length, None, IfOk, OnOk, ◌∷◌, []};
 ghost use Rattle.std.specs.List.{range_with_len};
-ghost use Rattle.lb_queue.specs.Queue.{BookedQueue};
 ghost use Rattle.lb_queue.specs.Figures.{figure};
 ghost use Rattle.lb_trace.specs.Accepted.{IsHeader};
 ghost use Rattle.lb_levels.specs.Rows.{layout_of};
@@ -10,6 +9,7 @@ ghost use Rattle.lb_core.specs.Course.{opening_course};
 ghost use Rattle.lb_core.specs.Machine.{opening_queue};
 
 use super::Engine;
+use lb_act::opening_queues;
 use lb_base::{Buffer, Fig, Items, NoMemory};
 use lb_core::{Course, Place};
 use lb_course::opening_course;
@@ -42,35 +42,6 @@ fn opening_version(
     let mut versions = Items::new(alloc);
     versions.push(Topology::of(alloc, layout, header.parts.as_slice())?)?;
     Ok(versions)
-}
-
-// The queue of a CPU before any entry: the tasks that are at home there sleep.
-fn opening_queue(alloc: Global, header: &Header, cpu: u32) -> Result<Queue, NoMemory>
-    requires cpu { cpu < length header.now.cpus }
-    requires header { IsHeader header.now }
-    ensures { IfOk result (λ q. q ≡ record { state = opening_queue header.now cpu; booked = 0 }) }
-{
-    let mut queue = Queue::new(alloc, cpu, header.cpus.len() as u32)?;
-    for (id, task) in header.tasks.as_slice().iter().enumerate() {
-        if task.home == cpu {
-            queue.declare(id as u32, task.nice, task.mask)?;
-        }
-    }
-    Ok(queue)
-}
-
-// The queues before any entry.
-fn opening_queues(alloc: Global, header: &Header) -> Result<Vec<Queue>, NoMemory>
-    requires { IsHeader header.now }
-    ensures { IfOk result (λ list. list.items
-        ≡ map (λ cpu. record { state = opening_queue header.now cpu; booked = 0 }) (range_with_len 0 (length header.now.cpus))) }
-{
-    let mut queues = Vec::new(alloc);
-    for cpu in 0..header.cpus.len() as u32 {
-        let queue = opening_queue(alloc, header, cpu)?;
-        add(&mut queues, queue)?;
-    }
-    Ok(queues)
 }
 
 // The figure of a queue before any entry, alone.
@@ -141,6 +112,57 @@ fn no_hands(alloc: Global, lanes: u32) -> Result<Vec<Option<Hand>>, NoMemory>
     Ok(hands)
 }
 
+// What the engine has of each CPU.
+#[derive(Drop)]
+struct CpuParts {
+    queues: Vec<Queue>,
+    figures: Vec<Buffer<Fig>>,
+    ticked: Vec<Option<u32>>,
+}
+
+// What the engine has of each CPU before any entry.
+fn opening_cpus(alloc: Global, header: &Header) -> Result<CpuParts, NoMemory>
+    requires { IsHeader header.now }
+    ensures queues { IfOk result (λ parts. parts.queues.items
+        ≡ map (λ cpu. record { state = opening_queue header.now cpu; booked = 0 }) (range_with_len 0 (length header.now.cpus))) }
+    ensures figures { IfOk result (λ parts. map (λ b. b.items) parts.figures.items
+        ≡ map (λ q. figure q.state 0 0 ∷ []) parts.queues.items) }
+    ensures ticked { IfOk result (λ parts. parts.ticked.items ≡ replicate (length header.now.cpus) None) }
+{
+    let queues = opening_queues(alloc, header)?;
+    let figures = opening_figures(alloc, &queues)?;
+    let ticked = unticked(alloc, header.cpus.len())?;
+    Ok(CpuParts {
+        queues,
+        figures,
+        ticked,
+    })
+}
+
+// What the engine has of each lane.
+struct LaneParts {
+    courses: Vec<Course>,
+    last: Vec<u64>,
+    hands: Vec<Option<Hand>>,
+}
+
+// What the engine has of each lane before any entry.
+fn opening_lanes(alloc: Global, header: &Header) -> Result<LaneParts, NoMemory>
+    ensures courses { IfOk result (λ parts. parts.courses.items
+        ≡ replicate header.now.lanes (opening_course (length header.now.cpus))) }
+    ensures last { IfOk result (λ parts. parts.last.items ≡ replicate header.now.lanes 0) }
+    ensures hands { IfOk result (λ parts. parts.hands.items ≡ replicate header.now.lanes None) }
+{
+    let courses = opening_courses(alloc, header)?;
+    let last = no_tickets(alloc, header.lanes as usize)?;
+    let hands = no_hands(alloc, header.lanes)?;
+    Ok(LaneParts {
+        courses,
+        last,
+        hands,
+    })
+}
+
 impl Engine {
     ghost use Rattle.lb_core.specs.Machine.{start};
     ghost use Rattle.lb_engine.specs.Held.{HandsFit};
@@ -153,14 +175,19 @@ impl Engine {
     {
         let layout = header.machine(alloc)?;
         let versions = opening_version(alloc, header, &layout)?;
-        let queues = opening_queues(alloc, header)?;
-        let figures = opening_figures(alloc, &queues)?;
-        let courses = opening_courses(alloc, header)?;
-        let last = no_tickets(alloc, header.lanes as usize)?;
-        let ticked = unticked(alloc, header.cpus.len())?;
+        let cpus = opening_cpus(alloc, header)?;
         let places = opening_places(alloc, header)?;
         let header = header.copy(alloc)?;
-        let hands = no_hands(alloc, header.lanes)?;
+        let LaneParts {
+            courses,
+            last,
+            hands,
+        } = opening_lanes(alloc, &header)?;
+        let CpuParts {
+            queues,
+            figures,
+            ticked,
+        } = cpus;
         Ok(Engine {
             header,
             layout,

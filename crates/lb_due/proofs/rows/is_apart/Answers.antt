@@ -1,6 +1,6 @@
 use Rattle.std.proofs.Common.{sym, ◌∙◌}
 use Rattle.lb_base.proofs.Sets.{apart_is}
-use Rattle.lb_due.proofs.Lists.{same_unless}
+use Rattle.lb_due.proofs.Tests.{same_unless}
 use Rattle.lb_due.proofs.rows.is_apart.Goals as goal
 
 pub returns : goal.returns

@@ -1,7 +1,7 @@
 use Rattle.std.proofs.Common.{sym, ◌∙◌, ap, Bool, not, ◌&&◌}
 use Rattle.lb_base.specs.Mask.{has}
 use Rattle.lb_base.proofs.Sets.{below_is}
-use Rattle.lb_due.proofs.Lists.{same_unless}
+use Rattle.lb_due.proofs.Tests.{same_unless}
 use Rattle.lb_due.proofs.rows.is_in.Goals as goal
 
 pub returns : goal.returns

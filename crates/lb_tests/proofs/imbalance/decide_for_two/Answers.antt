@@ -4,7 +4,7 @@ use Rattle.lb_base.specs.Mask.{has, members, members_below, without}
 use Rattle.lb_base.specs.Figures.{total}
 use Rattle.lb_imbalance.specs.Conditions.{HaveSmallSums}
 use Rattle.lb_imbalance.proofs.TwoGroups.{union_of_two, below, apart}
-use Rattle.lb_imbalance.proofs.tests.decide_for_two.Goals as goal
+use Rattle.lb_tests.proofs.imbalance.decide_for_two.Goals as goal
 
 small : (f g : Fig) → (f.nr < 2 ^ 32) × (f.load < 2 ^ 32) × (f.util < 2 ^ 32) × (f.runnable < 2 ^ 32)
     → (g.nr < 2 ^ 32) × (g.load < 2 ^ 32) × (g.util < 2 ^ 32) × (g.runnable < 2 ^ 32) →

@@ -5,7 +5,7 @@ use Rattle.lb_base.specs.Mask.{has, members, members_below, without}
 use Rattle.lb_base.specs.Figures.{total}
 use Rattle.lb_imbalance.specs.Conditions.{HaveSmallSums}
 use Rattle.lb_imbalance.proofs.TwoGroups.{union_of_two, below, apart}
-use Rattle.lb_imbalance.proofs.tests.two_cores_of_two_threads.Goals as goal
+use Rattle.lb_tests.proofs.imbalance.two_cores_of_two_threads.Goals as goal
 
 mask : ℕ → Mask
 mask bits = record { bits = bits }

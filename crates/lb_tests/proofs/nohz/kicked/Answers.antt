@@ -3,7 +3,7 @@ use Rattle.std.proofs.lemmas.Bool.{cases_lt, both_ways}
 use Rattle.lb_base.specs.declared.mask.Mask.{Mask}
 use Rattle.lb_base.specs.Mask.{has}
 use Rattle.lb_base.proofs.Members.{has_above}
-use Rattle.lb_nohz.proofs.tests.kicked.Goals as goal
+use Rattle.lb_tests.proofs.nohz.kicked.Goals as goal
 
 in_range : (span : Mask) (cpu : ℕ) → span.bits < 2 ^ 64 → has span cpu ≡ true → cpu < 64
 in_range span cpu fits there =

@@ -1,6 +1,6 @@
 use Rattle.std.proofs.Common.{rules, ◌<◌, ◌^◌}
 use Rattle.lb_queue.proofs.Masks.{below_is}
-use Rattle.lb_queue.proofs.tests.is_within.Goals as goal
+use Rattle.lb_tests.proofs.queue.is_within.Goals as goal
 
 pub returns : goal.returns
 returns c =

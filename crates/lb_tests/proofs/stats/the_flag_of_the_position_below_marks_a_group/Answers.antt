@@ -6,7 +6,7 @@ use Rattle.lb_base.specs.Mask.{has, members, members_below}
 use Rattle.lb_base.specs.Figures.{total}
 use Rattle.lb_base.proofs.Bits.{bit_set_above}
 use Rattle.lb_stats.specs.Statistics.{HasSmallSums}
-use Rattle.lb_stats.proofs.tests.the_flag_of_the_position_below_marks_a_group.Goals as goal
+use Rattle.lb_tests.proofs.stats.the_flag_of_the_position_below_marks_a_group.Goals as goal
 
 two : Mask
 two = record { bits = 6 }

@@ -1,8 +1,17 @@
-use Rattle.std.proofs.Common.{ap, sym, subst}
+use Rattle.std.proofs.Common.{ℕ, ◌+◌, ◌<◌, List, length, ap, sym, subst}
 use Rattle.lb_core.specs.declared.entry.What.{What}
-use Rattle.lb_engine.specs.Held.{Held}
-use Rattle.lb_engine.specs.Takes.{HandsAfter}
+use Rattle.lb_engine.specs.Held.{Held, booked_at}
+use Rattle.lb_engine.specs.Takes.{HandsAfter, ServeAsks}
+use Rattle.lb_engine.proofs.Counted.{few_booked}
 use Rattle.lb_engine.proofs.engine.Engine.serve.Goals as goal
+
+pub take_out-requires-clause-few : goal.take_out-requires-clause-few
+take_out-requires-clause-few c =
+    let P : What → Type 0 = λ w. ServeAsks w c.args.self.now.machine c.args.cpu c.args.lane in
+    let asks = subst P c.in-Out.is c.requires.asks in
+    let booked = booked_at c.args.self.now.booked c.in-Out.to in
+    subst (λ (ids : List ℕ). booked + length ids < 4294967296) (sym c.as_slice.ensures)
+    (few_booked c.args.self.now c.in-Out.to (length c.in-Out.ids) c.requires.hands asks.few)
 
 pub returns-in-Close-clause-hands : goal.returns-in-Close-clause-hands
 returns-in-Close-clause-hands c =

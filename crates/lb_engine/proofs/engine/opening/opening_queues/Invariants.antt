@@ -1,8 +1,0 @@
-use Rattle.std.proofs.Common.{◌≡◌, map}
-use Rattle.std.specs.List.{range_with_len}
-use Rattle.lb_core.specs.Machine.{opening_queue}
-use Rattle.lb_engine.proofs.engine.opening.opening_queues.Given as goal
-
-abbrev pub invariant-loop-cpu : goal.invariant-loop-cpu
-invariant-loop-cpu l = l.queues.items
-    ≡ map (λ cpu. record { state = opening_queue l.header cpu; booked = 0 }) (range_with_len 0 l.cpu)

@@ -1,9 +1,0 @@
-use Rattle.std.proofs.Common.{rules, ◌≡◌, [], sym, subst}
-use Rattle.lb_journal.specs.Journal.{Fits}
-use Rattle.lb_journal_rows.proofs.Drawing.{pub_of, pub_fits}
-use Rattle.lb_journal_rows.proofs.tests.pub_item.Goals as goal
-
-pub returns-clause-fits : goal.returns-clause-fits
-returns-clause-fits c =
-    let is : c.new.result ≡ pub_of c.args.header.now c.args.row = search rules in
-    subst (Fits []) (sym is) (pub_fits c.args.header.now c.args.row c.requires.lanes c.requires.row)
