@@ -37,7 +37,8 @@ record LeavesFor (o : Option Leaving) (cause : OutCause) (to : ℕ) : Type 0 whe
   cause_is : what.cause ≡ cause
   to_is : what.to ≡ to
 
-taken_off : (o : Option Leaving) (c : Course) (cause : OutCause) (to : ℕ) → LeavesFor o cause to → GoesOff (takes_off o c) cause to
+taken_off : (o : Option Leaving) (c : Course) (cause : OutCause) (to : ℕ) → LeavesFor o cause to
+    → GoesOff (takes_off o c) cause to
 taken_off o c cause to due =
     subst (λ (p : Option Leaving). GoesOff (takes_off p c) cause to) (sym due.is)
     (record { form = refl; cause_is = λ i. Some (due.cause_is i); to_is = due.to_is })
@@ -51,12 +52,11 @@ goes_off h c l why to to' tasks due =
 
 -- so the hand is in flight, to that CPU
 flies : (h : Header) (c : CellIs) (l side : SideIs) (why : OutCause) (to to' : ℕ) (hand : HandState) (tasks : List ℕ)
-    → LeavesFor (leaving (sight_at h c l)) why to → side.course ≡ course_left h c l (Out why to' tasks) → IsLoaded hand side.course
-    → to < length h.cpus → InFlight h side.course why hand × (hand.to ≡ to)
+    → LeavesFor (leaving (sight_at h c l)) why to → side.course ≡ course_left h c l (Out why to' tasks)
+    → IsLoaded hand side.course → to < length h.cpus → InFlight h side.course why hand × (hand.to ≡ to)
 flies h c l side why to to' hand tasks due left loaded declared =
     let off : GoesOff side.course why to =
-    subst (λ (k : Course). GoesOff k why to) (sym left) (goes_off h c l why to to' tasks due) in
-    (
+    subst (λ (k : Course). GoesOff k why to) (sym left) (goes_off h c l why to to' tasks due) in (
       record {
         form = off.form;
         cause_is = off.cause_is;
@@ -120,8 +120,8 @@ pull_is_due h c l env form is =
 
 -- ---- and then the lane is in flight
 pub wake_flies : (h : Header) (c : CellIs) (l side : SideIs) (to : ℕ) (hand : HandState) (tasks : List ℕ)
-    → WakesElsewhere c.queue.state l.course to → side.course ≡ course_left h c l (Out causes.Wake to tasks) → IsLoaded hand side.course
-    → to < length h.cpus → InFlight h side.course causes.Wake hand × (hand.to ≡ to)
+    → WakesElsewhere c.queue.state l.course to → side.course ≡ course_left h c l (Out causes.Wake to tasks)
+    → IsLoaded hand side.course → to < length h.cpus → InFlight h side.course causes.Wake hand × (hand.to ≡ to)
 wake_flies h c l side to hand tasks w left loaded declared =
     flies h c l side causes.Wake to to hand tasks (wake_is_due h c l to w) left loaded declared
 

@@ -64,12 +64,7 @@ fn land_at<N: Names + Versions, R: Wait>(
 
 impl<N: Names + Versions> Cpus<N> {
     // The queue where the tasks of a hand land: room and the landings are booked, and none of the tasks is known there.
-    fn lock_to_land<R: Wait>(
-        &self,
-        rt: &R,
-        lane: &Lane<N>,
-        hand: &Hand,
-    ) -> MutexGuard<'_, Cell<N>>
+    fn lock_to_land<R: Wait>(&self, rt: &R, lane: &Lane<N>, hand: &Hand) -> MutexGuard<'_, Cell<N>>
         requires { lane.now.side.course.to < length N.header.cpus }
         ensures can { CanLand (mutex_guard_value result) lane.now.side.course hand.now }
         ensures differ { (id : ℕ) → occurs id (ids lane.now.side.course.hand) ≤ 1 }

@@ -87,7 +87,8 @@ impl<N: Names + Versions> Cpus<N> {
         requires hand { (hand.old.tasks ≡ []) × (0 < hand.old.room) }
         requires declared { hand.old.to < length N.header.cpus }
         ensures left { IfOk result (λ b. MatchBool b
-            (LeftDue N.header N.book N.board ⟦<Journal as Coding>⟧.coding lane.old lane.new (due_at lane.old.side.course) hand.new)
+            (LeftDue N.header N.book N.board ⟦<Journal as Coding>⟧.coding lane.old lane.new (due_at lane.old.side.course)
+            hand.new)
             ((lane.new ≡ lane.old) × (hand.new ≡ hand.old))) }
         ensures to { hand.new.to ≡ hand.old.to }
         ensures refused { OnErr result ((lane.new ≡ lane.old) × (hand.new ≡ hand.old)) }

@@ -112,15 +112,6 @@ impl<N: Names + Versions> Cpus<N> {
         let counters = blank_counters(alloc, chosen.count())?;
         let shared = self.shared();
         let mut cell = self.lock_to_turn(rt, &*lane, &chosen, cpu, kind);
-        turn_at(
-            rt,
-            alloc,
-            &shared,
-            lane,
-            &mut cell,
-            chosen,
-            kind,
-            counters,
-        )
+        turn_at(rt, alloc, &shared, lane, &mut cell, chosen, kind, counters)
     }
 }

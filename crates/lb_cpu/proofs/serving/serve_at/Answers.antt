@@ -18,8 +18,8 @@ returns-clause-to g c =
     let e = c.in_ok-serve.ensures in
     let due : out_target l.side.course before.queue.state ≡ Some c.args.hand.now.to =
     ap (λ (q : BookedQueue). out_target l.side.course q.state) c.make_room.ensures.queue ∙ c.requires.target in
-    (serve_flies g.N.Names.header before l.side c.serve.new.self.side c.args.hand.now.to c.serve.new.hand _ c.requires.due.form due
-    e.drew.course e.loaded c.requires.declared).1
+    (serve_flies g.N.Names.header before l.side c.serve.new.self.side c.args.hand.now.to c.serve.new.hand _ c.requires.due.form
+    due e.drew.course e.loaded c.requires.declared).1
 
 pub returns-clause-ok : goal.returns-clause-ok
 returns-clause-ok g c =
@@ -32,6 +32,8 @@ returns-clause-ok g c =
     let to = c.args.hand.now.to in
     let taken = c.serve.new.hand in
     let cause = out_cause before.queue.state in
+    let cpu = c.args.cell.now.log.writer.cpu in
+    let read = c.follow.ensures in
     let e = c.in_ok-serve.ensures in
     let due : out_target l.side.course before.queue.state ≡ Some to =
     ap (λ (q : BookedQueue). out_target l.side.course q.state) c.make_room.ensures.queue ∙ c.requires.target in
@@ -42,8 +44,8 @@ returns-clause-ok g c =
     record {
       cause = cause;
       there =
-          drew_there n.header n.book n.board the_row.coded l mid last c.args.cell.now.log.writer.cpu _ before after c.keeps.ensures
-          (ap (λ w. w.cpu) c.make_room.ensures.log.1) drew e.rest c.follow.ensures.same c.follow.ensures.read c.follow.ensures.rest;
+          drew_there n.header n.book n.board the_row.coded l mid last cpu _ before after c.keeps.ensures
+          (ap (λ w. w.cpu) c.make_room.ensures.log.1) drew e.rest read.same read.read read.rest;
       due = due ∙ (λ i. Some (sym f.1 i));
       why = refl;
       flies = subst (λ (k : Course). InFlight n.header k cause taken) (sym c.follow.ensures.same.course) f.0;
