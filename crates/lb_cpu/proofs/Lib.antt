@@ -3,3 +3,6 @@ mod Cutting
 mod Opening
 mod Places
 mod Leaving
+mod Starting
+mod Apart
+mod Resting

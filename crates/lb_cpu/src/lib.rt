@@ -5,11 +5,15 @@
 //! queue beyond that it tests while it holds the lock, and looks again where the test fails.
 #![tactic(auto)]
 
+mod apart;
 mod blank;
 mod cpus;
 mod cut;
+mod ended;
+mod rest;
 mod rows;
 mod start;
 
 pub use blank::Blank;
 pub use cpus::Cpus;
+pub use ended::Ended;
