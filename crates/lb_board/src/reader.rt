@@ -26,6 +26,14 @@ impl Model for Reader {
 }
 
 impl Reader {
+    /// What every reader keeps: it has a list of figures for each cell of the board.
+    pub fn keeps(&self)
+        ensures { length self.now.seen ≡ length self.now.cells }
+    {
+        // reads a field of it, so that what it keeps is known
+        let _passes = self.passes.len();
+    }
+
     /// One of the CPU's published figures: the last that is seen now, and no earlier one than this reader saw or
     /// was told of. It waits while the cell is written, and takes no memory.
     pub fn read<R: Wait>(&mut self, rt: &R, board: &Board, cpu: u32) -> Fig

@@ -12,6 +12,7 @@ use crate::names::Names;
 use crate::parts::{CellParts, LaneParts};
 use crate::shared::Shared;
 use lb_board::{Reader, Writer};
+use lb_core::Course;
 use lb_journal::{Journal, Left};
 use lb_queue::Queue;
 use lb_ticket::{Coding, Seat};
@@ -35,24 +36,26 @@ impl<N: Names> Cell<N> {
 }
 
 impl<N: Names> Lane<N> {
-    /// Its seat, which learns that the lane's last entry was drawn and what it left, and its reader. What the lane kept
-    /// is known of them.
-    pub fn end(self, shared: &Shared<'_, N>) -> (Seat<Journal>, Reader)
+    /// Its seat, which learns that the lane's last entry was drawn and what it left, its reader, its course, and the ticket
+    /// of its last entry, or 0 where it drew none. What the lane kept is known of them.
+    pub fn end(self, shared: &Shared<'_, N>) -> (Seat<Journal>, Reader, Course, u64)
         ensures seat { KeepsList self.seat result.0 }
         ensures learnt { result.0.known ≡ self.seat.known ++ facts_of self.known.note }
         ensures view { (result.0.fresh ≡ self.seat.fresh) × (result.0.read ≡ self.seat.read) }
         ensures reader { result.1 ≡ self.known.reader }
+        ensures last { (result.2 ≡ self.course) × (result.3 ≡ self.known.ticket) }
         ensures kept { LaneKeeps N.header N.book N.board ⟦<Left as Coding>⟧.coding self }
     {
         let Lane { parts, names: _ } = self;
         let LaneParts {
             number: _,
-            course: _,
+            course,
             mut known,
             mut seat,
             landing: _,
         } = parts;
         learn_last(shared.book, &mut seat, &mut known);
-        (seat, known.reader)
+        let ticket = known.ticket;
+        (seat, known.reader, course, ticket)
     }
 }

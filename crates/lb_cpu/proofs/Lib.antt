@@ -2,3 +2,11 @@ mod There
 mod Differing
 mod Flying
 mod InService
+mod Numbering
+mod Cutting
+mod Opening
+mod Places
+mod Leaving
+mod Starting
+mod Parting
+mod Resting

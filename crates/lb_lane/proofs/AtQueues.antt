@@ -39,7 +39,7 @@ use Rattle.lb_core.specs.Sight.{Sight as StepSight}
 use Rattle.lb_ticket.specs.Seats.{SeatIs}
 use Rattle.lb_ticket.specs.Tickets.{pair}
 use Rattle.lb_journal.specs.Journal.{Journal}
-use Rattle.lb_journal.specs.Merge.{is_end}
+use Rattle.lb_cell.specs.Kinds.{is_of_lane}
 use Rattle.lb_journal.specs.Owners.{SeatUses}
 use Rattle.lb_board.specs.Board.{seen_at}
 use Rattle.lb_seen.proofs.Beginnings.{prefix_length}
@@ -238,7 +238,7 @@ module _ (h : Header) (book : TableId) (board : List TableId) (versions : Book) 
         uses = subst (SeatUses h code) seat k.uses;
         saw = subst (λ (x : SeatIs Journal). SawAll side.known.reader x.list) seat
             (stay l.side.known.reader side.known.reader l.side.seat.list sees k.saw);
-        goes_on = subst (λ (x : SeatIs Journal). All (λ d. is_end d.item.entry.what ≡ false) x.list) seat k.goes_on;
+        goes_on = subst (λ (x : SeatIs Journal). All (λ d. is_of_lane d.item.entry.what ≡ true) x.list) seat k.goes_on;
         numbers = numbers l side c c' w k long keeps drew sees left.3;
       }
 

@@ -23,14 +23,13 @@ use Rattle.lb_ticket.specs.declared.item.Drawn.{Drawn}
 use Rattle.lb_ticket.specs.declared.view.Held.{Held}
 use Rattle.lb_ticket.specs.Seats.{NoteIs}
 use Rattle.lb_journal.specs.Journal.{Journal, Left, CarriesMasks, CarriesFigs}
-use Rattle.lb_journal.specs.Merge.{is_end}
+use Rattle.lb_cell.specs.Kinds.{is_of_lane}
 use Rattle.lb_journal.specs.Owners.{UsesVersion}
 use Rattle.lb_board.specs.Board.{seen_at}
 use Rattle.lb_topub.specs.Versions.{VersionsSeen}
 use Rattle.lb_domain.specs.Domains.{domains_of}
 use Rattle.lb_domain.specs.Topologies.{AreFew}
 use Rattle.lb_cell.specs.LastEntries.{IsLast}
-use Rattle.lb_cell.specs.Kinds.{is_of_lane}
 use Rattle.lb_cell.specs.Cells.{LaneIs as SideIs, IsInRange}
 use Rattle.lb_cell.specs.Reads.{Saw, SawAll, SawStays, SeesMore}
 use Rattle.lb_cell.specs.Own.{OwnAsks, DrewOwn, MayDrawOwn, sight_from, sight_own, entry_own, item_own, own_left}
@@ -180,7 +179,7 @@ pub record AddsTo (h : Header) (code : Coded Journal) (l l' : LaneIs) (w : What)
   pub uses : UsesVersion h code l.side.seat.read ticket (item_own h l.side w masks figs) w
   pub sees : SeesMore l.side.known.reader l'.side.known.reader
   pub saw : All (Saw l'.side.known.reader ticket) figs
-  pub goes_on : is_end w ≡ false
+  pub goes_on : is_of_lane w ≡ true
   pub turned : l'.turned < length h.cpus
   pub turns : is_due l'.side.course.form ≡ false → l'.turned ≡ l'.side.course.cpu
   pub few : AreFew l'.domains
@@ -229,6 +228,6 @@ kept h board versions code l l' w masks figs ticket stays k drew adds =
       uses = subst (λ hs. All (Uses hs) l'.side.seat.list) read uses;
       saw = saw;
       goes_on =
-          subst (All (λ x. is_end x.item.entry.what ≡ false)) (sym list)
-          (All-push (λ x. is_end x.item.entry.what ≡ false) l.side.seat.list d k.goes_on adds.goes_on);
+          subst (All (λ x. is_of_lane x.item.entry.what ≡ true)) (sym list)
+          (All-push (λ x. is_of_lane x.item.entry.what ≡ true) l.side.seat.list d k.goes_on adds.goes_on);
     }

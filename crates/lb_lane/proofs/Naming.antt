@@ -1,6 +1,6 @@
 -- An entry that names figures which were read in the same call: none of them is before one that the lane named, and what
 -- the lane keeps stays.
-use Rattle.std.proofs.Common.{ℕ, ◌≡◌, ◌<◌, ◌≤◌, false, not, ◌||◌, List, [], ◌∷◌, ◌++◌, ltb, length, map, get_or, set, take, refl, sym, subst, ap, ◌∙◌, arith, All}
+use Rattle.std.proofs.Common.{true, ℕ, ◌≡◌, ◌<◌, ◌≤◌, false, not, ◌||◌, List, [], ◌∷◌, ◌++◌, ltb, length, map, get_or, set, take, refl, sym, subst, ap, ◌∙◌, arith, All}
 use Rattle.std.specs.List.{list_any}
 use Rattle.std.proofs.lemmas.Bool.{le-ltb}
 use Rattle.std.proofs.lemmas.List.{append-nil, get_or-set_same, get_or-set_other, length-set}
@@ -26,7 +26,7 @@ use Rattle.lb_core.specs.Course.{named_at}
 use Rattle.lb_core.specs.CourseAfter.{raised_numbers}
 use Rattle.lb_core.specs.OfTrace.{row_of}
 use Rattle.lb_journal.specs.Journal.{Journal, names_of}
-use Rattle.lb_journal.specs.Merge.{is_end}
+use Rattle.lb_cell.specs.Kinds.{is_of_lane}
 use Rattle.lb_journal.specs.Owners.{UsesVersion}
 use Rattle.lb_board.specs.Board.{Sight, seen_at}
 use Rattle.lb_seen.proofs.Beginnings.{prefix_length}
@@ -104,7 +104,7 @@ pub names_add : (h : Header) (board : List TableId) (versions : Book) (code : Co
     → (x : DrewAbove h (length board) due l.side side what) → NamesLeft l.side.course side.course x.figs
     → is_due l.side.course.form ≡ false → row_of (what x.figs) l.side.number ≡ []
     → UsesVersion h code l.side.seat.read x.ticket (item_own h l.side (what x.figs) [] x.figs) (what x.figs)
-    → is_end (what x.figs) ≡ false → AddsTo h code l (record l { side = side }) (what x.figs) [] x.figs x.ticket
+    → is_of_lane (what x.figs) ≡ true → AddsTo h code l (record l { side = side }) (what x.figs) [] x.figs x.ticket
 names_add h board versions code l side due what k room x left late none uses goes_on =
     let c = l.side.course in
     let figs = x.figs in

@@ -1,5 +1,5 @@
 -- What a lane and the publisher behind its lock keep before any entry.
-use Rattle.std.proofs.Common.{ℕ, ◌≡◌, ◌<◌, ◌≤◌, false, List, [], ◌∷◌, Some, length, map, slice_get, take, refl, sym, subst, ap, ◌∙◌, arith, inl, All}
+use Rattle.std.proofs.Common.{true, ℕ, ◌≡◌, ◌<◌, ◌≤◌, false, List, [], ◌∷◌, Some, length, map, slice_get, take, refl, sym, subst, ap, ◌∙◌, arith, inl, All}
 use Rattle.std.proofs.lemmas.List.{get_or-replicate}
 use Rattle.std.proofs.lemmas.List.Elements.{All-nil}
 use Rattle.std.proofs.lemmas.Option.{slice_get_within}
@@ -20,7 +20,7 @@ use Rattle.lb_ticket.specs.declared.item.Drawn.{Drawn}
 use Rattle.lb_ticket.specs.declared.view.Held.{Held}
 use Rattle.lb_ticket.specs.Seats.{SeatIs}
 use Rattle.lb_journal.specs.Journal.{Journal}
-use Rattle.lb_journal.specs.Merge.{is_end}
+use Rattle.lb_cell.specs.Kinds.{is_of_lane}
 use Rattle.lb_journal.specs.Owners.{UsesVersion}
 use Rattle.lb_board.specs.Board.{seen_at}
 use Rattle.lb_cell.specs.Cells.{LaneIs as SideIs}
@@ -63,7 +63,7 @@ pub new_lane : (h : Header) (board : List TableId) (versions : Book) (code : Cod
     (record { side = side; looker = looker; rows = rows; vouched = 1; turned = 0; domains = [] })
 new_lane h board versions code side looker rows machine cells course list seen book first owned declared short =
     let Seen : Drawn Journal → Type 0 = λ d. All (Saw side.known.reader d.ticket) d.item.figs in
-    let GoesOn : Drawn Journal → Type 0 = λ d. is_end d.item.entry.what ≡ false in
+    let GoesOn : Drawn Journal → Type 0 = λ d. is_of_lane d.item.entry.what ≡ true in
     let Uses : Drawn Journal → Type 0 = λ d. UsesVersion h code side.seat.read d.ticket d.item d.item.entry.what in
     record {
       machine = machine;

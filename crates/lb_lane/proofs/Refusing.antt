@@ -14,7 +14,7 @@ use Rattle.lb_ticket.specs.declared.item.Drawn.{Drawn}
 use Rattle.lb_ticket.specs.declared.view.Held.{Held}
 use Rattle.lb_ticket.specs.Seats.{SeatIs}
 use Rattle.lb_journal.specs.Journal.{Journal}
-use Rattle.lb_journal.specs.Merge.{is_end}
+use Rattle.lb_cell.specs.Kinds.{is_of_lane}
 use Rattle.lb_journal.specs.Owners.{UsesVersion, UsesStay}
 use Rattle.lb_board.specs.Board.{seen_at}
 use Rattle.lb_seen.proofs.Beginnings.{prefix_length}
@@ -101,7 +101,7 @@ still h board versions code l side stays use_stays k u =
           subst (λ (t : Type 0). t) (λ i. All (Uses (sym u.read i)) (list i))
           (use_stays h code l.side.seat.read u.more l.side.seat.list k.uses);
       saw = stays l.side.known.reader side.known.reader side.seat.list u.sees (subst (SawAll l.side.known.reader) list k.saw);
-      goes_on = subst (All (λ x. is_end x.item.entry.what ≡ false)) list k.goes_on;
+      goes_on = subst (All (λ x. is_of_lane x.item.entry.what ≡ true)) list k.goes_on;
       numbers = λ cpu lt.
           let was : named_at side.course cpu < length (seen_at l.side.known.reader cpu) =
           subst (λ (c : Course). named_at c cpu < length (seen_at l.side.known.reader cpu)) course (k.numbers cpu lt) in

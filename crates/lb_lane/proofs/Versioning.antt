@@ -32,7 +32,8 @@ use Rattle.lb_ticket.specs.declared.item.Drawn.{Drawn}
 use Rattle.lb_ticket.specs.Seats.{SeatIs}
 use Rattle.lb_ticket.specs.Tickets.{pair}
 use Rattle.lb_journal.specs.Journal.{Journal, Left, Fits, item_sight, sight_in}
-use Rattle.lb_journal.specs.Merge.{is_end, parts_of}
+use Rattle.lb_journal.specs.Merge.{parts_of}
+use Rattle.lb_cell.specs.Kinds.{is_of_lane}
 use Rattle.lb_journal.specs.Owners.{SeatUses}
 use Rattle.lb_lane.specs.Vouched.{Vouches}
 use Rattle.lb_board.specs.Board.{seen_at}
@@ -128,6 +129,7 @@ one_more h book versions p p' l ticket k seat of shown list short =
               header = x.header;
               owner = x.owner;
               what = x.what;
+              figs = x.figs;
               shown = prefix_get ts p'.publisher.topologies (n + 1) _ front x.shown;
             })
         | inr past ↦
@@ -141,7 +143,7 @@ one_more h book versions p p' l ticket k seat of shown list short =
             ∙ (slice_get-get_or (ts ++ t ∷ []) (length ts) t (let a = length-append ts (t ∷ []) in omega (arith, a))
             ∙ ap Some (get_or-append_seam ts t [] t)) in
             subst (IsPub h p' n) is
-            (record { header = refl; owner = refl; what = ap (λ m. Pub (m + 2)) (sym same); shown = there })
+            (record { header = refl; owner = refl; what = ap (λ m. Pub (m + 2)) (sym same); figs = refl; shown = there })
       ];
     }
 
@@ -188,7 +190,7 @@ published h board versions code l side looker s s' v ticket topologies k drew bo
           (λ i. rows_drawn (map (λ d. d.item.entry) (seat i).list) ≡ take (rows i) l.rows) k.rows;
       uses = subst (SeatUses h code) seat k.uses;
       saw = subst (λ (t : Type 0). t) (λ i. SawAll (reader i) (seat i).list) k.saw;
-      goes_on = subst (λ (x : SeatIs Journal). All (λ d. is_end d.item.entry.what ≡ false) x.list) seat k.goes_on;
+      goes_on = subst (λ (x : SeatIs Journal). All (λ d. is_of_lane d.item.entry.what ≡ true) x.list) seat k.goes_on;
       numbers = λ cpu lt.
           subst (λ (t : Type 0). t)
           (λ i. named_at (record l.side.course { named = sym (ap (λ (c : Course). c.named) left) i })

@@ -18,7 +18,7 @@ use Rattle.lb_core.specs.declared.course.Form.{Form}
 use Rattle.lb_core.specs.declared.course.Form.TheVariants.{Due}
 use Rattle.lb_core.specs.OfTrace.{rows_drawn}
 use Rattle.lb_journal.specs.Journal.{Journal}
-use Rattle.lb_journal.specs.Merge.{is_end}
+use Rattle.lb_cell.specs.Kinds.{is_of_lane}
 use Rattle.lb_journal.specs.Owners.{SeatUses}
 use Rattle.lb_board.specs.Board.{seen_at}
 use Rattle.lb_cell.specs.Cells.{LaneIs as SideIs}
@@ -61,9 +61,10 @@ pub record LaneKeeps (h : Header) (board : List TableId) (versions : Book) (code
   pub short : length l.rows ≤ MAX_ROWS
   pub within : l.side.course.rows ≤ length l.rows
   pub rows : rows_drawn (map (λ d. d.item.entry) l.side.seat.list) ≡ take l.side.course.rows l.rows
-  -- ---- its list: the versions that it uses were read, the figures that it names were seen, and it draws no end
+  -- ---- its list: the versions that it uses were read, the figures that it names were seen, and it is of a lane's kinds,
+  -- none of which closes the history
   pub uses : SeatUses h code l.side.seat
   pub saw : SawAll l.side.known.reader l.side.seat.list
-  pub goes_on : All (λ d. is_end d.item.entry.what ≡ false) l.side.seat.list
+  pub goes_on : All (λ d. is_of_lane d.item.entry.what ≡ true) l.side.seat.list
   -- ---- its figures: of each CPU it has seen the greatest number that it drew or named
   pub numbers : (cpu : ℕ) → cpu < length h.cpus → named_at l.side.course cpu < length (seen_at l.side.known.reader cpu)

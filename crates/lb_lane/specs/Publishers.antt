@@ -1,6 +1,6 @@
 -- What stands behind the publisher's lock: the publisher and its seat, of which the versions and their tickets are those
 -- of the seat's list.
-use Rattle.std.specs.Prelude.{ℕ, ◌≡◌, ◌+◌, ◌<◌, ◌^◌, Some, length, slice_get}
+use Rattle.std.specs.Prelude.{ℕ, ◌≡◌, ◌+◌, ◌<◌, ◌^◌, Some, [], length, slice_get}
 use Rattle.std.specs.List.{slice_index_or}
 use Rattle.atomic_table.specs.Seated.{TableId}
 use Rattle.logbook.specs.Pages.{Book}
@@ -23,6 +23,7 @@ pub record IsPub (h : Header) (p : PublisherIs) (k : ℕ) (d : Drawn Journal) : 
   pub header : d.item.header ≡ h
   pub owner : d.item.entry.owner ≡ Publisher
   pub what : d.item.entry.what ≡ Pub (k + 2)
+  pub figs : d.item.figs ≡ []
   pub shown : slice_get p.publisher.topologies (k + 1) ≡ Some (domains_within h.cpus h.distances (parts_of d.item.course.command))
 
 pub record PublisherKeeps (h : Header) (book : TableId) (versions : Book) (p : PublisherIs) : Type 0 where

@@ -11,19 +11,21 @@ use crate::publisher::PublisherCell;
 use crate::versions::Versions;
 use lb_board::Reader;
 use lb_cell::{Names, Shared};
+use lb_core::Course;
 use lb_journal::{Journal, Left};
 use lb_ticket::{Coding, Seat};
 use lb_topub::{Looker, Publisher};
 
 impl<N: Names + Versions> Lane<N> {
-    /// Its seat, which learns that the lane's last entry was drawn and what it left, its reader and its looker. What the
-    /// lane kept is known of them.
-    pub fn end(self, shared: &Shared<'_, N>) -> (Seat<Journal>, Reader, Looker)
+    /// Its seat, which learns that the lane's last entry was drawn and what it left, its reader, its looker, its course,
+    /// and the ticket of its last entry, or 0 where it drew none. What the lane kept is known of them.
+    pub fn end(self, shared: &Shared<'_, N>) -> (Seat<Journal>, Reader, Looker, Course, u64)
         ensures seat { KeepsList self.side.seat result.0 }
         ensures learnt { result.0.known ≡ self.side.seat.known ++ facts_of self.side.known.note }
         ensures view { (result.0.fresh ≡ self.side.seat.fresh) × (result.0.read ≡ self.side.seat.read) }
         ensures reader { result.1 ≡ self.side.known.reader }
         ensures looker { result.2 ≡ self.looker }
+        ensures last { (result.3 ≡ self.side.course) × (result.4 ≡ self.side.known.ticket) }
         ensures side { SideKeeps N.header N.book N.board ⟦<Left as Coding>⟧.coding self.side }
         ensures kept { LaneKeeps N.header N.board N.versions ⟦<Journal as Coding>⟧.coding self }
     {
@@ -35,8 +37,8 @@ impl<N: Names + Versions> Lane<N> {
             turned: _,
             domains: _,
         } = self;
-        let (seat, reader) = side.end(shared);
-        (seat, reader, looker)
+        let (seat, reader, course, last) = side.end(shared);
+        (seat, reader, looker, course, last)
     }
 }
 

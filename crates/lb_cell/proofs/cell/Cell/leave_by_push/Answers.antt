@@ -1,21 +1,13 @@
-use Rattle.std.proofs.Common.{◌≡◌, length, if◌then◌else◌, None, subst, sym, ◌∙◌}
-use Rattle.lb_queue.specs.declared.answers.OutCause.TheVariants as causes
-use Rattle.lb_queue.specs.Hands.{loaded, take_push}
-use Rattle.lb_cell.specs.Draws.{BeforeIs}
-use Rattle.lb_cell.specs.Hands.{HasLeft}
+use Rattle.std.proofs.Common.{rules, ◌≡◌, length, if◌then◌else◌}
+use Rattle.lb_queue.specs.Hands.{take_push}
 use Rattle.lb_cell.proofs.Moving.{push_left, pushes, few_pushed, came, are_for}
 use Rattle.lb_cell.proofs.cell.Cell.leave_by_push.Goals as goal
 
 pub depart-requires-clause-left : goal.depart-requires-clause-left
 depart-requires-clause-left g c =
-    let h = g.N.Names.header in
-    let hand = c.args.hand.now in
-    let left = c.take_push-pushed.ensures.step ∙ (λ i. (take_push (c.self.view_is i).queue.state (c.lane.view_is i).course.at c.args.hand.now.to).1) in
-    let came = c.take_push-pushed.ensures.hand ∙ (λ i. loaded (c.self.view_is i).queue.state (c.lane.view_is i).course.at (take_push (c.self.view_is i).queue.state (c.lane.view_is i).course.at c.args.hand.now.to).0 hand) in
-    subst
-    (λ (b : BeforeIs). HasLeft h b.cell b.lane causes.Push None c.take_push-pushed.new.hand c.take_push-pushed.new.self.state) (sym c.of-before.ensures)
-    (push_left h c.args.self.now c.args.lane.now hand c.take_push-pushed.new.hand c.take_push-pushed.new.self.state
-    c.requires.due c.requires.stop c.requires.push.0 c.requires.push.1 c.requires.hand.0 left came)
+    push_left g.N.Names.header c.of-before.result.cell c.of-before.result.lane c.args.hand.now c.take_push-pushed.new.hand
+    c.take_push-pushed.new.self.state (search rules) (search rules) (search rules) (search rules) (search rules) (search rules)
+    (search rules)
 
 pub depart-requires-clause-lists : goal.depart-requires-clause-lists
 depart-requires-clause-lists g c =

@@ -1,11 +1,7 @@
-use Rattle.std.proofs.Common.{subst, sym}
-use Rattle.lb_core.specs.declared.entry.What.TheVariants as what
-use Rattle.lb_cell.specs.Draws.{BeforeIs, MayDraw}
+use Rattle.std.proofs.Common.{rules}
 use Rattle.lb_cell.proofs.Turning.{may_shut}
 use Rattle.lb_cell.proofs.cell.Cell.shut_turn.Goals as goal
 
 pub enter-requires-clause-may : goal.enter-requires-clause-may
 enter-requires-clause-may g c =
-    let h = g.N.Names.header in
-    subst (λ (b : BeforeIs). MayDraw h b.cell b.lane what.Shut) (sym c.of-before.ensures)
-    (may_shut h c.args.self.now c.args.lane.now c.requires.due c.requires.answers c.requires.open)
+    may_shut g.N.Names.header c.of-before.result.cell c.of-before.result.lane (search rules) (search rules) (search rules)

@@ -1,24 +1,13 @@
-use Rattle.std.proofs.Common.{rules, ◌≡◌, Some, length, refl, subst, sym, ◌∙◌}
-use Rattle.lb_queue.specs.declared.answers.OutCause.TheVariants as causes
-use Rattle.lb_queue.specs.Hands.{loaded, take_pull, taken_by}
-use Rattle.lb_cell.specs.Draws.{BeforeIs}
-use Rattle.lb_cell.specs.Hands.{HasLeft}
+use Rattle.std.proofs.Common.{rules, ◌≡◌, length, refl}
+use Rattle.lb_queue.specs.Hands.{take_pull}
 use Rattle.lb_cell.proofs.Moving.{pull_left, many_pulled, few_pulled, came, are_for}
 use Rattle.lb_cell.proofs.cell.Cell.take.Goals as goal
 
 pub depart-requires-clause-left : goal.depart-requires-clause-left
 depart-requires-clause-left g c =
-    let h = g.N.Names.header in
-    let env = c.args.env.now in
-    let hand = c.args.hand.now in
-    let said = c.take-taken.ensures.answer ∙ (λ i. taken_by (c.self.view_is i).queue.state (c.lane.view_is i).course.at env) in
-    let left = c.take-taken.ensures.step ∙ (λ i. (take_pull (c.self.view_is i).queue.state (c.lane.view_is i).course.at env).1) in
-    let came = c.take-taken.ensures.hand ∙ (λ i. loaded (c.self.view_is i).queue.state (c.lane.view_is i).course.at (take_pull (c.self.view_is i).queue.state (c.lane.view_is i).course.at env).0 hand) in
-    subst
-    (λ (b : BeforeIs). HasLeft h b.cell b.lane causes.Pull (Some c.take-taken.result) c.take-taken.new.hand
-    c.take-taken.new.self.state) (sym c.of-before.ensures)
-    (pull_left h c.args.self.now c.args.lane.now env c.take-taken.result hand c.take-taken.new.hand c.take-taken.new.self.state
-    c.requires.due c.requires.pull.0 c.requires.pull.1 said c.requires.hand.0 c.requires.hand.1 left came)
+    pull_left g.N.Names.header c.of-before.result.cell c.of-before.result.lane c.args.env.now c.take-taken.result c.args.hand.now
+    c.take-taken.new.hand c.take-taken.new.self.state (search rules) (search rules) (search rules) (search rules) (search rules)
+    (search rules) (search rules) (search rules)
 
 pub depart-requires-clause-lists : goal.depart-requires-clause-lists
 depart-requires-clause-lists g c =

@@ -1,0 +1,6 @@
+use Rattle.std.proofs.Common.{◌≡◌, take}
+use Rattle.lb_core.specs.OfTrace.{of_lane}
+use Rattle.lb_cpu.proofs.rows.rows_of.Given as goal
+
+abbrev pub invariant-loop-row : goal.invariant-loop-row
+invariant-loop-row l = l.own ≡ of_lane l.lane (take l.row-index l.rows)
