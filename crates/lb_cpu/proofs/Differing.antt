@@ -9,7 +9,8 @@ use Rattle.lb_queue.specs.Tasks.{ids, occurs}
 abbrev pub Differ : List TaskRecord → Type 0
 Differ ts = (id : ℕ) → occurs id (ids ts) ≤ 1
 
-pub lacks_is : (ts : List TaskRecord) (id : ℕ) → list_all (λ (t : TaskRecord). not (t.id == id)) ts ≡ true → occurs id (ids ts) ≡ 0
+pub lacks_is : (ts : List TaskRecord) (id : ℕ)
+    → list_all (λ (t : TaskRecord). not (t.id == id)) ts ≡ true → occurs id (ids ts) ≡ 0
 lacks_is [] id all = refl
 lacks_is (t ∷ ts) id all =
     let p = and_parts (not (t.id == id)) _ all in

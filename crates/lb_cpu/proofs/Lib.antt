@@ -1,9 +1,12 @@
 mod There
 mod Differing
 mod Flying
-mod Taking
+mod InService
 mod Numbering
 mod Cutting
 mod Opening
 mod Places
 mod Leaving
+mod Starting
+mod Parting
+mod Resting

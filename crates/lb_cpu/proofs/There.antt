@@ -23,25 +23,26 @@ rest_on l m n a b =
       domains = b.domains ∙ a.domains;
     }
 
-abbrev pub drew_there : (h : Header) (book : TableId) (board : List TableId) (code : Coded Journal) (l m l' : LaneIs) (cpu : ℕ) (what : What)
-    (before after : CellIs) → CellKeeps h book board before → before.log.writer.cpu ≡ cpu → Drew h before after l.side m.side what
-    → SameRest l m → SameBut m.side l'.side → l'.side.seat.read ≡ m.side.seat.read ++ map (held_of code) after.log.seat.list
-    → SameRest m l' → DrewThere h book board code l l' cpu what
-drew_there h book board code l m l' cpu what before after kept here drew rest same read on =
-    record {
-      before = before;
-      after = after;
-      kept = kept;
-      here = here;
-      mid = m.side;
-      drew = drew;
-      read = record { same = same; read = read };
-      rest = rest_on l m l' rest on;
-    }
+module _ (h : Header) (book : TableId) (board : List TableId) (code : Coded Journal) where
+  abbrev pub drew_there : (l m l' : LaneIs) (cpu : ℕ) (what : What) (before after : CellIs) → CellKeeps h book board before
+      → before.log.writer.cpu ≡ cpu → Drew h before after l.side m.side what → SameRest l m → SameBut m.side l'.side
+      → l'.side.seat.read ≡ m.side.seat.read ++ map (held_of code) after.log.seat.list → SameRest m l'
+      → DrewThere h book board code l l' cpu what
+  drew_there l m l' cpu what before after kept here drew rest same read on =
+      record {
+        before = before;
+        after = after;
+        kept = kept;
+        here = here;
+        mid = m.side;
+        drew = drew;
+        read = record { same = same; read = read };
+        rest = rest_on l m l' rest on;
+      }
 
-abbrev pub saw_there : (h : Header) (book : TableId) (board : List TableId) (code : Coded Journal) (l l' : LaneIs) (cpu : ℕ)
-    (before : CellIs) → CellKeeps h book board before → before.log.writer.cpu ≡ cpu → SameBut l.side l'.side
-    → l'.side.seat.read ≡ l.side.seat.read ++ map (held_of code) before.log.seat.list → SameRest l l'
-    → SawThere h book board code l l' cpu
-saw_there h book board code l l' cpu before kept here same read rest =
-    record { before = before; kept = kept; here = here; read = record { same = same; read = read }; rest = rest }
+  abbrev pub saw_there : (l l' : LaneIs) (cpu : ℕ) (before : CellIs) → CellKeeps h book board before
+      → before.log.writer.cpu ≡ cpu → SameBut l.side l'.side
+      → l'.side.seat.read ≡ l.side.seat.read ++ map (held_of code) before.log.seat.list → SameRest l l'
+      → SawThere h book board code l l' cpu
+  saw_there l l' cpu before kept here same read rest =
+      record { before = before; kept = kept; here = here; read = record { same = same; read = read }; rest = rest }

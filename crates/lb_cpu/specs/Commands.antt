@@ -35,24 +35,24 @@ use Rattle.lb_cpu.specs.Hands.{InFlight}
 
 -- ---- three ways to serve a row
 -- the queue of a CPU, which may, answered the command in service
-pub record Answered (h : Header) (book : TableId) (board : List TableId) (code : Coded Journal) (l l' : LaneIs) (reply : Reply)
-    : Type 0 where
+pub record Answered (h : Header) (book : TableId) (board : List TableId) (code : Coded Journal) (l l' : LaneIs)
+    (reply : Reply) : Type 0 where
   pub cpu : ℕ
   pub there : DrewThere h book board code l l' cpu (Did reply)
   pub asked : CanAnswer there.before.queue.state cpu l.side.course
   pub answer : reply ≡ (answer_to l.side.course.command l.side.course.at there.before.queue.state).0
 
 -- the woken task, which has to wake where the hand goes, left the queue of a CPU in the hand
-pub record LeftToWake (h : Header) (book : TableId) (board : List TableId) (code : Coded Journal) (l l' : LaneIs) (hand : HandState)
-    : Type 0 where
+pub record LeftToWake (h : Header) (book : TableId) (board : List TableId) (code : Coded Journal) (l l' : LaneIs)
+    (hand : HandState) : Type 0 where
   pub cpu : ℕ
   pub there : DrewThere h book board code l l' cpu (Out Wake hand.to (ids hand.tasks))
   pub wakes : WakesElsewhere there.before.queue.state l.side.course hand.to
   pub flies : InFlight h l'.side.course Wake hand
 
 -- and it landed there
-pub record WokeElsewhere (h : Header) (book : TableId) (board : List TableId) (code : Coded Journal) (l l' : LaneIs) (reply : Reply)
-    : Type 0 where
+pub record WokeElsewhere (h : Header) (book : TableId) (board : List TableId) (code : Coded Journal) (l l' : LaneIs)
+    (reply : Reply) : Type 0 where
   pub mid : LaneIs
   pub hand : HandState
   pub left : LeftToWake h book board code l mid hand
@@ -87,8 +87,8 @@ Served h book board versions code l l' reply = Woke h book board code l l' reply
 
 -- ---- the whole
 -- the lane took up the row, which was its next, and it was served
-pub record Commanded (h : Header) (book : TableId) (board : List TableId) (versions : Book) (code : Coded Journal) (l l' : LaneIs)
-    (row : Row) (reply : Reply) : Type 0 where
+pub record Commanded (h : Header) (book : TableId) (board : List TableId) (versions : Book) (code : Coded Journal)
+    (l l' : LaneIs) (row : Row) (reply : Reply) : Type 0 where
   pub mid : LaneIs
   pub took : TookRow h l mid
   pub is : took.row ≡ row

@@ -2,6 +2,8 @@ pub mod Cpus
 pub mod Drawn
 pub mod Hands
 pub mod Commands
+pub mod Turns
 pub mod Numbering
 pub mod Blanks
 pub mod Starts
+pub mod Ends

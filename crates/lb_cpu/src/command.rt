@@ -51,7 +51,8 @@ fn publish_in<N: Names + Versions, R: Wait>(
 ) -> Result<Reply, NoMemory>
     requires machine { (machine.now.cpus ≡ N.header.cpus) × (machine.now.distances ≡ N.header.distances) }
     requires asked { RebuildAsks N.header lane.old.side.course }
-    ensures ok { IfOk result (λ reply. MadeVersion N.header N.book N.versions ⟦<Journal as Coding>⟧.coding lane.old lane.new reply) }
+    ensures ok { IfOk result (λ reply.
+        MadeVersion N.header N.book N.versions ⟦<Journal as Coding>⟧.coding lane.old lane.new reply) }
     ensures refused { OnErr result (lane.new ≡ lane.old) }
 {
     publisher.keeps();
@@ -70,7 +71,8 @@ impl<N: Names + Versions> Cpus<N> {
         task: u32,
     ) -> Result<Reply, NoMemory>
         requires { IsForTask lane.old.side.course task }
-        ensures ok { IfOk result (λ reply. Answered N.header N.book N.board ⟦<Journal as Coding>⟧.coding lane.old lane.new reply) }
+        ensures ok { IfOk result (λ reply.
+            Answered N.header N.book N.board ⟦<Journal as Coding>⟧.coding lane.old lane.new reply) }
         ensures refused { OnErr result (lane.new ≡ lane.old) }
     {
         let shared = self.shared();
@@ -89,7 +91,8 @@ impl<N: Names + Versions> Cpus<N> {
         requires declared { cpu < length N.header.cpus }
         requires asked { (lane.old.side.course.form ≡ form.Asked)
             × (lane.old.side.course.command ≡ Some (command.Tick cpu)) }
-        ensures ok { IfOk result (λ reply. Answered N.header N.book N.board ⟦<Journal as Coding>⟧.coding lane.old lane.new reply) }
+        ensures ok { IfOk result (λ reply.
+            Answered N.header N.book N.board ⟦<Journal as Coding>⟧.coding lane.old lane.new reply) }
         ensures refused { OnErr result (lane.new ≡ lane.old) }
     {
         let shared = self.shared();

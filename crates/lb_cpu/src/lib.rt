@@ -5,16 +5,27 @@
 //! queue beyond that it tests while it holds the lock, and looks again where the test fails.
 #![tactic(auto)]
 
+mod apart;
 mod blank;
 mod booking;
+mod closing;
 mod command;
 mod cpus;
 mod cut;
+mod due;
+mod ended;
 mod landing;
 mod locks;
+mod looking;
+mod requests;
+mod rest;
 mod rows;
+mod serving;
 mod start;
+mod taking;
+mod turning;
 mod waking;
 
 pub use blank::Blank;
 pub use cpus::Cpus;
+pub use ended::Ended;

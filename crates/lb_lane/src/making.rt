@@ -1,5 +1,5 @@
 //! A lane and the publisher behind its lock before any entry.
-ghost use Rattle.std.specs.Prelude.{ℕ, ◌≡◌, ◌<◌, ◌≤◌, false, [], ◌∷◌, Some, All, length, slice_get};
+ghost use Rattle.std.specs.Prelude.{ℕ, ◌≡◌, ◌<◌, ◌≤◌, true, [], ◌∷◌, Some, All, length, slice_get};
 ghost use Rattle.lb_board.specs.Board.{seen_at};
 ghost use Rattle.lb_core.specs.Course.{opening_course};
 ghost use Rattle.lb_domain.specs.Topologies.{domains_within};

@@ -6,6 +6,7 @@ ghost use Rattle.lb_trace.specs.Accepted.{IsHeader};
 ghost use Rattle.lb_levels.specs.Rows.{layout_of};
 ghost use Rattle.lb_domain.specs.Topologies.{domains_within};
 ghost use Rattle.lb_core.specs.Course.{opening_course};
+ghost use Rattle.lb_core.specs.Machine.{opening_queue};
 
 use super::Engine;
 use lb_act::opening_queues;

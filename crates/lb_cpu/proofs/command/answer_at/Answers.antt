@@ -11,12 +11,13 @@ returns-clause-ok g c =
     let l = c.args.lane.now in
     let cpu = c.args.cell.now.log.writer.cpu in
     let room = c.make_room.ensures in
+    let x = c.answer-reply in
+    let f = c.follow.ensures in
     record {
       cpu = cpu;
       there =
-          drew_there n.header n.book n.board the_row.coded l c.answer-reply.new.self c.follow.new.self cpu _ c.make_room.new.cell
-          c.answer-reply.new.cell c.keeps.ensures (ap (λ w. w.cpu) room.log.1) c.answer-reply.ensures.drew c.answer-reply.ensures.rest
-          c.follow.ensures.same c.follow.ensures.read c.follow.ensures.rest;
+          drew_there n.header n.book n.board the_row.coded l x.new.self c.follow.new.self cpu _ c.make_room.new.cell x.new.cell
+          c.keeps.ensures (ap (λ w. w.cpu) room.log.1) x.ensures.drew x.ensures.rest f.same f.read f.rest;
       asked = subst (λ (q : BookedQueue). CanAnswer q.state cpu l.side.course) (sym room.queue) c.requires;
-      answer = c.answer-reply.ensures.reply;
+      answer = x.ensures.reply;
     }

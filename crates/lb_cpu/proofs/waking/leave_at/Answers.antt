@@ -35,7 +35,8 @@ returns-clause-ok g c =
     let after = c.leave.new.cell in
     let last = c.follow.new.self in
     let taken = c.leave.new.hand in
-    let f = wake_flies n.header c.make_room.new.cell l.side mid.side hand.to taken _ w e.drew.course e.loaded c.requires.declared in
+    let before = c.make_room.new.cell in
+    let f = wake_flies n.header before l.side mid.side hand.to taken _ w e.drew.course e.loaded c.requires.declared in
     let drew : Drew n.header c.make_room.new.cell after l.side mid.side (Out Wake taken.to (ids taken.tasks)) =
     subst (λ k. Drew n.header c.make_room.new.cell after l.side mid.side (Out Wake k (ids taken.tasks))) (sym f.1) e.drew in
     record {

@@ -1,5 +1,5 @@
 use Rattle.lb_journal.specs.contracts.journal.Journal.{the_row}
-use Rattle.lb_cpu.proofs.Taking.{service_if}
+use Rattle.lb_cpu.proofs.InService.{service_if}
 use Rattle.lb_cpu.proofs.cpus.Cpus.take_up.Goals as goal
 
 pub returns-clause-service : goal.returns-clause-service

@@ -1,4 +1,4 @@
-use Rattle.std.proofs.Common.{rules, ◌≡◌, ◌∙◌, ◌+◌, ◌<◌, false, length, ap, sym, subst, refl}
+use Rattle.std.proofs.Common.{true, rules, ◌≡◌, ◌∙◌, ◌+◌, ◌<◌, false, length, ap, sym, subst, refl}
 use Rattle.lb_core.specs.declared.entry.What.TheVariants.{Row}
 use Rattle.lb_core.specs.Rules.{is_undeclared}
 use Rattle.lb_trace.specs.Accepted.{is_command}

@@ -1,5 +1,5 @@
 -- A row that a lane took up is in service.
-use Rattle.std.proofs.Common.{ℕ, ◌≡◌, ◌∙◌, ◌+◌, Some, Result, Ok, Err, OnOk, All, List, [], slice_get, true, refl, sym, subst, ap}
+use Rattle.std.proofs.Common.{ℕ, ◌≡◌, ◌∙◌, ◌+◌, Some, Result, Ok, Err, IfOk, OnOk, All, List, [], slice_get, true, refl, sym, subst, ap}
 use Rattle.std.proofs.lemmas.Option.{same_Some, slice_get-get_or, slice_get_within}
 use base.Stored.{Coded}
 use Rattle.logbook.specs.Pages.{Book}
@@ -15,7 +15,8 @@ use Rattle.lb_cell.specs.Cells.{LaneIs as SideIs}
 use Rattle.lb_cell.specs.Own.{own_left}
 use Rattle.lb_lane.specs.Lanes.{LaneIs, LaneKeeps}
 use Rattle.lb_lane.specs.Own.{TookRow}
-use Rattle.lb_cpu.specs.Commands.{IsInService}
+use Rattle.lb_queue.specs.declared.answers.Reply.{Reply}
+use Rattle.lb_cpu.specs.Commands.{Commanded, IsInService, Served}
 
 -- what the row leaves
 left_form : (h : Header) (l : SideIs) (n : ℕ) (row : Row) → (own_left h l (RowEntry n row.at row.command) [] []).form ≡ Asked
@@ -52,7 +53,11 @@ pub service_if : {A E : Type 0} (r : Result A E) (h : Header) (board : List Tabl
 service_if (Ok x) h board versions code l l' row k next took = in_service h board versions code l l' row k next took
 service_if (Err x) h board versions code l l' row k next took = tt
 
--- it is the row that was handed in
-pub same_row : (h : Header) (l l' : LaneIs) (row : Row) → slice_get l.rows l.side.course.rows ≡ Some row → (took : TookRow h l l')
-    → took.row ≡ row
-same_row h l l' row next took = same_Some _ _ (sym took.next ∙ next)
+-- and where it is served then, the command is
+pub commanded_if : {E : Type 0} (r : Result Reply E) (h : Header) (book : TableId) (board : List TableId) (versions : Book)
+    (code : Coded Journal) (l m l' : LaneIs) (row : Row) → slice_get l.rows l.side.course.rows ≡ Some row → TookRow h l m
+    → IfOk r (λ reply. Served h book board versions code m l' reply)
+    → IfOk r (λ reply. Commanded h book board versions code l l' row reply)
+commanded_if (Ok reply) h book board versions code l m l' row next took served =
+    record { mid = m; took = took; is = same_Some _ _ (sym took.next ∙ next); served = served }
+commanded_if (Err x) h book board versions code l m l' row next took served = tt
