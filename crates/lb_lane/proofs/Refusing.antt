@@ -1,6 +1,6 @@
 -- Where nothing was drawn, though the lane has seen, read and marked more, what it keeps stays.
 use mathlib.Core.List.{IsPrefix}
-use Rattle.std.proofs.Common.{false, ◌≡◌, ◌≤◌, ◌<◌, Result, Ok, Err, OnErr, List, [], ◌++◌, length, map, take, sym, subst, ap, ◌∙◌, arith, All}
+use Rattle.std.proofs.Common.{true, false, ◌≡◌, ◌≤◌, ◌<◌, Result, Ok, Err, OnErr, List, [], ◌++◌, length, map, take, sym, subst, ap, ◌∙◌, arith, All}
 use Rattle.std.proofs.lemmas.List.{append-nil}
 use base.Stored.{Coded}
 use Rattle.logbook.specs.Pages.{Book}
