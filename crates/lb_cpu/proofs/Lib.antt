@@ -4,5 +4,5 @@ mod Opening
 mod Places
 mod Leaving
 mod Starting
-mod Apart
+mod Parting
 mod Resting

@@ -16,7 +16,7 @@ use Rattle.lb_lane.specs.Publishers.{PublisherIs, PublisherKeeps}
 use Rattle.lb_cpu.specs.Cpus.{CpusIs, CpusKeeps}
 use Rattle.lb_cpu.specs.Ends.{LeftCell, LeftLane, VersionsAreSeen}
 use Rattle.lb_cpu.specs.Numbering.{EachOfTwo, EachOfThree}
-use Rattle.lb_cpu.proofs.Apart.{unmapped}
+use Rattle.lb_cpu.proofs.Parting.{unmapped}
 use Rattle.lb_cpu.proofs.Leaving.{IsLeft}
 
 abbrev reader_of : LaneIs → Sight
