@@ -14,6 +14,7 @@ use Rattle.lb_trace.specs.declared.trace.Header.{Header}
 use Rattle.lb_core.specs.declared.course.Form.{Form}
 use Rattle.lb_core.specs.declared.course.Form.TheVariants.{Rest}
 use Rattle.lb_core.specs.declared.course.Course.{Course}
+use Rattle.lb_core.specs.declared.entry.CpuFig.{CpuFig}
 use Rattle.lb_core.specs.declared.entry.Entry.{Entry}
 use Rattle.lb_core.specs.declared.entry.What.{What}
 use Rattle.lb_core.specs.declared.entry.What.TheVariants.{Row, Adopt, Look, Scan, Pub, End, Did, Out, Landed, Turn, Shut, Close, Ask, Kick, Over}
@@ -24,7 +25,7 @@ use Rattle.lb_ticket.specs.Tickets.{pair}
 use Rattle.lb_journal.specs.Journal.{Journal, Left, replay}
 use Rattle.lb_journal.specs.Known.{KnowsRest}
 use Rattle.lb_journal.specs.Merge.{closing_out, is_end, is_out_at_rest, queue_list}
-use Rattle.lb_journal.specs.Owners.{InAll, ReadsAll, SeatUses, UsesVersion, lists_of, own_rows, published}
+use Rattle.lb_journal.specs.Owners.{InAll, ReadsAll, ReadsFigure, SeatUses, UsesVersion, lists_of, own_rows, published}
 use Rattle.lb_board.specs.Board.{IsOfBoard, Sight, WriterIs, Witnesses, seen_at}
 use Rattle.lb_topub.specs.Versions.{VersionsSeen}
 use Rattle.lb_cell.specs.Cells.{IsPlain}
@@ -123,7 +124,8 @@ module _ (h : Header) (book : TableId) (versions : Book) (code : Coded Journal) 
   pub pub_figures : (lists : List (List (Drawn Journal))) → All (ReadsAll h lists) p.seat.list
   pub_figures lists k d lt =
       let x = get_or p.seat.list k d in
-      subst (All _) (sym (one_pub k d lt).figs) (All-nil _)
+      let F : CpuFig → Type 0 = ReadsFigure h lists x.ticket in
+      subst (λ (fs : List CpuFig). All F fs) (sym (one_pub k d lt).figs) (All-nil F)
 
   pub pub_open : All (λ d. (closing_out d.item ≡ false) × (is_end d.item.entry.what ≡ false)) p.seat.list
   pub_open k d lt =
