@@ -1,7 +1,7 @@
 -- What is left of the owners of lists, put together: the seats of all, and what is kept of their lists.
-use Rattle.std.proofs.Common.{ℕ, ◌≡◌, ◌⊎◌, inl, inr, ◌+◌, ◌<◌, ◌≤◌, zero, suc, Bool, true, false, ◌&&◌, ◌==◌, Option, Some, None, List, [], ◌∷◌, ◌++◌, map, take, length, slice_get, slice_index_or, get_or, All, refl, sym, ap, subst, ◌∙◌, arith}
+use Rattle.std.proofs.Common.{ℕ, ◌≡◌, inl, inr, ◌+◌, ◌<◌, zero, suc, Bool, true, false, ◌&&◌, ◌==◌, Some, List, [], ◌∷◌, ◌++◌, map, length, slice_get, slice_index_or, get_or, All, refl, sym, ap, subst, ◌∙◌, arith}
 use Rattle.std.proofs.lemmas.Option.{slice_get-get_or, slice_get_within}
-use Rattle.std.proofs.lemmas.List.{length-append, length-map, get_or_past}
+use Rattle.std.proofs.lemmas.List.{length-append, get_or_past}
 use Rattle.std.proofs.lemmas.List.Elements.{All-nil, All-cons, All-append, All-map}
 use Rattle.std.proofs.lemmas.Bool.{cases_lt, false≢true}
 use mathlib.Core.List.{IsPrefix}
@@ -25,9 +25,8 @@ use Rattle.lb_ticket.specs.Tickets.{pair}
 use Rattle.lb_journal.specs.Journal.{Journal, Left, replay}
 use Rattle.lb_journal.specs.Known.{KnowsRest}
 use Rattle.lb_journal.specs.Merge.{closing_out, is_end, is_out_at_rest, queue_list}
-use Rattle.lb_journal.specs.Owners.{InAll, ReadsAll, ReadsFigure, SeatUses, UsesVersion, lists_of, own_rows, published}
-use Rattle.lb_board.specs.Board.{IsOfBoard, Sight, WriterIs, Witnesses, seen_at}
-use Rattle.lb_topub.specs.Versions.{VersionsSeen}
+use Rattle.lb_journal.specs.Owners.{ReadsAll, ReadsFigure, SeatUses, UsesVersion, lists_of, published}
+use Rattle.lb_board.specs.Board.{WriterIs, Witnesses, seen_at}
 use Rattle.lb_cell.specs.Cells.{IsPlain}
 use Rattle.lb_cell.specs.Kinds.{is_of_lane, is_of_queue}
 use Rattle.lb_cell.specs.LastEntries.{fact_left}

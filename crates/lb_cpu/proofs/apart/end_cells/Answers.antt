@@ -1,4 +1,4 @@
-use Rattle.std.proofs.Common.{ℕ, ◌≡◌, ◌+◌, length, subst, rules, arith}
+use Rattle.std.proofs.Common.{ℕ, ◌≡◌, length, subst, rules, arith}
 use Rattle.lb_cpu.specs.Ends.{LeftCell}
 use Rattle.lb_cpu.proofs.Places.{three_push}
 use Rattle.lb_cpu.proofs.apart.end_cells.Goals as goal

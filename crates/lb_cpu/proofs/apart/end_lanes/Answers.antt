@@ -1,9 +1,6 @@
 use Rattle.std.proofs.Common.{ℕ, ◌≡◌, ◌+◌, List, [], ◌∷◌, ◌++◌, map, length, refl, ap, sym, subst, ◌∙◌, arith}
 use Rattle.std.specs.Vec.Iter.{into_iter_items}
 use Rattle.std.proofs.lemmas.List.{append_assoc, map-append, length_push}
-use Rattle.lb_core.specs.declared.course.Course.{Course}
-use Rattle.lb_board.specs.Board.{Sight}
-use Rattle.lb_topub.specs.Versions.{VersionsSeen}
 use Rattle.lb_journal.specs.contracts.journal.Journal.{the_row}
 use Rattle.lb_journal.specs.contracts.journal.Left.{the_row as left_row}
 use Rattle.lb_lane.specs.Lanes.{LaneIs}
@@ -29,7 +26,7 @@ loop-lane-preserved g c =
     let N : ℕ → LaneIs → Type 0 = λ k l. l.side.number ≡ k in
     let P = LeftLane n.header n.book n.board g.N.Versions.versions the_row.coded left_row.coded in
     let number = each_step N (length lanes) lane (into_iter_items c.next.new.self) (into_iter_items c.loop-lane.lane-iterator)
-        steps.0 i.numbers in
+    steps.0 i.numbers in
     record {
       so_far =
           two_push P lanes (lanes ++ lane ∷ []) c.loop-lane.seats.items c.push_reserved.new.self.items lane

@@ -32,9 +32,9 @@ loop-own-preserved g c =
     (let a = ap (λ (x : List LaneIs). length x) items in let b = length_push lanes lane in omega arith) in
     let number : c.len-number.result ≡ length lanes = search rules in
     let next = next_lane h g.N.Names.book g.N.Names.board g.N.Versions.versions (length lanes) c.in-Some.own
-        c.in-Some-next.seat c.in-Some-next-2.reader c.in-Some-next-3.looker (into_iter_items l.own-iterator) rest
-        (into_iter_items l.seats) seats (into_iter_items l.readers) readers (into_iter_items l.lookers) lookers i.rest steps.0
-        c.in-Some-next.ensures.items c.in-Some-next-2.ensures.items c.in-Some-next-3.ensures.items in
+    c.in-Some-next.seat c.in-Some-next-2.reader c.in-Some-next-3.looker (into_iter_items l.own-iterator) rest
+    (into_iter_items l.seats) seats (into_iter_items l.readers) readers (into_iter_items l.lookers) lookers i.rest steps.0
+    c.in-Some-next.ensures.items c.in-Some-next-2.ensures.items c.in-Some-next-3.ensures.items in
     record {
       rest =
           subst (λ (k : ℕ). FitLanes h g.N.Names.book g.N.Names.board g.N.Versions.versions k rest seats readers lookers)

@@ -1,4 +1,4 @@
-use Rattle.std.proofs.Common.{ℕ, ◌≡◌, List, [], ◌∷◌, ◌++◌, map, length, vec_len, All, ap, sym, subst, ◌∙◌}
+use Rattle.std.proofs.Common.{ℕ, ◌≡◌, List, map, length, vec_len, All, ap, sym, subst, ◌∙◌}
 use Rattle.std.proofs.lemmas.List.{length-map}
 use mathlib.Core.List.{IsPrefix}
 use Rattle.logbook.specs.Pages.{Book}
@@ -32,7 +32,7 @@ gather-requires-clause-readers g c =
     let n = g.N.Names in
     let lanes = c.args.lanes.items in
     let readers = readers_are n.header n.book n.board g.N.Versions.versions the_row.coded left_row.coded lanes
-        c.in_ok-lanes.lanes.seats.items c.in_ok-lanes.ensures.lanes in
+    c.in_ok-lanes.lanes.seats.items c.in_ok-lanes.ensures.lanes in
     subst (λ (rs : List Sight). All (λ r. r.cells ≡ c.self.inside.board) rs) (sym c.in_ok-lanes.ensures.readers)
     (subst (λ (b : List TableId). All (λ r. r.cells ≡ b) (map (λ (l : LaneIs). l.side.known.reader) lanes))
     (sym c.self.invariant.board_is) readers)
@@ -42,7 +42,7 @@ gather-requires-2 g c =
     let n = g.N.Names in
     let lanes = c.args.lanes.items in
     let lookers = lookers_are n.header n.book n.board g.N.Versions.versions the_row.coded left_row.coded lanes
-        c.in_ok-lanes.lanes.seats.items c.in_ok-lanes.ensures.lanes in
+    c.in_ok-lanes.lanes.seats.items c.in_ok-lanes.ensures.lanes in
     let of = ap (λ (p : PublisherIs). p.publisher.book) c.end-publisher.ensures.parts ∙ c.end-publisher.ensures.kept.versions_are in
     record {
       lookers =
@@ -64,10 +64,10 @@ invariant_of-result g c =
     let cells = c.in_ok-cells.cells in
     let all = c.in_ok-seats.seats.items in
     let left = put_together n.header n.book n.board g.N.Versions.versions the_row.coded left_row.coded cpus c.into_inner.result p
-        lanes ls c.in_ok-lanes.lanes.readers.items cells.queues.items cells.seats.items cells.writers.items all k
-        c.end-publisher.ensures.parts c.end-publisher.ensures.kept c.in_ok-lanes.ensures.lanes c.requires.lanes.1
-        c.in_ok-cells.ensures.cells c.in_ok-cells.ensures.count c.in_ok-lanes.ensures.readers c.gather.ensures.seen
-        c.in_ok-seats.ensures in
+    lanes ls c.in_ok-lanes.lanes.readers.items cells.queues.items cells.seats.items cells.writers.items all k
+    c.end-publisher.ensures.parts c.end-publisher.ensures.kept c.in_ok-lanes.ensures.lanes c.requires.lanes.1
+    c.in_ok-cells.ensures.cells c.in_ok-cells.ensures.count c.in_ok-lanes.ensures.readers c.gather.ensures.seen
+    c.in_ok-seats.ensures in
     let courses = c.in_ok-lanes.ensures.courses in
     let tickets = c.in_ok-lanes.ensures.tickets in
     let course : LaneIs → Course = λ l. l.side.course in
@@ -77,23 +77,23 @@ invariant_of-result g c =
       accepted = k.accepted;
       book_is = k.book_is;
       numbered = subst (λ (t : TableId). Numbered t 0 all) (sym k.book_is) (all_numbered n.header n.book n.board g.N.Versions.versions the_row.coded left_row.coded p lanes ls x.unused.items cells.queues.items
-    cells.seats.items cells.writers.items all left);
+          cells.seats.items cells.writers.items all left);
       owners = k.owners;
       all_seats = all_counted n.header n.book n.board g.N.Versions.versions the_row.coded left_row.coded p lanes ls x.unused.items cells.queues.items
-    cells.seats.items cells.writers.items all left ∙ sym k.owners;
+          cells.seats.items cells.writers.items all left ∙ sym k.owners;
       all_queues = c.in_ok-cells.ensures.count ∙ k.queues;
       all_courses = ap (λ (l : List Course). length l) courses ∙ length-map lanes course ∙ c.requires.lanes.1;
       all_tickets = ap (λ (l : List ℕ). length l) tickets ∙ length-map lanes ticket ∙ c.requires.lanes.1;
       lists = all_kept n.header n.book n.board g.N.Versions.versions the_row.coded left_row.coded p lanes ls x.unused.items cells.queues.items
-    cells.seats.items cells.writers.items all left c.plain_is_kept.ensures c.saw_is_read.ensures;
+          cells.seats.items cells.writers.items all left c.plain_is_kept.ensures c.saw_is_read.ensures;
       replays = all_replays n.header n.book n.board g.N.Versions.versions the_row.coded left_row.coded p lanes ls x.unused.items cells.queues.items
-    cells.seats.items cells.writers.items all left;
+          cells.seats.items cells.writers.items all left;
       lasts =
           subst (λ (cs : List Course). KnowLasts left_row.coded (length n.header.cpus) cs c.in_ok-lanes.lanes.tickets.items all)
           (sym courses)
           (subst (λ (ts : List ℕ). KnowLasts left_row.coded (length n.header.cpus) (map course lanes) ts all) (sym tickets)
           (all_lasts n.header n.book n.board g.N.Versions.versions the_row.coded left_row.coded p lanes ls x.unused.items cells.queues.items
-    cells.seats.items cells.writers.items all left));
+          cells.seats.items cells.writers.items all left));
     }
 
 pub returns-clause-left : goal.returns-clause-left
@@ -109,10 +109,10 @@ returns-clause-left g c =
     let cells = c.in_ok-cells.cells in
     let all = c.in_ok-seats.seats.items in
     let left = put_together n.header n.book n.board g.N.Versions.versions the_row.coded left_row.coded cpus c.into_inner.result p
-        lanes ls c.in_ok-lanes.lanes.readers.items cells.queues.items cells.seats.items cells.writers.items all k
-        c.end-publisher.ensures.parts c.end-publisher.ensures.kept c.in_ok-lanes.ensures.lanes c.requires.lanes.1
-        c.in_ok-cells.ensures.cells c.in_ok-cells.ensures.count c.in_ok-lanes.ensures.readers c.gather.ensures.seen
-        c.in_ok-seats.ensures in
+    lanes ls c.in_ok-lanes.lanes.readers.items cells.queues.items cells.seats.items cells.writers.items all k
+    c.end-publisher.ensures.parts c.end-publisher.ensures.kept c.in_ok-lanes.ensures.lanes c.requires.lanes.1
+    c.in_ok-cells.ensures.cells c.in_ok-cells.ensures.count c.in_ok-lanes.ensures.readers c.gather.ensures.seen
+    c.in_ok-seats.ensures in
     left_lane n.header n.book n.board g.N.Versions.versions the_row.coded left_row.coded p lanes ls x.unused.items cells.queues.items
     cells.seats.items cells.writers.items all left
 
@@ -129,10 +129,10 @@ returns-clause-open g c =
     let cells = c.in_ok-cells.cells in
     let all = c.in_ok-seats.seats.items in
     let left = put_together n.header n.book n.board g.N.Versions.versions the_row.coded left_row.coded cpus c.into_inner.result p
-        lanes ls c.in_ok-lanes.lanes.readers.items cells.queues.items cells.seats.items cells.writers.items all k
-        c.end-publisher.ensures.parts c.end-publisher.ensures.kept c.in_ok-lanes.ensures.lanes c.requires.lanes.1
-        c.in_ok-cells.ensures.cells c.in_ok-cells.ensures.count c.in_ok-lanes.ensures.readers c.gather.ensures.seen
-        c.in_ok-seats.ensures in
+    lanes ls c.in_ok-lanes.lanes.readers.items cells.queues.items cells.seats.items cells.writers.items all k
+    c.end-publisher.ensures.parts c.end-publisher.ensures.kept c.in_ok-lanes.ensures.lanes c.requires.lanes.1
+    c.in_ok-cells.ensures.cells c.in_ok-cells.ensures.count c.in_ok-lanes.ensures.readers c.gather.ensures.seen
+    c.in_ok-seats.ensures in
     all_open n.header n.book n.board g.N.Versions.versions the_row.coded left_row.coded p lanes ls x.unused.items cells.queues.items
     cells.seats.items cells.writers.items all left
 
