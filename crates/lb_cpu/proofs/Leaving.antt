@@ -22,6 +22,7 @@ use Rattle.lb_core.specs.OfTrace.{rows_drawn}
 use Rattle.lb_ticket.specs.declared.item.Drawn.{Drawn}
 use Rattle.lb_ticket.specs.Seats.{AllEmpty, Numbered, SeatIs}
 use Rattle.lb_ticket.specs.Tickets.{pair}
+use Rattle.lb_ticket.proofs.Members.{has_either}
 use Rattle.lb_journal.specs.Journal.{Journal, Left, replay}
 use Rattle.lb_journal.specs.Known.{KnowsRest}
 use Rattle.lb_journal.specs.Merge.{closing_out, is_end, is_out_at_rest, queue_list}
@@ -373,7 +374,7 @@ module _ (h : Header) (book : TableId) (board : List TableId) (versions : Book) 
             (ap (λ (ds : List (Drawn Journal)). map (λ (d : ℕ × Journal). d.1.entry) (map pair ds)) (list_at all (k + 1) y.0 there)
             ∙ unpaired y.0.list)
             ∙ y.2.rows;
-        rest = λ form some. rests y.0 k l form some y.2.last l.side.known.ticket refl;
+        rest = λ one form some. rests y.0 k l one form some y.2.last l.side.known.ticket refl;
       }
     where
       unpaired : (ds : List (Drawn Journal))
@@ -381,13 +382,15 @@ module _ (h : Header) (book : TableId) (board : List TableId) (versions : Book) 
       unpaired [] = refl
       unpaired (d ∷ ds) = ap (λ (es : List Entry). d.item.entry ∷ es) (unpaired ds)
 
-      rests : (s : SeatIs Journal) (k : ℕ) (l : LaneIs) → l.side.course.form ≡ Rest → (s.list ≡ [] → ⊥)
+      rests : (s : SeatIs Journal) (k : ℕ) (l : LaneIs) → 1 ≤ k → l.side.course.form ≡ Rest → (s.list ≡ [] → ⊥)
           → KnowsLast left (length h.cpus) k l.side.course l.side.known.ticket s → (t : ℕ) → t ≡ l.side.known.ticket
           → KnowsRest left (s.fresh ++ s.known) k
-      rests s k l form some last zero e = absurd (some (last.none (sym e)).0)
-      rests s k l form some last (suc t) e = record {
+      rests s k l one form some last zero e = absurd (some (last.none (sym e)).0)
+      rests s k l one form some last (suc t) e = record {
         fact = fact_left left k l.side.course l.side.known.ticket;
-        there = last.some (omega arith);
+        there =
+            has_either s.fresh s.known (fact_left left k l.side.course l.side.known.ticket)
+            (inr (last.some one (omega arith)));
         lane_is = refl;
         course = l.side.course;
         left = refl;

@@ -4,7 +4,7 @@ use Rattle.std.proofs.lemmas.List.{append_assoc, map-append, length_push}
 use Rattle.lb_journal.specs.contracts.journal.Journal.{the_row}
 use Rattle.lb_journal.specs.contracts.journal.Left.{the_row as left_row}
 use Rattle.lb_lane.specs.Lanes.{LaneIs}
-use Rattle.lb_cpu.specs.Ends.{LeftLane}
+use Rattle.lb_cpu.specs.Ends.{LeftLane, LeftNote}
 use Rattle.lb_cpu.proofs.Numbering.{each_moved, each_step}
 use Rattle.lb_cpu.proofs.Places.{two_push}
 use Rattle.lb_cpu.proofs.apart.end_lanes.Goals as goal
@@ -25,6 +25,7 @@ loop-lane-preserved g c =
     let e = c.end_lane-seat.ensures in
     let N : ℕ → LaneIs → Type 0 = λ k l. l.side.number ≡ k in
     let P = LeftLane n.header n.book n.board g.N.Versions.versions the_row.coded left_row.coded in
+    let O = LeftNote n.book left_row.coded (length n.header.cpus) in
     let number = each_step N (length lanes) lane (into_iter_items c.next.new.self) (into_iter_items c.loop-lane.lane-iterator)
     steps.0 i.numbers in
     record {
@@ -48,6 +49,10 @@ loop-lane-preserved g c =
           one_more (λ (l : LaneIs). l.side.known.ticket) c.loop-lane.tickets.items
           c.push_reserved-in-loop-lane-4.new.self.items c.end_lane-seat.result.4 lanes lane
           c.push_reserved-in-loop-lane-4.ensures.items i.tickets e.last.1;
+      notes =
+          two_push O lanes (lanes ++ lane ∷ []) c.loop-lane.notes.items c.push_reserved-in-loop-lane-5.new.self.items lane
+          c.end_lane-seat.result.5 refl c.push_reserved-in-loop-lane-5.ensures.items i.notes
+          (subst (λ (k : ℕ). O k lane c.end_lane-seat.result.5) number.0 e.note);
       all =
           append_assoc lanes (lane ∷ []) (into_iter_items c.next.new.self)
           ∙ ap (λ (l : List LaneIs). lanes ++ l) (sym steps.0) ∙ i.all;
@@ -64,4 +69,5 @@ loop-lane-preserved g c =
       lookers_room = (let r = i.lookers_room in let k = c.push_reserved-in-loop-lane-2.ensures.capacity in omega arith);
       courses_room = (let r = i.courses_room in let k = c.push_reserved-in-loop-lane-3.ensures.capacity in omega arith);
       tickets_room = (let r = i.tickets_room in let k = c.push_reserved-in-loop-lane-4.ensures.capacity in omega arith);
+      notes_room = (let r = i.notes_room in let k = c.push_reserved-in-loop-lane-5.ensures.capacity in omega arith);
     }

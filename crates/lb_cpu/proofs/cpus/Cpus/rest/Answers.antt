@@ -12,10 +12,10 @@ use Rattle.lb_journal.specs.contracts.journal.Left.{the_row as left_row}
 use Rattle.lb_lane.specs.Lanes.{LaneIs}
 use Rattle.lb_lane.specs.Publishers.{PublisherIs}
 use Rattle.lb_cpu.specs.Cpus.{CpusIs}
-use Rattle.lb_cpu.specs.Ends.{KnowLasts}
+use Rattle.lb_cpu.specs.Ends.{HoldsFirst, KnowLasts}
 use Rattle.lb_cpu.proofs.Parting.{writers_are, readers_are, lookers_are}
 use Rattle.lb_cpu.proofs.Leaving.{all_numbered, all_counted, all_replays, all_kept, all_lasts, all_open, left_lane}
-use Rattle.lb_cpu.proofs.Resting.{put_together, versions_seen}
+use Rattle.lb_cpu.proofs.Resting.{holds_first, put_together, versions_seen}
 use Rattle.lb_cpu.proofs.cpus.Cpus.rest.Goals as goal
 
 pub gather-requires-clause-writers : goal.gather-requires-clause-writers
@@ -83,6 +83,7 @@ invariant_of-result g c =
           cells.seats.items cells.writers.items all left ∙ sym k.owners;
       all_queues = c.in_ok-cells.ensures.count ∙ k.queues;
       all_courses = ap (λ (l : List Course). length l) courses ∙ length-map lanes course ∙ c.requires.lanes.1;
+      all_notes = c.in_ok-lanes.ensures.notes.count ∙ c.requires.lanes.1;
       all_tickets = ap (λ (l : List ℕ). length l) tickets ∙ length-map lanes ticket ∙ c.requires.lanes.1;
       lists = all_kept n.header n.book n.board g.N.Versions.versions the_row.coded left_row.coded p lanes ls x.unused.items cells.queues.items
           cells.seats.items cells.writers.items all left c.plain_is_kept.ensures c.saw_is_read.ensures;
@@ -94,6 +95,13 @@ invariant_of-result g c =
           (subst (λ (ts : List ℕ). KnowLasts left_row.coded (length n.header.cpus) (map course lanes) ts all) (sym tickets)
           (all_lasts n.header n.book n.board g.N.Versions.versions the_row.coded left_row.coded p lanes ls x.unused.items cells.queues.items
           cells.seats.items cells.writers.items all left));
+      first =
+          subst (λ (cs : List Course). HoldsFirst n.book left_row.coded (length n.header.cpus) cs
+          c.in_ok-lanes.lanes.tickets.items c.in_ok-lanes.lanes.notes.items) (sym courses)
+          (subst (λ (ts : List ℕ). HoldsFirst n.book left_row.coded (length n.header.cpus) (map course lanes) ts
+          c.in_ok-lanes.lanes.notes.items) (sym tickets)
+          (holds_first n.book left_row.coded (length n.header.cpus) lanes c.in_ok-lanes.lanes.notes.items
+          c.in_ok-lanes.ensures.notes));
     }
 
 pub returns-clause-left : goal.returns-clause-left
