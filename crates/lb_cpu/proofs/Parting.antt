@@ -1,15 +1,13 @@
 -- A cell and a lane that were taken apart: what they kept is known of what is left.
-use Rattle.std.proofs.Common.{ℕ, zero, suc, true, ◌≡◌, inl, inr, ◌+◌, ◌<◌, Option, Some, None, List, [], ◌∷◌, ◌++◌, map, take, length, slice_get, get_or, All, refl, sym, ap, subst, ◌∙◌, arith}
-use Rattle.std.proofs.lemmas.Option.{same_Some, slice_get-get_or, slice_get_within}
+use Rattle.std.proofs.Common.{◌≤◌, ℕ, zero, suc, true, ◌≡◌, inl, inr, ◌+◌, Option, Some, None, List, [], ◌∷◌, ◌++◌, map, length, slice_get, All, refl, sym, ap, subst, ◌∙◌, arith}
+use Rattle.std.proofs.lemmas.Option.{same_Some, slice_get_within}
 use Rattle.std.proofs.lemmas.List.{length-map}
-use mathlib.Core.List.{IsPrefix}
 use base.Stored.{Coded}
 use Rattle.atomic_table.specs.Seated.{TableId}
 use Rattle.logbook.specs.Pages.{Book}
 use Rattle.lb_queue.specs.Queue.{BookedQueue}
 use Rattle.lb_trace.specs.declared.trace.Header.{Header}
 use Rattle.lb_core.specs.declared.course.Course.{Course}
-use Rattle.lb_core.specs.declared.entry.Entry.{Entry}
 use Rattle.lb_core.specs.OfTrace.{rows_drawn}
 use Rattle.lb_ticket.specs.declared.item.Drawn.{Drawn}
 use Rattle.lb_ticket.specs.declared.view.Fact.{Fact}
@@ -19,8 +17,8 @@ use Rattle.lb_ticket.specs.Seats.{KeepsList, NoteIs, SeatIs}
 use Rattle.lb_ticket.specs.Tickets.{pair}
 use Rattle.lb_ticket.proofs.Members.{has_either}
 use Rattle.lb_journal.specs.Journal.{Journal, Left, replay}
-use Rattle.lb_journal.specs.Owners.{SeatUses, UsesVersion, published}
-use Rattle.lb_board.specs.Board.{Sight, WriterIs, Witnesses}
+use Rattle.lb_journal.specs.Owners.{UsesVersion, published}
+use Rattle.lb_board.specs.Board.{Sight, WriterIs}
 use Rattle.lb_topub.specs.Versions.{VersionsSeen}
 use Rattle.lb_cell.specs.declared.log.Log.{Log}
 use Rattle.lb_cell.specs.Cells.{CellIs, CellKeeps, IsPlain, LaneKeeps as SideKeeps}
@@ -28,7 +26,7 @@ use Rattle.lb_cell.specs.Kinds.{is_of_lane}
 use Rattle.lb_cell.specs.LastEntries.{IsLast, facts_of, fact_left}
 use Rattle.lb_cell.specs.Reads.{SawAll}
 use Rattle.lb_lane.specs.Lanes.{LaneIs, LaneKeeps}
-use Rattle.lb_cpu.specs.Ends.{LeftCell, LeftLane, KnowsLast}
+use Rattle.lb_cpu.specs.Ends.{LeftCell, LeftLane, LeftNote, KnowsLast}
 use Rattle.lb_cpu.specs.Numbering.{EachOfTwo, EachOfThree}
 use Rattle.lb_cpu.proofs.Places.{item_at, all_at, of_mapped}
 
@@ -58,25 +56,23 @@ left_cell h book board c cpu q s w eq log keeps is =
 
 -- ---- a lane
 lasts : (book : TableId) (left : Coded Left) (cpus lane : ℕ) (course : Course) (ticket : ℕ) (s : SeatIs Journal)
-    (known : List Fact) (o : Option NoteIs) → IsLast book left cpus lane course ticket o → s.known ≡ known ++ facts_of o
+    (known : List Fact) (o : Option NoteIs) → IsLast book left cpus lane course ticket o → (1 ≤ lane → s.known ≡ known ++ facts_of o)
     → (ticket ≡ 0 → s.list ≡ []) → KnowsLast left cpus lane course ticket s
 lasts book left cpus lane course ticket s known None h e first = record {
   none = λ z. (first z, h.1);
-  some = λ lt. let z = h.0 in absurd (omega arith);
+  some = λ one lt. let z = h.0 in absurd (omega arith);
 }
 lasts book left cpus lane course ticket s known (Some n) h e first = record {
   none = λ z. let lt = h.0 in absurd (omega arith);
-  some = λ lt.
+  some = λ one lt.
       let f = fact_left left lane course ticket in
       let here : HasFact f n.facts = subst (λ (fs : List Fact). HasFact f fs) (sym h.2) (inl refl) in
-      let known_too : HasFact f s.known =
-      subst (λ (fs : List Fact). HasFact f fs) (sym e) (has_either known n.facts f (inr here)) in
-      has_either s.fresh s.known f (inr known_too);
+      subst (λ (fs : List Fact). HasFact f fs) (sym (e one)) (has_either known n.facts f (inr here));
 }
 
 pub left_lane : (h : Header) (book : TableId) (board : List TableId) (versions : Book) (code : Coded Journal)
     (left : Coded Left) (l : LaneIs) (s : SeatIs Journal) → KeepsList l.side.seat s
-    → s.known ≡ l.side.seat.known ++ facts_of l.side.known.note → s.read ≡ l.side.seat.read
+    → (1 ≤ l.side.number → s.known ≡ l.side.seat.known ++ facts_of l.side.known.note) → s.read ≡ l.side.seat.read
     → SideKeeps h book board left l.side → LaneKeeps h board versions code l
     → length l.side.known.reader.seen ≡ length l.side.known.reader.cells
     → LeftLane h book board versions code left l.side.number l s
@@ -103,6 +99,17 @@ left_lane h book board versions code left l s same known read side keeps sizes =
       saw = subst (λ (ds : List (Drawn Journal)). SawAll l.side.known.reader ds) list keeps.saw;
       versions_are = keeps.looker;
     }
+
+pub left_note : (h : Header) (book : TableId) (board : List TableId) (left : Coded Left) (l : LaneIs) (o : Option NoteIs)
+    → SideKeeps h book board left l.side → (l.side.number ≡ 0 → o ≡ l.side.known.note)
+    → LeftNote book left (length h.cpus) l.side.number l o
+left_note h book board left l o side same = record {
+  first = λ zero_is.
+      let n = length h.cpus in
+      let t = l.side.known.ticket in
+      subst (λ (k : ℕ). IsLast book left n k l.side.course t o) zero_is
+      (subst (λ (x : Option NoteIs). IsLast book left n l.side.number l.side.course t x) (sym (same zero_is)) side.last);
+}
 
 -- ---- all of them
 same_items : {A : Type 0} (xs ys : List A) → length xs ≡ length ys

@@ -1,23 +1,25 @@
 -- A machine comes to rest: what is left of its parts, put together.
-use Rattle.std.proofs.Common.{ℕ, ◌≡◌, ◌+◌, Some, List, [], ◌∷◌, ◌++◌, map, length, slice_get, All, refl, sym, ap, subst, ◌∙◌, arith}
+use Rattle.std.proofs.Common.{◌≡◌, List, ◌∷◌, ◌++◌, map, length, slice_get, All, sym, ap, subst, ◌∙◌}
 use mathlib.Core.List.{IsPrefix}
 use base.Stored.{Coded}
 use Rattle.atomic_table.specs.Seated.{TableId}
 use Rattle.logbook.specs.Pages.{Book}
-use Rattle.lb_domain.specs.Topologies.{DomainsWithin}
 use Rattle.lb_queue.specs.Queue.{BookedQueue}
 use Rattle.lb_trace.specs.declared.trace.Header.{Header}
-use Rattle.lb_ticket.specs.Seats.{AllEmpty, Numbered, SeatIs}
+use Rattle.lb_ticket.specs.Seats.{SeatIs}
 use Rattle.lb_journal.specs.Journal.{Journal, Left}
 use Rattle.lb_board.specs.Board.{Sight, WriterIs, Witnesses}
 use Rattle.lb_topub.specs.Versions.{VersionsSeen}
 use Rattle.lb_lane.specs.Lanes.{LaneIs}
 use Rattle.lb_lane.specs.Publishers.{PublisherIs, PublisherKeeps}
 use Rattle.lb_cpu.specs.Cpus.{CpusIs, CpusKeeps}
-use Rattle.lb_cpu.specs.Ends.{LeftCell, LeftLane, VersionsAreSeen}
+use Rattle.lb_cpu.specs.Ends.{HoldsFirst, LeftCell, LeftLane, LeftNote, VersionsAreSeen}
 use Rattle.lb_cpu.specs.Numbering.{EachOfTwo, EachOfThree}
 use Rattle.lb_cpu.proofs.Parting.{unmapped}
 use Rattle.lb_cpu.proofs.Leaving.{IsLeft}
+use Rattle.lb_cpu.proofs.Places.{of_mapped, one_item}
+use Rattle.lb_cell.specs.LastEntries.{IsLast}
+use Rattle.lb_core.specs.declared.course.Course.{Course}
 
 abbrev reader_of : LaneIs → Sight
 reader_of l = l.side.known.reader
@@ -65,3 +67,16 @@ versions_seen h book versions p p' rest all lookers same keeps all_are seen =
           (record { publisher = record { book = b; topologies = p'.publisher.topologies }; seat = p'.seat })) kept.versions_are kept;
       seen = seen;
     }
+
+-- the note of lane 0
+pub holds_first : (book : TableId) (left : Coded Left) (cpus : ℕ) (lanes : List LaneIs) (notes : List (Option NoteIs))
+    → EachOfTwo (LeftNote book left cpus) lanes notes
+    → HoldsFirst book left cpus (map (λ (l : LaneIs). l.side.course) lanes) (map (λ (l : LaneIs). l.side.known.ticket) lanes) notes
+holds_first book left cpus lanes notes of c t note at_c at_t at_n =
+    let l = of_mapped (λ (l : LaneIs). l.side.course) lanes 0 c at_c in
+    let m = of_mapped (λ (l : LaneIs). l.side.known.ticket) lanes 0 t at_t in
+    let same : m.0 ≡ l.0 = one_item lanes 0 m.0 l.0 m.1 l.1 in
+    let ticket : l.0.side.known.ticket ≡ t = ap (λ (k : LaneIs). k.side.known.ticket) (sym same) ∙ m.2 in
+    subst (λ (n : ℕ). IsLast book left cpus 0 c n note) ticket
+    (subst (λ (z : Course). IsLast book left cpus 0 z l.0.side.known.ticket note) l.2
+    ((of.at 0 l.0 note l.1 at_n).first refl))

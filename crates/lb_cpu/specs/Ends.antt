@@ -1,8 +1,7 @@
 -- What is left of a machine when its locks and its lanes are taken apart: the seats of all owners with their lists, the
 -- queues, and of each lane its course and its last ticket. Of the lists it keeps what their merge asks of the owners, but
 -- for the closing.
-use Rattle.std.specs.Prelude.{ℕ, ◌≡◌, ◌+◌, ◌<◌, true, false, List, [], ◌++◌, Some, length, map, take, slice_get, All}
-use Rattle.std.specs.List.{slice_index_or}
+use Rattle.std.specs.Prelude.{ℕ, Option, ◌≤◌, ◌≡◌, ◌+◌, ◌<◌, true, false, List, [], ◌++◌, Some, length, map, take, slice_get, All}
 use mathlib.Core.List.{IsPrefix}
 use base.Stored.{Coded}
 use Rattle.atomic_table.specs.Seated.{TableId}
@@ -15,19 +14,18 @@ use Rattle.lb_core.specs.declared.course.Course.{Course}
 use Rattle.lb_core.specs.declared.course.Form.TheVariants.{Rest}
 use Rattle.lb_core.specs.Course.{opening_course}
 use Rattle.lb_core.specs.OfTrace.{rows_drawn}
-use Rattle.lb_ticket.specs.declared.item.Drawn.{Drawn}
 use Rattle.lb_ticket.specs.Facts.{HasFact}
-use Rattle.lb_ticket.specs.Seats.{BookIs, Numbered, SeatIs}
+use Rattle.lb_ticket.specs.Seats.{BookIs, NoteIs, Numbered, SeatIs}
 use Rattle.lb_ticket.specs.Tickets.{pair}
 use Rattle.lb_journal.specs.Journal.{Journal, Left, replay}
 use Rattle.lb_journal.specs.Known.{KnowsRest}
 use Rattle.lb_journal.specs.Merge.{closing_out, is_end, queue_list}
 use Rattle.lb_journal.specs.Owners.{InAll, ReadsAll, SeatUses, lists_of, own_rows, published}
-use Rattle.lb_board.specs.Board.{IsOfBoard, Sight, WriterIs}
+use Rattle.lb_board.specs.Board.{IsOfBoard, WriterIs}
 use Rattle.lb_topub.specs.Versions.{VersionsSeen}
 use Rattle.lb_cell.specs.Cells.{IsPlain}
 use Rattle.lb_cell.specs.Kinds.{is_of_lane}
-use Rattle.lb_cell.specs.LastEntries.{fact_left}
+use Rattle.lb_cell.specs.LastEntries.{IsLast, fact_left}
 use Rattle.lb_cell.specs.Reads.{SawAll}
 use Rattle.lb_lane.specs.Lanes.{LaneIs}
 use Rattle.lb_lane.specs.Publishers.{PublisherKeeps}
@@ -44,11 +42,15 @@ pub record LeftCell (h : Header) (book : TableId) (board : List TableId) (cpu : 
   pub of_board : IsOfBoard board w
   pub figures : w.figures ≡ published h cpu (map pair s.list)
 
--- the seat holds the fact of a lane's last entry, which has this ticket and left this course; ticket 0 says that the lane
--- drew none
+-- of a lane whose last entry has this ticket and left this course, the seat knows the fact of that entry; ticket 0 says that
+-- the lane drew none. Of lane 0 no seat knows it: its note is kept for the entry that closes the history first
 pub record KnowsLast (left : Coded Left) (cpus lane : ℕ) (course : Course) (ticket : ℕ) (s : SeatIs Journal) : Type 0 where
   pub none : ticket ≡ 0 → (s.list ≡ []) × (course ≡ opening_course cpus)
-  pub some : 0 < ticket → HasFact (fact_left left lane course ticket) (s.fresh ++ s.known)
+  pub some : 1 ≤ lane → 0 < ticket → HasFact (fact_left left lane course ticket) s.known
+
+-- the note that is left of a lane: that of lane 0
+pub record LeftNote (book : TableId) (left : Coded Left) (cpus lane : ℕ) (l : LaneIs) (note : Option NoteIs) : Type 0 where
+  pub first : lane ≡ 0 → IsLast book left cpus 0 l.side.course l.side.known.ticket note
 
 -- what is left of a lane: its seat
 pub record LeftLane (h : Header) (book : TableId) (board : List TableId) (versions : Book) (code : Coded Journal)
@@ -76,6 +78,7 @@ pub record EndedIs : Type 0 where
   pub queues : List BookedQueue
   pub courses : List Course
   pub tickets : List ℕ
+  pub notes : List (Option NoteIs)
 
 -- what the owners keep of their lists: one header, the versions that they use were read, and the figures that they name
 -- were published
@@ -89,7 +92,13 @@ abbrev pub AreReplays : Header → List (SeatIs Journal) → List BookedQueue �
 AreReplays h seats queues =
     (cpu : ℕ) (q : BookedQueue) → slice_get queues cpu ≡ Some q → q.state ≡ replay h cpu (queue_list (lists_of seats) cpu)
 
--- each lane's seat holds the fact of its last entry
+-- the note of lane 0, where its last entry has this ticket and left this course, before any other note
+abbrev pub HoldsFirst : TableId → Coded Left → ℕ → List Course → List ℕ → List (Option NoteIs) → Type 0
+HoldsFirst book left cpus courses tickets notes =
+    (c : Course) (t : ℕ) (note : Option NoteIs) → slice_get courses 0 ≡ Some c → slice_get tickets 0 ≡ Some t →
+    slice_get notes 0 ≡ Some note → IsLast book left cpus 0 c t note
+
+-- each lane's seat knows the fact of its last entry
 abbrev pub KnowLasts : Coded Left → ℕ → List Course → List ℕ → List (SeatIs Journal) → Type 0
 KnowLasts left cpus courses tickets seats =
     (lane : ℕ) (c : Course) (t : ℕ) (s : SeatIs Journal) → slice_get courses lane ≡ Some c →
@@ -105,9 +114,11 @@ pub record EndedKeeps (h : Header) (book : TableId) (code : Coded Journal) (left
   pub all_queues : length e.queues ≡ length h.cpus
   pub all_courses : length e.courses ≡ h.lanes
   pub all_tickets : length e.tickets ≡ h.lanes
+  pub all_notes : length e.notes ≡ h.lanes
   pub lists : KeptLists h code e.seats
   pub replays : AreReplays h e.seats e.queues
   pub lasts : KnowLasts left (length h.cpus) e.courses e.tickets e.seats
+  pub first : HoldsFirst book left (length h.cpus) e.courses e.tickets e.notes
 
 -- ---- as the lanes left it
 -- nothing closes yet
@@ -120,7 +131,7 @@ pub record LaneIsLeft (left : Coded Left) (seats : List (SeatIs Journal)) (lane 
   pub there : slice_get seats (lane + 1) ≡ Some seat
   pub list : seat.list ≡ l.side.seat.list
   pub rows : own_rows (lists_of seats) lane ≡ take l.side.course.rows l.rows
-  pub rest : l.side.course.form ≡ Rest → (seat.list ≡ [] → ⊥) → KnowsRest left (seat.fresh ++ seat.known) lane
+  pub rest : 1 ≤ lane → l.side.course.form ≡ Rest → (seat.list ≡ [] → ⊥) → KnowsRest left (seat.fresh ++ seat.known) lane
 
 -- what was published up to the end, of which each lane's looker saw a beginning; the publisher's list has a `pub` of each
 -- version but the first

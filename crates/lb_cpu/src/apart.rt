@@ -1,6 +1,6 @@
 //! The cells and the lanes of a machine are taken apart, one after the other.
 ghost use Rattle.std.specs.Prelude.{◌≡◌, ◌<◌, ◌≤◌, ◌^◌, IfOk, length, map, vec_len};
-ghost use Rattle.lb_cpu.specs.Ends.{LeftCell, LeftLane};
+ghost use Rattle.lb_cpu.specs.Ends.{LeftCell, LeftLane, LeftNote};
 ghost use Rattle.lb_cpu.specs.Numbering.{EachFrom, EachOfThree, EachOfTwo};
 
 use lb_base::NoMemory;
@@ -10,7 +10,7 @@ use lb_core::Course;
 use lb_journal::{Journal, Left};
 use lb_lane::{Lane, Versions};
 use lb_queue::Queue;
-use lb_ticket::{Coding, Seat};
+use lb_ticket::{Coding, Note, Seat};
 use lb_topub::Looker;
 use std::alloc::Global;
 use std::sync::{Mutex, Wait};
@@ -31,6 +31,7 @@ pub(crate) struct FromLanes {
     pub(crate) lookers: Vec<Looker>,
     pub(crate) courses: Vec<Course>,
     pub(crate) tickets: Vec<u64>,
+    pub(crate) notes: Vec<Option<Note>>,
 }
 
 // Waits until the cell is that of the CPU. The cells of a machine stand in the order of their CPUs, so the first test
@@ -85,19 +86,20 @@ pub(crate) fn end_cells<N: Names, R: Wait>(
     })
 }
 
-// What is left of a lane: its seat, its reader, its looker, its course, and the ticket of its last entry.
+// What is left of a lane: its seat, its reader, its looker, its course, the ticket of its last entry, and the note of lane 0.
 fn end_lane<N: Names + Versions>(
     shared: &Shared<'_, N>,
     lane: Lane<N>,
-) -> (Seat<Journal>, Reader, Looker, Course, u64)
+) -> (Seat<Journal>, Reader, Looker, Course, u64, Option<Note>)
     ensures left { LeftLane N.header N.book N.board N.versions ⟦<Journal as Coding>⟧.coding ⟦<Left as Coding>⟧.coding
         lane.side.number lane result.0 }
+    ensures note { LeftNote N.book ⟦<Left as Coding>⟧.coding (length N.header.cpus) lane.side.number lane result.5 }
     ensures seen { (result.1 ≡ lane.side.known.reader) × (result.2 ≡ lane.looker) }
     ensures last { (result.3 ≡ lane.side.course) × (result.4 ≡ lane.side.known.ticket) }
 {
-    let (seat, reader, looker, course, ticket) = lane.end(shared);
+    let (seat, reader, looker, course, ticket, note) = lane.end(shared);
     reader.keeps();
-    (seat, reader, looker, course, ticket)
+    (seat, reader, looker, course, ticket, note)
 }
 
 /// What is left of all lanes.
@@ -113,6 +115,8 @@ pub(crate) fn end_lanes<N: Names + Versions>(
     ensures lookers { IfOk result (λ r. r.lookers.items ≡ map (λ l. l.looker) lanes.items) }
     ensures courses { IfOk result (λ r. r.courses.items ≡ map (λ l. l.side.course) lanes.items) }
     ensures tickets { IfOk result (λ r. r.tickets.items ≡ map (λ l. l.side.known.ticket) lanes.items) }
+    ensures notes { IfOk result (λ r. EachOfTwo (LeftNote N.book ⟦<Left as Coding>⟧.coding (length N.header.cpus)) lanes.items
+        r.notes.items) }
 {
     let count = lanes.len();
     let mut seats = Vec::with_capacity(alloc, count)?;
@@ -120,13 +124,15 @@ pub(crate) fn end_lanes<N: Names + Versions>(
     let mut lookers = Vec::with_capacity(alloc, count)?;
     let mut courses = Vec::with_capacity(alloc, count)?;
     let mut tickets = Vec::with_capacity(alloc, count)?;
+    let mut notes = Vec::with_capacity(alloc, count)?;
     for lane in lanes {
-        let (seat, reader, looker, course, ticket) = end_lane(shared, lane);
+        let (seat, reader, looker, course, ticket, note) = end_lane(shared, lane);
         seats.push_reserved(seat);
         readers.push_reserved(reader);
         lookers.push_reserved(looker);
         courses.push_reserved(course);
         tickets.push_reserved(ticket);
+        notes.push_reserved(note);
     }
     Ok(FromLanes {
         seats,
@@ -134,5 +140,6 @@ pub(crate) fn end_lanes<N: Names + Versions>(
         lookers,
         courses,
         tickets,
+        notes,
     })
 }

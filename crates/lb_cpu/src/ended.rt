@@ -11,12 +11,12 @@ use lb_cell::Names;
 use lb_core::Course;
 use lb_journal::{Journal, Left};
 use lb_queue::Queue;
-use lb_ticket::{Book, Coding, Lists, Seat};
+use lb_ticket::{Book, Coding, Lists, Note, Seat};
 use lb_trace::Header;
 use std::marker::{Model, PhantomData};
 
 /// A machine whose lanes are done, out of its locks: the seats of all owners with their lists, the queues, and of each
-/// lane its course and the ticket of its last entry. What was read of figures and versions is known to have been published.
+/// lane its course and the ticket of its last entry, with the note of lane 0. What was read of figures and versions is known to have been published.
 #[derive(Drop)]
 pub struct Ended<N: Names> {
     pub(crate) header: Header,
@@ -25,6 +25,7 @@ pub struct Ended<N: Names> {
     pub(crate) queues: Vec<Queue>,
     pub(crate) courses: Vec<Course>,
     pub(crate) tickets: Vec<u64>,
+    pub(crate) notes: Vec<Option<Note>>,
     pub(crate) names: PhantomData<N>,
 }
 
@@ -40,6 +41,7 @@ impl<N: Names> Model for Ended<N> {
       queues = e.queues.items;
       courses = e.courses.items;
       tickets = e.tickets.items;
+      notes = e.notes.items;
     } };
 
     ghost invariant = { λ e.
@@ -51,6 +53,7 @@ impl<N: Names> Model for Ended<N> {
           queues = e.queues.items;
           courses = e.courses.items;
           tickets = e.tickets.items;
+          notes = e.notes.items;
         }) };
 }
 
@@ -73,6 +76,7 @@ impl<N: Names> Ended<N> {
             queues: _,
             courses: _,
             tickets: _,
+            notes: _,
             names: _,
         } = self;
         book.close(seats)

@@ -79,6 +79,7 @@ impl<N: Names + Versions> Cpus<N> {
             queues: cells.queues,
             courses: lanes.courses,
             tickets: lanes.tickets,
+            notes: lanes.notes,
             names: PhantomData,
         })
     }

@@ -1,8 +1,8 @@
-use Rattle.std.proofs.Common.{◌≡◌, ◌+◌, ◌≤◌, ◌++◌, length, map, vec_capacity}
+use Rattle.std.proofs.Common.{◌≡◌, ◌≤◌, ◌++◌, length, map, vec_capacity}
 use Rattle.std.specs.Vec.Iter.{into_iter_items, into_iter_len}
 use Rattle.lb_journal.specs.contracts.journal.Journal.{the_row}
 use Rattle.lb_journal.specs.contracts.journal.Left.{the_row as left_row}
-use Rattle.lb_cpu.specs.Ends.{LeftLane}
+use Rattle.lb_cpu.specs.Ends.{LeftLane, LeftNote}
 use Rattle.lb_cpu.specs.Numbering.{EachFrom, EachOfTwo}
 use Rattle.lb_cpu.proofs.apart.end_lanes.Given as goal
 
@@ -13,6 +13,7 @@ invariant-loop-lane g l = record {
   lookers : l.lookers.items ≡ map (λ x. x.looker) l.yielded;
   courses : l.courses.items ≡ map (λ x. x.side.course) l.yielded;
   tickets : l.tickets.items ≡ map (λ x. x.side.known.ticket) l.yielded;
+  notes : EachOfTwo (LeftNote g.N.Names.book left_row.coded (length g.N.Names.header.cpus)) l.yielded l.notes.items;
   all : l.yielded ++ into_iter_items l.lane-iterator ≡ l.fn.lanes.items;
   left : into_iter_len l.lane-iterator ≡ length (into_iter_items l.lane-iterator);
   numbers : EachFrom (λ k x. x.side.number ≡ k) (length l.yielded) (into_iter_items l.lane-iterator);
@@ -20,5 +21,6 @@ invariant-loop-lane g l = record {
   readers_room : length l.fn.lanes.items ≤ vec_capacity l.readers;
   lookers_room : length l.fn.lanes.items ≤ vec_capacity l.lookers;
   courses_room : length l.fn.lanes.items ≤ vec_capacity l.courses;
+  notes_room : length l.fn.lanes.items ≤ vec_capacity l.notes;
   tickets_room : length l.fn.lanes.items ≤ vec_capacity l.tickets;
 }
