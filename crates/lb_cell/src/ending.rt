@@ -40,10 +40,7 @@ impl<N: Names> Lane<N> {
     /// Its seat, its reader, its course, and the ticket of its last entry, or 0 where it drew none. The seat learns that the
     /// last entry was drawn and what it left; but lane 0 hands its note out, since the entries that close the history quote
     /// it. What the lane kept is known of them.
-    pub fn end(
-        self,
-        shared: &Shared<'_, N>,
-    ) -> (Seat<Journal>, Reader, Course, u64, Option<Note>)
+    pub fn end(self, shared: &Shared<'_, N>) -> (Seat<Journal>, Reader, Course, u64, Option<Note>)
         ensures seat { KeepsList self.seat result.0 }
         ensures learnt { 1 ≤ self.number → result.0.known ≡ self.seat.known ++ facts_of self.known.note }
         ensures note { self.number ≡ 0 → result.4 ≡ self.known.note }
