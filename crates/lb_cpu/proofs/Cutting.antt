@@ -88,7 +88,7 @@ cut_up t lanes all p ls us qs n e cut l u =
       of_lanes = from t 1 (0 + 1) ls (omega arith) front.0;
       numbered =
           renumbered t (0 + 1 + length ls) (lanes + 1) us (omega arith)
-          (numbered_parts t (0 + 1) ls us (numbered_parts t (0 + 1) (ls ++ us) qs numbers.2.2).0).1;
+          (numbered_parts t (0 + 1) ls us (numbered_parts t (0 + 1) (ls ++ us) qs numbers.2).0).1;
       empty = empty_rest ls us (empty_front (ls ++ us) qs empties.5);
       queues = from t 17 (0 + 1 + length (ls ++ us)) qs (omega arith) parts.1;
     }

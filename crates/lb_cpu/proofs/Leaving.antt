@@ -1,7 +1,7 @@
 -- What is left of the owners of lists, put together: the seats of all, and what is kept of their lists.
-use Rattle.std.proofs.Common.{ℕ, ◌≡◌, ◌⊎◌, inl, inr, ◌+◌, ◌<◌, ◌≤◌, zero, suc, Bool, true, false, ◌&&◌, ◌==◌, Option, Some, None, List, [], ◌∷◌, ◌++◌, map, take, length, slice_get, slice_index_or, get_or, All, refl, sym, ap, subst, ◌∙◌, arith}
+use Rattle.std.proofs.Common.{ℕ, ◌≡◌, inl, inr, ◌+◌, ◌<◌, zero, suc, Bool, true, false, ◌&&◌, ◌==◌, Some, List, [], ◌∷◌, ◌++◌, map, length, slice_get, slice_index_or, get_or, All, refl, sym, ap, subst, ◌∙◌, arith}
 use Rattle.std.proofs.lemmas.Option.{slice_get-get_or, slice_get_within}
-use Rattle.std.proofs.lemmas.List.{length-append, length-map, get_or_past}
+use Rattle.std.proofs.lemmas.List.{length-append, get_or_past}
 use Rattle.std.proofs.lemmas.List.Elements.{All-nil, All-cons, All-append, All-map}
 use Rattle.std.proofs.lemmas.Bool.{cases_lt, false≢true}
 use mathlib.Core.List.{IsPrefix}
@@ -14,6 +14,7 @@ use Rattle.lb_trace.specs.declared.trace.Header.{Header}
 use Rattle.lb_core.specs.declared.course.Form.{Form}
 use Rattle.lb_core.specs.declared.course.Form.TheVariants.{Rest}
 use Rattle.lb_core.specs.declared.course.Course.{Course}
+use Rattle.lb_core.specs.declared.entry.CpuFig.{CpuFig}
 use Rattle.lb_core.specs.declared.entry.Entry.{Entry}
 use Rattle.lb_core.specs.declared.entry.What.{What}
 use Rattle.lb_core.specs.declared.entry.What.TheVariants.{Row, Adopt, Look, Scan, Pub, End, Did, Out, Landed, Turn, Shut, Close, Ask, Kick, Over}
@@ -24,9 +25,8 @@ use Rattle.lb_ticket.specs.Tickets.{pair}
 use Rattle.lb_journal.specs.Journal.{Journal, Left, replay}
 use Rattle.lb_journal.specs.Known.{KnowsRest}
 use Rattle.lb_journal.specs.Merge.{closing_out, is_end, is_out_at_rest, queue_list}
-use Rattle.lb_journal.specs.Owners.{InAll, ReadsAll, SeatUses, UsesVersion, lists_of, own_rows, published}
-use Rattle.lb_board.specs.Board.{IsOfBoard, Sight, WriterIs, Witnesses, seen_at}
-use Rattle.lb_topub.specs.Versions.{VersionsSeen}
+use Rattle.lb_journal.specs.Owners.{ReadsAll, ReadsFigure, SeatUses, UsesVersion, lists_of, published}
+use Rattle.lb_board.specs.Board.{WriterIs, Witnesses, seen_at}
 use Rattle.lb_cell.specs.Cells.{IsPlain}
 use Rattle.lb_cell.specs.Kinds.{is_of_lane, is_of_queue}
 use Rattle.lb_cell.specs.LastEntries.{fact_left}
@@ -123,7 +123,8 @@ module _ (h : Header) (book : TableId) (versions : Book) (code : Coded Journal) 
   pub pub_figures : (lists : List (List (Drawn Journal))) → All (ReadsAll h lists) p.seat.list
   pub_figures lists k d lt =
       let x = get_or p.seat.list k d in
-      subst (All _) (sym (one_pub k d lt).figs) (All-nil _)
+      let F : CpuFig → Type 0 = ReadsFigure h lists x.ticket in
+      subst (λ (fs : List CpuFig). All F fs) (sym (one_pub k d lt).figs) (All-nil F)
 
   pub pub_open : All (λ d. (closing_out d.item ≡ false) × (is_end d.item.entry.what ≡ false)) p.seat.list
   pub_open k d lt =

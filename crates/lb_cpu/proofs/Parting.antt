@@ -1,15 +1,13 @@
 -- A cell and a lane that were taken apart: what they kept is known of what is left.
-use Rattle.std.proofs.Common.{ℕ, zero, suc, true, ◌≡◌, inl, inr, ◌+◌, ◌<◌, Option, Some, None, List, [], ◌∷◌, ◌++◌, map, take, length, slice_get, get_or, All, refl, sym, ap, subst, ◌∙◌, arith}
-use Rattle.std.proofs.lemmas.Option.{same_Some, slice_get-get_or, slice_get_within}
+use Rattle.std.proofs.Common.{ℕ, zero, suc, true, ◌≡◌, inl, inr, ◌+◌, Option, Some, None, List, [], ◌∷◌, ◌++◌, map, length, slice_get, All, refl, sym, ap, subst, ◌∙◌, arith}
+use Rattle.std.proofs.lemmas.Option.{same_Some, slice_get_within}
 use Rattle.std.proofs.lemmas.List.{length-map}
-use mathlib.Core.List.{IsPrefix}
 use base.Stored.{Coded}
 use Rattle.atomic_table.specs.Seated.{TableId}
 use Rattle.logbook.specs.Pages.{Book}
 use Rattle.lb_queue.specs.Queue.{BookedQueue}
 use Rattle.lb_trace.specs.declared.trace.Header.{Header}
 use Rattle.lb_core.specs.declared.course.Course.{Course}
-use Rattle.lb_core.specs.declared.entry.Entry.{Entry}
 use Rattle.lb_core.specs.OfTrace.{rows_drawn}
 use Rattle.lb_ticket.specs.declared.item.Drawn.{Drawn}
 use Rattle.lb_ticket.specs.declared.view.Fact.{Fact}
@@ -19,8 +17,8 @@ use Rattle.lb_ticket.specs.Seats.{KeepsList, NoteIs, SeatIs}
 use Rattle.lb_ticket.specs.Tickets.{pair}
 use Rattle.lb_ticket.proofs.Members.{has_either}
 use Rattle.lb_journal.specs.Journal.{Journal, Left, replay}
-use Rattle.lb_journal.specs.Owners.{SeatUses, UsesVersion, published}
-use Rattle.lb_board.specs.Board.{Sight, WriterIs, Witnesses}
+use Rattle.lb_journal.specs.Owners.{UsesVersion, published}
+use Rattle.lb_board.specs.Board.{Sight, WriterIs}
 use Rattle.lb_topub.specs.Versions.{VersionsSeen}
 use Rattle.lb_cell.specs.declared.log.Log.{Log}
 use Rattle.lb_cell.specs.Cells.{CellIs, CellKeeps, IsPlain, LaneKeeps as SideKeeps}

@@ -1,13 +1,12 @@
 -- A machine comes to rest: what is left of its parts, put together.
-use Rattle.std.proofs.Common.{ℕ, ◌≡◌, ◌+◌, Some, List, [], ◌∷◌, ◌++◌, map, length, slice_get, All, refl, sym, ap, subst, ◌∙◌, arith}
+use Rattle.std.proofs.Common.{◌≡◌, List, ◌∷◌, ◌++◌, map, length, slice_get, All, sym, ap, subst, ◌∙◌}
 use mathlib.Core.List.{IsPrefix}
 use base.Stored.{Coded}
 use Rattle.atomic_table.specs.Seated.{TableId}
 use Rattle.logbook.specs.Pages.{Book}
-use Rattle.lb_domain.specs.Topologies.{DomainsWithin}
 use Rattle.lb_queue.specs.Queue.{BookedQueue}
 use Rattle.lb_trace.specs.declared.trace.Header.{Header}
-use Rattle.lb_ticket.specs.Seats.{AllEmpty, Numbered, SeatIs}
+use Rattle.lb_ticket.specs.Seats.{SeatIs}
 use Rattle.lb_journal.specs.Journal.{Journal, Left}
 use Rattle.lb_board.specs.Board.{Sight, WriterIs, Witnesses}
 use Rattle.lb_topub.specs.Versions.{VersionsSeen}

@@ -1,5 +1,5 @@
 -- What the cells and the lanes are made of is taken one by one, and fits.
-use Rattle.std.proofs.Common.{ℕ, ◌≡◌, ◌+◌, ◌<◌, ◌≤◌, Bool, true, ◌&&◌, nat_lt, nat_le, suc, List, [], ◌∷◌, length, All, refl, sym, ap, subst, ◌∙◌, arith}
+use Rattle.std.proofs.Common.{ℕ, ◌≡◌, ◌+◌, true, ◌&&◌, nat_lt, nat_le, List, ◌∷◌, length, All, ap, arith}
 use Rattle.std.specs.List.{list_all}
 use Rattle.std.proofs.lemmas.Bool.{and_parts}
 use Rattle.std.proofs.lemmas.List.Elements.{All-weaker}
@@ -16,7 +16,6 @@ use Rattle.lb_ticket.specs.Seats.{SeatIs}
 use Rattle.lb_journal.specs.Journal.{Journal}
 use Rattle.lb_board.specs.Board.{Sight, WriterIs}
 use Rattle.lb_topub.specs.Versions.{VersionsSeen}
-use Rattle.lb_cpu.specs.Numbering.{EachFrom}
 use Rattle.lb_cpu.specs.Blanks.{IsQueue, IsSeat, IsWriter, IsRows, IsReader, IsLooker, FitCpus, FitLanes}
 use Rattle.lb_cpu.proofs.Numbering.{each_step}
 

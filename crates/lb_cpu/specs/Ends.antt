@@ -2,7 +2,6 @@
 -- queues, and of each lane its course and its last ticket. Of the lists it keeps what their merge asks of the owners, but
 -- for the closing.
 use Rattle.std.specs.Prelude.{ℕ, ◌≡◌, ◌+◌, ◌<◌, true, false, List, [], ◌++◌, Some, length, map, take, slice_get, All}
-use Rattle.std.specs.List.{slice_index_or}
 use mathlib.Core.List.{IsPrefix}
 use base.Stored.{Coded}
 use Rattle.atomic_table.specs.Seated.{TableId}
@@ -15,7 +14,6 @@ use Rattle.lb_core.specs.declared.course.Course.{Course}
 use Rattle.lb_core.specs.declared.course.Form.TheVariants.{Rest}
 use Rattle.lb_core.specs.Course.{opening_course}
 use Rattle.lb_core.specs.OfTrace.{rows_drawn}
-use Rattle.lb_ticket.specs.declared.item.Drawn.{Drawn}
 use Rattle.lb_ticket.specs.Facts.{HasFact}
 use Rattle.lb_ticket.specs.Seats.{BookIs, Numbered, SeatIs}
 use Rattle.lb_ticket.specs.Tickets.{pair}
@@ -23,7 +21,7 @@ use Rattle.lb_journal.specs.Journal.{Journal, Left, replay}
 use Rattle.lb_journal.specs.Known.{KnowsRest}
 use Rattle.lb_journal.specs.Merge.{closing_out, is_end, queue_list}
 use Rattle.lb_journal.specs.Owners.{InAll, ReadsAll, SeatUses, lists_of, own_rows, published}
-use Rattle.lb_board.specs.Board.{IsOfBoard, Sight, WriterIs}
+use Rattle.lb_board.specs.Board.{IsOfBoard, WriterIs}
 use Rattle.lb_topub.specs.Versions.{VersionsSeen}
 use Rattle.lb_cell.specs.Cells.{IsPlain}
 use Rattle.lb_cell.specs.Kinds.{is_of_lane}

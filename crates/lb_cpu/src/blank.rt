@@ -79,7 +79,7 @@ impl Model for Blank {
 impl Blank {
     /// The machine of an accepted trace before any entry: a book with a seat for each owner, a board with the opening
     /// figures, version 1 with the masks of the header, the queues with the tasks that are declared, and the rows of each
-    /// lane in their order. It refuses for want of memory alone, and waits while nobody holds what it waits for.
+    /// lane in their order. It refuses for want of memory alone. It waits while a looker's place is refused.
     pub fn new<R: Wait>(rt: &R, alloc: Global, trace: &Trace) -> Result<Blank, NoMemory>
         requires { IsTrace trace.now }
         ensures header { IfOk result (λ b. b.header ≡ trace.now.header) }
