@@ -1,5 +1,5 @@
 -- An entry that a lane drew at a queue, or nothing, and that it then read the queue's list, are as every call says them.
-use Rattle.std.proofs.Common.{ℕ, ◌≡◌, ◌∙◌, List, ◌++◌, map, sym, ap, subst}
+use Rattle.std.proofs.Common.{ℕ, ◌≡◌, ◌∙◌, List, ◌++◌, map}
 use base.Stored.{Coded}
 use Rattle.atomic_table.specs.Seated.{TableId}
 use Rattle.lb_trace.specs.declared.trace.Header.{Header}

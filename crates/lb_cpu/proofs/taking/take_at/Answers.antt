@@ -1,8 +1,5 @@
-use Rattle.std.proofs.Common.{◌≡◌, ◌∙◌, ◌<◌, false, Some, length, ap, refl, sym, subst}
-use Rattle.std.proofs.lemmas.Option.{same_Some}
-use Rattle.lb_detach.specs.declared.Env.{Env}
+use Rattle.std.proofs.Common.{◌≡◌, ◌∙◌, ◌<◌, false, length, ap, sym, subst}
 use Rattle.lb_queue.specs.declared.answers.OutCause.TheVariants.{Pull}
-use Rattle.lb_queue.specs.Queue.{BookedQueue}
 use Rattle.lb_queue.specs.Tasks.{ids}
 use Rattle.lb_core.specs.declared.course.Course.{Course}
 use Rattle.lb_core.specs.declared.entry.What.TheVariants.{Out}

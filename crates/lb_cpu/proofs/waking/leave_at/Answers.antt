@@ -1,4 +1,4 @@
-use Rattle.std.proofs.Common.{ap, sym, subst, ◌∙◌, ◌≡◌}
+use Rattle.std.proofs.Common.{ap, sym, subst}
 use Rattle.lb_core.specs.declared.course.Course.{Course}
 use Rattle.lb_core.specs.declared.entry.What.TheVariants.{Out}
 use Rattle.lb_queue.specs.Tasks.{ids}
