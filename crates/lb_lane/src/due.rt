@@ -2,7 +2,6 @@
 ghost use Rattle.std.specs.Prelude.{ℕ, ◌≡◌, ◌↔◌, true, false, IsTrue};
 ghost use Rattle.lb_base.specs.Mask.{has};
 ghost use Rattle.lb_core.specs.Course.{turn_domain};
-ghost use Rattle.lb_imbalance.specs.Decision.{group_at};
 ghost use Rattle.lb_lane.specs.Lanes.{is_due};
 ghost use Rattle.lb_lane.specs.Looks.{LookAsks, look_due};
 ghost use Rattle.lb_lane.specs.Scans.{ScanAsks};
@@ -15,18 +14,7 @@ use lb_cell::Names;
 use lb_core::{Course, Form};
 use lb_course::is_all_pinned;
 use lb_domain::Domain;
-
-// The group of a domain that has its CPU.
-fn local_group(domain: &Domain) -> Mask
-    ensures { result ≡ group_at domain.now.groups 0 }
-{
-    let groups = domain.groups.as_slice();
-    if groups.is_empty() {
-        Mask::none()
-    } else {
-        groups[0]
-    }
-}
+use lb_turn::local_group;
 
 // Whether no CPU is in both masks.
 fn are_apart(a: Mask, b: Mask) -> bool

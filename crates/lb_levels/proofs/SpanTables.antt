@@ -1,4 +1,4 @@
--- The tables of levels and spans: one more step of making them, and what stands at a place.
+-- The table of spans, a row for each level: its size, and what stands at the place of a level and a CPU.
 use Rattle.std.proofs.Common.{◌≡◌, ℕ, ◌<◌, List, [], length, Some, sym, ◌∙◌, ap, arith}
 use Rattle.std.specs.List.{range_with_len, slice_get}
 use Rattle.std.proofs.lemmas.List.{length-map, get_or-map}

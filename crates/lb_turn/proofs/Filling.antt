@@ -1,4 +1,5 @@
--- An array that is filled from the front with the items of a list.
+-- An array that is filled from the front with the items of a list, as shapes, records and names are copied from where they
+-- stand: after one item more. For callers too.
 use Rattle.std.proofs.Common.{ℕ, ◌≡◌, ◌+◌, ◌<◌, List, [], ◌∷◌, ◌++◌, length, take, slice_set, slice_index_or, refl, sym, ◌∙◌, ap}
 use Rattle.std.proofs.lemmas.Grind.{take-set_at, take_at_read}
 

@@ -4,4 +4,4 @@
 
 mod turn;
 
-pub use turn::{Shapes, Turn, flag, word_of};
+pub use turn::{Shapes, Turn, flag, local_group, word_of};

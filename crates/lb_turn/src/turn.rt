@@ -17,6 +17,7 @@ mod looks;
 mod shapes;
 
 pub use ends::{flag, word_of};
+pub use looks::local_group;
 pub use shapes::Shapes;
 
 /// The turn of a lane: what the trace declares, the domains of the turn's CPU in the version that the lane took up

@@ -11,7 +11,20 @@ use lb_base::{Fig, Kind, Mask};
 use lb_core::Form;
 use lb_course::{is_all_pinned, turn_kind};
 use lb_detach::Env;
+use lb_domain::Domain;
 use lb_imbalance::{Decision, decide};
+
+/// The group of a domain that has the domain's own CPU: the first one.
+pub fn local_group(domain: &Domain) -> Mask
+    ensures { result ≡ group_at domain.now.groups 0 }
+{
+    let groups = domain.groups.as_slice();
+    if groups.is_empty() {
+        Mask::none()
+    } else {
+        groups[0]
+    }
+}
 
 impl<'a> Turn<'a> {
     /// The CPUs whose figures are due: of a look those of the domain in work, of a scan those of the widest
@@ -49,21 +62,6 @@ impl<'a> Turn<'a> {
             turn_kind(self.course),
             self.course.excluded,
         )
-    }
-
-    // The group of the domain in work that has the CPU.
-    fn local_group(&self) -> Mask
-        requires { HasDomain self.now }
-        ensures { result ≡ group_at (turn_domain self.now.header self.now.course).groups 0 }
-    {
-        let groups = self.domains[self.course.position as usize]
-            .groups
-            .as_slice();
-        if groups.is_empty() {
-            Mask::none()
-        } else {
-            groups[0]
-        }
     }
 
     /// What the take that is due asks for; None where the last look does not pull.
@@ -107,6 +105,6 @@ impl<'a> Turn<'a> {
     {
         let span = self.shape().span;
         span.without(self.course.excluded)
-            .without(self.local_group())
+            .without(local_group(&self.domains[self.course.position as usize]))
     }
 }
