@@ -39,6 +39,7 @@ use Rattle.lb_cell.specs.LastEntries.{IsLast}
 use Rattle.lb_cell.specs.Cells.{CellIs, CellKeeps, LaneIs, LaneKeeps, IsPlain, IsInRange}
 use Rattle.lb_cell.specs.Kinds.{is_of_queue, is_out}
 use Rattle.lb_cell.proofs.Bounds.{stays_in}
+use Rattle.lb_cell.proofs.Resting.{rests_quiet}
 use Rattle.lb_cell.proofs.Going.{named_stays, flight_is_out}
 use Rattle.lb_cell.specs.Draws.{MayDraw, MayAnswerUse, AnswersUseAt, counted_at, sight_at, queue_left, course_left, item_at}
 
@@ -287,6 +288,11 @@ lane_more h book board code c l w number q now new known landing k of_queue smal
       range =
           let r : IsInRange now = subst IsInRange (sym steps) (stays_in w s c.log.writer.cpu q of_queue small k.range) in
           subst IsInRange (sym counted) (record { cpu = r.cpu; position = r.position; source = r.source });
+      quiet = λ rest.
+          let still = rests_quiet w s c.log.writer.cpu q k.quiet (sym form ∙ rest) in (
+            ap (λ (x : Course). x.command) counted ∙ (ap (λ (x : Course). x.command) steps ∙ still.0),
+            ap (λ (x : Course). x.decision) counted ∙ (ap (λ (x : Course). x.decision) steps ∙ still.1),
+          );
       landing = λ flies.
           lands (flight_is_out w s c.log.writer.cpu q of_queue (ap is_flight (sym form) ∙ flies)) ∙ ap ids (sym hand);
     }

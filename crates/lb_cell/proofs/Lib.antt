@@ -1,17 +1,18 @@
-mod Quoting
+pub mod Quoting
 mod Publishing
-mod Going
+pub mod Going
+pub mod Resting
 mod Bounds
 mod Beginning
-mod Entering
+pub mod Entering
 mod Falling
 mod Answering
 mod Seeing
 mod Asking
 mod Closing
-mod Moving
+pub mod Moving
 mod Turning
 mod Owning
 mod PubEntries
-mod Plain
-mod Staying
+pub mod Plain
+pub mod Staying

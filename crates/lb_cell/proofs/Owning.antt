@@ -27,8 +27,9 @@ use Rattle.lb_journal.specs.Journal.{Journal, Left, Fits, Begins, AnswersUse, is
 use Rattle.lb_cell.specs.declared.known.Known.{Known}
 use Rattle.lb_cell.specs.LastEntries.{IsLast, DrewOne}
 use Rattle.lb_cell.specs.Kinds.{is_of_lane}
-use Rattle.lb_cell.specs.Cells.{LaneIs, LaneKeeps, IsInRange}
+use Rattle.lb_cell.specs.Cells.{LaneIs, LaneKeeps, IsInRange, IsQuiet}
 use Rattle.lb_cell.specs.Own.{MayDrawOwn, MayFollow, OwnAsks, sight_from, sight_own, own_left, item_own}
+use Rattle.lb_cell.proofs.Resting.{rests_quiet}
 
 -- ---- the owner's test
 sight_is : (h : Header) (l : LaneIs) (w : What) (masks : List Mask) (figs : List CpuFig)
@@ -127,6 +128,7 @@ lane_own h book board code l w masks figs number course known seat ticket k is n
       first = λ z. absurd (omega (arith, z, held, some));
       named = next.named;
       range = next.range;
+      quiet = next.quiet;
       landing = λ flies. absurd (let no = next.grounded in cc (no, flies));
     }
 
@@ -191,4 +193,5 @@ may_follow h book board code l w own masks figs new k asks range steps =
       named = goes.0 ∙ k.named;
       range = subst IsInRange (sym (steps ∙ own_course h l w own masks figs asks)) range;
       grounded = goes.1;
+      quiet = subst IsQuiet (sym steps) (rests_quiet w (sight_own h l masks figs) 0 no_queue k.quiet);
     }

@@ -1,5 +1,6 @@
 -- A `pub` of the publisher's list, from its parts; it leaves what every lane keeps.
-use Rattle.std.proofs.Common.{ℕ, ◌≡◌, ◌<◌, List, [], length, refl, sym, subst, ap, ◌∙◌, arith}
+use Rattle.std.proofs.Common.{ℕ, ◌≡◌, ◌<◌, false, List, [], length, map, refl, sym, subst, ap, ◌∙◌, arith}
+use Rattle.std.proofs.lemmas.List.{length-map}
 use base.Stored.{Coded}
 use Rattle.atomic_table.specs.Seated.{TableId}
 use Rattle.lb_base.specs.declared.mask.Mask.{Mask}
@@ -8,12 +9,15 @@ use Rattle.lb_core.specs.declared.course.Course.{Course}
 use Rattle.lb_core.specs.declared.entry.CpuFig.{CpuFig}
 use Rattle.lb_core.specs.Placed.{is_flight}
 use Rattle.lb_core.specs.CourseAfter.{comes_to_rest, course_after}
-use Rattle.lb_journal.specs.Journal.{Journal, Left}
+use Rattle.lb_core.specs.Rules.{breaks_here}
+use Rattle.lb_ticket.specs.declared.item.Drawn.{Drawn}
+use Rattle.lb_ticket.specs.Tickets.{pair}
+use Rattle.lb_journal.specs.Journal.{Fits, Journal, Left, sight_in}
 use Rattle.lb_board.specs.Board.{Sight as FiguresSeen}
 use Rattle.lb_cell.specs.declared.known.Known.{Known}
 use Rattle.lb_cell.specs.LastEntries.{IsLast}
 use Rattle.lb_cell.specs.Cells.{LaneIs, LaneKeeps, IsInRange}
-use Rattle.lb_cell.specs.Pubs.{pub_entry, pub_item, pub_left}
+use Rattle.lb_cell.specs.Pubs.{MayDrawPub, pub_entry, pub_item, pub_left, pub_sight}
 
 pub pub_course : (h : Header) (l : LaneIs) (count version : ℕ)
     → record (comes_to_rest l.course) { named_version = version } ≡ pub_left h l count version
@@ -36,6 +40,14 @@ pub_item_is h l count version j hv cv av ms fs e eh ec ea em ef =
       figs = ef i;
     })
 
+-- where it fits the publisher's list, it may be drawn
+pub pub_may : (h : Header) (l : LaneIs) (ds : List (Drawn Journal)) (version : ℕ)
+    → Fits (map pair ds) (pub_item h l (length ds) version) → MayDrawPub h l (length ds) version
+unfolding sight_in
+pub_may h l ds version f rule =
+    subst (λ (n : ℕ). breaks_here rule (pub_sight h l.course n) (pub_entry l version) ≡ false) (length-map ds pair)
+    (f.allowed rule)
+
 in_range : (c : Course) (version : ℕ) → IsInRange c → IsInRange (record (comes_to_rest c) { named_version = version })
 in_range c version r = record { cpu = r.cpu; position = r.position; source = omega arith }
 
@@ -55,6 +67,7 @@ pub_more h book board code l count version new known k some steps reader last =
       last = subst (λ (c : Course). IsLast book code (length h.cpus) l.number c known.ticket known.note) (sym left) last;
       first = λ z. absurd (omega (arith, z, some));
       range = subst IsInRange (sym steps) (in_range l.course version k.range);
+      quiet = λ rest. (ap (λ (c : Course). c.command) steps, ap (λ (c : Course). c.decision) steps);
       named = ap (λ (c : Course). length c.named) steps ∙ k.named;
       headers = k.headers;
       landing = λ flies. absurd (let no = ap (λ (c : Course). is_flight c.form) steps in cc (no, flies));

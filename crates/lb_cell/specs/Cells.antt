@@ -1,6 +1,6 @@
 -- What stands behind the lock of a queue, and what a lane has of its own. Each keeps of its list what the merge of all
 -- lists asks of its owner.
-use Rattle.std.specs.Prelude.{ℕ, ◌≡◌, ◌+◌, ◌<◌, ◌≤◌, ◌^◌, true, false, List, [], length, map, All}
+use Rattle.std.specs.Prelude.{ℕ, ◌≡◌, ◌+◌, ◌<◌, ◌≤◌, ◌^◌, true, false, None, List, [], length, map, All}
 use base.Stored.{Coded}
 use Rattle.atomic_table.specs.Seated.{TableId}
 use Rattle.lb_base.specs.declared.mask.TheConstants.{MAX_CPUS}
@@ -8,6 +8,7 @@ use Rattle.lb_queue.specs.Queue.{BookedQueue}
 use Rattle.lb_queue.specs.Tasks.{ids}
 use Rattle.lb_trace.specs.declared.trace.Header.{Header}
 use Rattle.lb_core.specs.declared.course.Course.{Course}
+use Rattle.lb_core.specs.declared.course.Form.TheVariants.{Rest}
 use Rattle.lb_core.specs.Course.{source_of}
 use Rattle.lb_core.specs.Placed.{is_flight}
 use Rattle.lb_ticket.specs.declared.item.Drawn.{Drawn}
@@ -80,6 +81,10 @@ pub record IsInRange (c : Course) : Type 0 where
   pub position : c.position < MAX_CPUS
   pub source : source_of c.decision < MAX_CPUS
 
+-- at rest no command is in service, and no look is kept
+abbrev pub IsQuiet : Course → Type 0
+IsQuiet c = c.form ≡ Rest → (c.command ≡ None) × (c.decision ≡ None)
+
 pub record LaneKeeps (h : Header) (book : TableId) (board : List TableId) (code : Coded Left) (l : LaneIs) : Type 0 where
   pub number : l.number < h.lanes
   pub table : l.seat.table ≡ book
@@ -91,5 +96,6 @@ pub record LaneKeeps (h : Header) (book : TableId) (board : List TableId) (code 
   pub named : length l.course.named ≡ length h.cpus
   pub headers : All (λ d. d.item.header ≡ h) l.seat.list
   pub range : IsInRange l.course
+  pub quiet : IsQuiet l.course
   -- the landing names the tasks in the hand
   pub landing : is_flight l.course.form ≡ true → l.landing ≡ ids l.course.hand

@@ -85,9 +85,10 @@ pub record MayDraw (h : Header) (c : CellIs) (l : LaneIs) (what : What) : Type 0
   -- a turn is answered at once
   pub answers : AnswersUseAt what c l
 
--- it was drawn: the list has grown by it, the queue has made its step, its figure was published, and the lane holds
--- the entry and was told of the figure
+-- it was drawn, as it might be: the list has grown by it, the queue has made its step, its figure was published, and the
+-- lane holds the entry and was told of the figure
 pub record Drew (h : Header) (c c' : CellIs) (l l' : LaneIs) (what : What) : Type 0 where
+  pub may : MayDraw h c l what
   pub ticket : ℕ
   pub list : c'.log.seat.list ≡ c.log.seat.list ++ record { ticket = ticket; item = item_at h c l what } ∷ []
   pub queue : c'.queue.state ≡ queue_left h c l what

@@ -19,7 +19,7 @@ use Rattle.lb_core.specs.Machine.{no_queue}
 use Rattle.lb_journal.specs.Journal.{Journal, CarriesMasks, CarriesFigs}
 use Rattle.lb_cell.specs.Kinds.{is_of_lane}
 use Rattle.lb_cell.specs.LastEntries.{DrewOne}
-use Rattle.lb_cell.specs.Cells.{LaneIs, IsInRange}
+use Rattle.lb_cell.specs.Cells.{LaneIs, IsInRange, IsQuiet}
 
 -- what the step of an entry of a lane's own list reads, with the masks or figures that it names: no queue
 abbrev pub sight_from : Header → Course → List Mask → List CpuFig → Sight
@@ -67,13 +67,15 @@ pub record MayFollow (h : Header) (c : Course) : Type 0 where
   pub named : length c.named ≡ length h.cpus
   pub range : IsInRange c
   pub grounded : is_flight c.form ≡ false
+  pub quiet : IsQuiet c
 
 -- of the seat: what else it learnt is that each further ticket is above this one
 abbrev pub GoesAbove : ℕ → LaneIs → LaneIs → Type 0
 GoesAbove ticket l l' = (l.seat.next ≤ ticket) × (l'.seat.next ≡ ticket + 1)
 
--- it was drawn at a ticket above all that the seat had read and marked: the list has grown by it, and the lane holds it
+-- it was drawn, as it might be, at a ticket above all that the seat had read and marked: the list has grown by it, and the lane holds it
 pub record DrewOwn (h : Header) (l l' : LaneIs) (what : What) (masks : List Mask) (figs : List CpuFig) (ticket : ℕ) : Type 0 where
+  pub may : MayDrawOwn h l what masks figs
   pub list : l'.seat.list ≡ l.seat.list ++ record { ticket = ticket; item = item_own h l what masks figs } ∷ []
   pub course : l'.course ≡ own_left h l what masks figs
   pub held : l'.known.ticket ≡ ticket

@@ -1,12 +1,14 @@
 -- The `pub` of a version that a lane draws in the publisher's list: what it says and leaves, and what the lane and the
 -- publisher's seat are after it.
-use Rattle.std.specs.Prelude.{ℕ, ◌≡◌, ◌≤◌, [], ◌∷◌, ◌++◌, length}
+use Rattle.std.specs.Prelude.{ℕ, ◌≡◌, ◌≤◌, false, [], ◌∷◌, ◌++◌, length}
 use Rattle.lb_trace.specs.declared.trace.Header.{Header}
 use Rattle.lb_core.specs.declared.course.Course.{Course}
 use Rattle.lb_core.specs.declared.entry.Entry.{Entry}
 use Rattle.lb_core.specs.declared.entry.Owner.TheVariants.{Publisher}
 use Rattle.lb_core.specs.declared.entry.What.TheVariants.{Pub}
+use Rattle.lb_core.specs.declared.rule.Rule.{Rule}
 use Rattle.lb_core.specs.Sight.{Sight}
+use Rattle.lb_core.specs.Rules.{breaks_here}
 use Rattle.lb_core.specs.Machine.{no_queue}
 use Rattle.lb_core.specs.CourseAfter.{course_after}
 use Rattle.lb_ticket.specs.Seats.{SeatIs}
@@ -34,8 +36,14 @@ pub_item h l count version = record {
   figs = [];
 }
 
--- it was drawn in the publisher's list, and the lane holds it
+-- the lane may draw it: it breaks no rule
+abbrev pub MayDrawPub : Header → LaneIs → ℕ → ℕ → Type 0
+MayDrawPub h l count version =
+    (rule : Rule) → breaks_here rule (pub_sight h l.course count) (pub_entry l version) ≡ false
+
+-- it was drawn in the publisher's list, as it might be, and the lane holds it
 pub record DrewPub (h : Header) (l l' : LaneIs) (s s' : SeatIs Journal) (version ticket : ℕ) : Type 0 where
+  pub may : MayDrawPub h l (length s.list) version
   pub list : s'.list ≡ s.list ++ record { ticket = ticket; item = pub_item h l (length s.list) version } ∷ []
   pub seat : DrewOne s s'
   pub above : s.next ≤ ticket

@@ -98,10 +98,24 @@ range_after h l m w masks figs same r =
     (λ i. IsInRange (own_left h
     (record l { number = sym same.number i; course = sym same.course i; known = sym same.known i }) w masks figs)) r
 
+-- of two sides that are alike in what an entry says of them
+may_alike : (h : Header) (l m : SideIs) (w : What) (masks : List Mask) (figs : List CpuFig) → m.course ≡ l.course
+    → m.number ≡ l.number → m.known.ticket ≡ l.known.ticket → MayDrawOwn h m w masks figs → MayDrawOwn h l w masks figs
+may_alike h l m w masks figs course number held may = record {
+  of_lane = may.of_lane;
+  allowed = λ rule.
+      subst (λ (t : Type 0). t)
+      (λ i. breaks_here rule (sight_from h (course i) masks figs)
+      (entry_own (record l { number = number i; known = record l.known { ticket = held i } }) w) ≡ false) (may.allowed rule);
+  carries_masks = may.carries_masks;
+  carries_figs = may.carries_figs;
+}
+
 -- ---- what was drawn
 pub drew_of : (h : Header) (l l' : SideIs) (w : What) (masks : List Mask) (figs : List CpuFig) (ticket : ℕ)
     → DrewOwn h l l' w masks figs ticket → Drew h l l' w masks figs ticket
 drew_of h l l' w masks figs ticket d = record {
+  may = d.may;
   list = d.list;
   course = d.course;
   held = d.held;
@@ -119,6 +133,7 @@ drew_after h l m l' w masks figs ticket same view d =
     let item : item_own h m w masks figs ≡ item_own h l w masks figs =
     (λ i. item_own h (record l { number = same.number i; course = same.course i; known = same.known i }) w masks figs) in
     record {
+      may = may_alike h l m w masks figs same.course same.number (ap (λ x. x.ticket) same.known) d.may;
       list = d.list ∙ (λ i. same.list i ++ record { ticket = ticket; item = item i } ∷ []);
       course = d.course ∙ ap (λ j. j.after) item;
       held = d.held;
@@ -138,6 +153,7 @@ drew_since h l m l' w masks figs ticket list course number held landing read nex
     (λ i. item_own h (record l { number = number i; course = course i; known = record l.known { ticket = held i } }) w masks figs)
     in
     record {
+      may = may_alike h l m w masks figs course number held d.may;
       list = d.list ∙ (λ i. list i ++ record { ticket = ticket; item = item i } ∷ []);
       course = d.course ∙ ap (λ j. j.after) item;
       held = d.held;

@@ -5,6 +5,7 @@ use Rattle.lb_base.specs.declared.shape.Kind.{Kind}
 use Rattle.lb_queue.specs.declared.answers.TurnReply.{TurnReply}
 use Rattle.lb_queue.specs.Turns.{FitCounters}
 use Rattle.lb_trace.specs.declared.trace.Header.{Header}
+use Rattle.lb_core.specs.Asks.{OpeningAsks}
 use Rattle.lb_core.specs.Course.{shapes_of}
 use Rattle.lb_core.specs.Stage.{waits_for_push, waits_for_stop}
 use Rattle.lb_cell.specs.Cells.{CellIs}
@@ -25,13 +26,14 @@ pub record TurnAsks (c : CellIs) (l : LaneIs) (x : Chosen) (kind : Kind) : Type 
   pub owed : waits_for_stop kind c.queue.state ≡ false
   pub fit : FitCounters c.queue.state x.version (shapes_of x.domains)
 
--- no push had to come first: the lane took up the version, after all that the queue had drawn, and the queue has answered
--- that
+-- no push had to come first: the lane took up the version, after all that the queue had drawn, and the queue, where a turn
+-- may open over its domains, has answered that
 pub record TurnAnswered (h : Header) (c c' : CellIs) (l l' : LaneIs) (x : Chosen) (kind : Kind) (r : TurnReply) : Type 0 where
   pub served : waits_for_push kind l.side.course c.queue.state ≡ false
   pub mid : LaneIs
   pub ticket : ℕ
   pub adopted : Adopted h c l mid x kind ticket
+  pub asks : OpeningAsks h c.queue.state mid.side.course
   pub answered : DrewAt h c c' mid.side l'.side (turn_what r)
   pub rest : SameRest mid l'
 

@@ -9,7 +9,7 @@ use Rattle.lb_core.specs.declared.entry.What.TheVariants.{Row as RowEntry}
 use Rattle.lb_ticket.specs.declared.view.Held.{Held}
 use Rattle.lb_cell.specs.Cells.{LaneIs as SideIs}
 use Rattle.lb_cell.specs.Reads.{SeesMore}
-use Rattle.lb_cell.specs.Own.{item_own, own_left}
+use Rattle.lb_cell.specs.Own.{MayDrawOwn, item_own, own_left}
 use Rattle.lb_cell.specs.Reads.{SameBut}
 use Rattle.lb_lane.specs.Lanes.{LaneIs}
 
@@ -38,8 +38,9 @@ pub record DrewNothing (l l' : LaneIs) : Type 0 where
   pub side : SameBut l.side l'.side
   pub rest : SameRest l l'
 
--- the entry was drawn at a ticket above all that the lane had read and marked: its list has grown by it, and it holds it
+-- the entry was drawn, as it might be, at a ticket above all that the lane had read and marked: its list has grown by it, and it holds it
 pub record Drew (h : Header) (l l' : SideIs) (what : What) (masks : List Mask) (figs : List CpuFig) (ticket : ℕ) : Type 0 where
+  pub may : MayDrawOwn h l what masks figs
   pub list : l'.seat.list ≡ l.seat.list ++ record { ticket = ticket; item = item_own h l what masks figs } ∷ []
   pub course : l'.course ≡ own_left h l what masks figs
   pub held : l'.known.ticket ≡ ticket

@@ -5,7 +5,7 @@ use Rattle.lb_journal.specs.contracts.journal.Left.{the_row}
 use Rattle.lb_cell.specs.Cells.{LaneIs, lane_of}
 use Rattle.lb_cell.specs.LastEntries.{Leaves}
 use Rattle.lb_cell.specs.Pubs.{DrewPub, pub_item}
-use Rattle.lb_cell.proofs.PubEntries.{pub_course, pub_item_is, pub_more}
+use Rattle.lb_cell.proofs.PubEntries.{pub_course, pub_item_is, pub_may, pub_more}
 use Rattle.lb_cell.proofs.lane.Lane.draw_pub.Goals as goal
 
 pub draw_noted-requires-clause-fits : goal.draw_noted-requires-clause-fits
@@ -56,9 +56,13 @@ returns g c =
     pub_item_is n.header l count c.args.version c.new-item.result c.of.result.value c.of-quoted.result.value c.of-2.result.value
     c.of-3.result.value c.of-4.result.value c.new-item.ensures (search rules) (search rules) (search rules) (search rules)
     (search rules) in
+    let f : Fits (map pair c.args.seat.now.list) (pub_item n.header l count c.args.version) =
+    subst (λ (x : LaneIs). Fits (map pair c.args.seat.now.list) (pub_item n.header x count c.args.version))
+    (sym c.self.view_is) c.requires.fits in
     subst (λ (x : LaneIs). DrewPub n.header x l' c.args.seat.now c.draw_noted.new.seat c.args.version c.draw_noted.result)
     c.self.view_is
     (record {
+      may = pub_may n.header l c.args.seat.now.list c.args.version f;
       list =
           subst
           (λ (j : Journal). c.draw_noted.new.seat.list

@@ -47,6 +47,8 @@ returns-clause-ok g c =
       mid = c.adopt.new.self;
       ticket = c.in_ok-adopt.field-0;
       adopted = c.in_ok-adopt.ensures.ok;
+      asks = opening_asks g.N.Names.header c.args.cell.now l c.adopt.new.self c.args.chosen c.args.kind c.in_ok-adopt.field-0
+          c.in_ok-adopt.ensures.ok c.requires.chosen c.requires.asks c.domains_stand_in_order.ensures;
       answered = subst
           (λ (x : CellIs).
           Drew g.N.Names.header x c.answer_use-reply.new.cell c.adopt.new.self.side c.answer_use-reply.new.self.side
