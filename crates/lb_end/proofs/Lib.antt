@@ -1,0 +1,10 @@
+pub mod Seating
+pub mod Keeping
+pub mod Chaining
+pub mod Fitting
+pub mod Leaving
+pub mod Ongoing
+pub mod Parts
+pub mod Rooms
+pub mod Served
+pub mod Finishing

@@ -1,0 +1,100 @@
+use Rattle.std.proofs.Common.{ℕ, ◌≡◌, ◌≤◌, ◌<◌, OnOk, length, set, sym, subst, ap, ◌∙◌}
+use Rattle.std.specs.Prelude.{slice_get}
+use Rattle.lb_journal.specs.Owners.{lists_of}
+use Rattle.lb_journal.specs.declared.journal.Journal.{the_code}
+use Rattle.lb_journal.specs.contracts.journal.Left.{the_row}
+use Rattle.lb_end.specs.Ends.{EndedIs}
+use Rattle.lb_end.specs.Seats.{next_at, spare_at}
+use Rattle.lb_end.proofs.Seating.{kept_at}
+use Rattle.lb_end.proofs.Keeping.{lists_kept}
+use Rattle.lb_end.proofs.Parts.{there}
+use Rattle.lb_end.proofs.Rooms.{keeps_room, nexts_stay, room_grows, room_now}
+use Rattle.lb_end.proofs.ended.Ended.reserve.Goals as goal
+
+pub invariant_of-self : goal.invariant_of-self
+invariant_of-self g c =
+    let ss = c.self.inside.seats.items in
+    let s = c.index_mut.result.now in
+    let s' = c.reserve.new.self in
+    let inside : c.args.owner < length ss =
+    subst (λ (e : EndedIs). c.args.owner < length e.seats) (sym c.self.view_is) c.requires.inside in
+    let here = there ss c.args.owner s inside c.index_mut.ensures.value in
+    let r = c.reserve.ensures in
+    keeps_room g.N.Names.header g.N.Names.book the_code the_row.coded _ c.args.owner s s' here (record {
+      table = r.same.0;
+      number = r.same.1;
+      list = r.list;
+      view = r.view;
+      room = r.spare;
+    }) c.self.invariant
+
+pub returns-clause-ok : goal.returns-clause-ok
+returns-clause-ok g c =
+    let ss = c.self.inside.seats.items in
+    let s = c.index_mut.result.now in
+    let s' = c.reserve.new.self in
+    let inside : c.args.owner < length ss =
+    subst (λ (e : EndedIs). c.args.owner < length e.seats) (sym c.self.view_is) c.requires.inside in
+    let here = there ss c.args.owner s inside c.index_mut.ensures.value in
+    let r = c.reserve.ensures in
+    subst (λ (n : ℕ). OnOk c.reserve.result (1 ≤ n)) (sym (room_now ss c.args.owner s s' here)) r.ok
+
+pub returns-clause-room : goal.returns-clause-room
+returns-clause-room g c =
+    let ss = c.self.inside.seats.items in
+    let s = c.index_mut.result.now in
+    let s' = c.reserve.new.self in
+    let inside : c.args.owner < length ss =
+    subst (λ (e : EndedIs). c.args.owner < length e.seats) (sym c.self.view_is) c.requires.inside in
+    let here = there ss c.args.owner s inside c.index_mut.ensures.value in
+    let r = c.reserve.ensures in
+    λ k.
+    subst (λ (e : EndedIs). spare_at e.seats k ≤ spare_at (set ss c.args.owner s') k) c.self.view_is
+    (room_grows ss c.args.owner s s' here (record {
+      table = r.same.0;
+      number = r.same.1;
+      list = r.list;
+      view = r.view;
+      room = r.spare;
+    }) k)
+
+pub returns-clause-lists : goal.returns-clause-lists
+returns-clause-lists g c =
+    let ss = c.self.inside.seats.items in
+    let s = c.index_mut.result.now in
+    let s' = c.reserve.new.self in
+    let inside : c.args.owner < length ss =
+    subst (λ (e : EndedIs). c.args.owner < length e.seats) (sym c.self.view_is) c.requires.inside in
+    let here = there ss c.args.owner s inside c.index_mut.ensures.value in
+    let r = c.reserve.ensures in
+    lists_kept ss c.args.owner s s' here r.list ∙ ap (λ (e : EndedIs). lists_of e.seats) c.self.view_is
+
+pub returns-clause-nexts : goal.returns-clause-nexts
+returns-clause-nexts g c =
+    let ss = c.self.inside.seats.items in
+    let s = c.index_mut.result.now in
+    let s' = c.reserve.new.self in
+    let inside : c.args.owner < length ss =
+    subst (λ (e : EndedIs). c.args.owner < length e.seats) (sym c.self.view_is) c.requires.inside in
+    let here = there ss c.args.owner s inside c.index_mut.ensures.value in
+    let r = c.reserve.ensures in
+    λ k.
+    nexts_stay ss c.args.owner s s' here (record {
+      table = r.same.0;
+      number = r.same.1;
+      list = r.list;
+      view = r.view;
+      room = r.spare;
+    }) k
+    ∙ ap (λ (e : EndedIs). next_at e.seats k) c.self.view_is
+
+pub returns-clause-others : goal.returns-clause-others
+returns-clause-others g c =
+    let ss = c.self.inside.seats.items in
+    let s = c.index_mut.result.now in
+    let s' = c.reserve.new.self in
+    let inside : c.args.owner < length ss =
+    subst (λ (e : EndedIs). c.args.owner < length e.seats) (sym c.self.view_is) c.requires.inside in
+    let here = there ss c.args.owner s inside c.index_mut.ensures.value in
+    let r = c.reserve.ensures in
+    λ k other. kept_at ss c.args.owner s' k other ∙ ap (λ (e : EndedIs). slice_get e.seats k) c.self.view_is

@@ -1,0 +1,5 @@
+pub mod Ends
+pub mod Finished
+pub mod Seats
+pub mod Drawing
+pub mod Closing
