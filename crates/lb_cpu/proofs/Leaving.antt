@@ -34,7 +34,8 @@ use Rattle.lb_cell.specs.LastEntries.{fact_left}
 use Rattle.lb_cell.specs.Reads.{PlainIsKept, SawIsRead}
 use Rattle.lb_lane.specs.Lanes.{LaneIs}
 use Rattle.lb_lane.specs.Publishers.{PublisherIs, PublisherKeeps, IsPub}
-use Rattle.lb_cpu.specs.Ends.{LeftCell, LeftLane, KnowsLast, KeptLists, AreReplays, KnowLasts, NothingCloses, LaneIsLeft}
+use Rattle.lb_cpu.specs.Ends.{LeftCell, LeftLane, LaneIsLeft}
+use Rattle.lb_end.specs.Ends.{IsFirstCourse, KnowsLast, KeptLists, AreReplays, KnowLasts, NothingCloses}
 use Rattle.lb_cpu.specs.Numbering.{EachOfTwo, EachOfThree}
 use Rattle.lb_cpu.proofs.Places.{item_at, in_front, behind, one_item, all_at, of_mapped, mapped_at}
 
@@ -350,6 +351,11 @@ module _ (h : Header) (book : TableId) (board : List TableId) (versions : Book) 
       (subst (λ (n : ℕ). KnowsLast left (length h.cpus) lane c n y.0) ticket
       (subst (λ (z : Course). KnowsLast left (length h.cpus) lane z l.0.side.known.ticket y.0) l.2 y.2.last))
 
+  pub first_course : (c : Course) → slice_get (map (λ (l : LaneIs). l.side.course) lanes) 0 ≡ Some c → IsFirstCourse h c
+  first_course c at_c =
+      let l = of_mapped (λ (l : LaneIs). l.side.course) lanes 0 c at_c in
+      subst (IsFirstCourse h) l.2 (of_lane 0 l.0 l.1).2.course
+
   pub all_open : NothingCloses all
   all_open =
       let O : Drawn Journal → Type 0 = λ d. (closing_out d.item ≡ false) × (is_end d.item.entry.what ≡ false) in
@@ -369,6 +375,7 @@ module _ (h : Header) (book : TableId) (board : List TableId) (versions : Book) 
         seat = y.0;
         there = there;
         list = y.2.list;
+        read = y.2.read;
         rows =
             ap (λ (es : List Entry). rows_drawn es)
             (ap (λ (ds : List (Drawn Journal)). map (λ (d : ℕ × Journal). d.1.entry) (map pair ds)) (list_at all (k + 1) y.0 there)

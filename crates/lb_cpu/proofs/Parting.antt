@@ -26,7 +26,8 @@ use Rattle.lb_cell.specs.Kinds.{is_of_lane}
 use Rattle.lb_cell.specs.LastEntries.{IsLast, facts_of, fact_left}
 use Rattle.lb_cell.specs.Reads.{SawAll}
 use Rattle.lb_lane.specs.Lanes.{LaneIs, LaneKeeps}
-use Rattle.lb_cpu.specs.Ends.{LeftCell, LeftLane, LeftNote, KnowsLast}
+use Rattle.lb_cpu.specs.Ends.{LeftCell, LeftLane, LeftNote}
+use Rattle.lb_end.specs.Ends.{KnowsLast}
 use Rattle.lb_cpu.specs.Numbering.{EachOfTwo, EachOfThree}
 use Rattle.lb_cpu.proofs.Places.{item_at, all_at, of_mapped}
 
@@ -84,6 +85,7 @@ left_lane h book board versions code left l s same known read side keeps sizes =
       table = same.0 ∙ side.table;
       number = (let n = same.1 in let o = side.owner in omega arith);
       list = same.2;
+      read = read;
       headers = subst (λ (ds : List (Drawn Journal)). All (λ d. d.item.header ≡ h) ds) list side.headers;
       own = subst (λ (ds : List (Drawn Journal)). All (λ d. is_of_lane d.item.entry.what ≡ true) ds) list keeps.goes_on;
       rows =
@@ -94,6 +96,7 @@ left_lane h book board versions code left l s same known read side keeps sizes =
       last =
           lasts book left (length h.cpus) l.side.number l.side.course l.side.known.ticket s l.side.seat.known
           l.side.known.note side.last known (λ z. same.2 ∙ side.first z);
+      course = (side.named, side.quiet);
       cells = side.cells;
       sizes = sizes ∙ ap (λ (ts : List TableId). length ts) side.cells;
       saw = subst (λ (ds : List (Drawn Journal)). SawAll l.side.known.reader ds) list keeps.saw;

@@ -13,7 +13,8 @@ use Rattle.lb_topub.specs.Versions.{VersionsSeen}
 use Rattle.lb_lane.specs.Lanes.{LaneIs}
 use Rattle.lb_lane.specs.Publishers.{PublisherIs, PublisherKeeps}
 use Rattle.lb_cpu.specs.Cpus.{CpusIs, CpusKeeps}
-use Rattle.lb_cpu.specs.Ends.{HoldsFirst, LeftCell, LeftLane, LeftNote, VersionsAreSeen}
+use Rattle.lb_cpu.specs.Ends.{LeftCell, LeftLane, LeftNote, VersionsAreSeen}
+use Rattle.lb_end.specs.Ends.{HoldsFirst}
 use Rattle.lb_cpu.specs.Numbering.{EachOfTwo, EachOfThree}
 use Rattle.lb_cpu.proofs.Parting.{unmapped}
 use Rattle.lb_cpu.proofs.Leaving.{IsLeft}

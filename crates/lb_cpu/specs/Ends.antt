@@ -1,6 +1,5 @@
--- What is left of a machine when its locks and its lanes are taken apart: the seats of all owners with their lists, the
--- queues, and of each lane its course and its last ticket. Of the lists it keeps what their merge asks of the owners, but
--- for the closing.
+-- What is left of each cell and of each lane when the locks and the lanes of a machine are taken apart, and what is known of
+-- the lanes then.
 use Rattle.std.specs.Prelude.{ℕ, Option, ◌≤◌, ◌≡◌, ◌+◌, ◌<◌, true, false, List, [], ◌++◌, Some, length, map, take, slice_get, All}
 use mathlib.Core.List.{IsPrefix}
 use base.Stored.{Coded}
@@ -27,6 +26,7 @@ use Rattle.lb_cell.specs.Cells.{IsPlain}
 use Rattle.lb_cell.specs.Kinds.{is_of_lane}
 use Rattle.lb_cell.specs.LastEntries.{IsLast, fact_left}
 use Rattle.lb_cell.specs.Reads.{SawAll}
+use Rattle.lb_end.specs.Ends.{IsFirstCourse, KnowsLast}
 use Rattle.lb_lane.specs.Lanes.{LaneIs}
 use Rattle.lb_lane.specs.Publishers.{PublisherKeeps}
 
@@ -42,12 +42,6 @@ pub record LeftCell (h : Header) (book : TableId) (board : List TableId) (cpu : 
   pub of_board : IsOfBoard board w
   pub figures : w.figures ≡ published h cpu (map pair s.list)
 
--- of a lane whose last entry has this ticket and left this course, the seat knows the fact of that entry; ticket 0 says that
--- the lane drew none. Of lane 0 no seat knows it: its note is kept for the entry that closes the history first
-pub record KnowsLast (left : Coded Left) (cpus lane : ℕ) (course : Course) (ticket : ℕ) (s : SeatIs Journal) : Type 0 where
-  pub none : ticket ≡ 0 → (s.list ≡ []) × (course ≡ opening_course cpus)
-  pub some : 1 ≤ lane → 0 < ticket → HasFact (fact_left left lane course ticket) s.known
-
 -- the note that is left of a lane: that of lane 0
 pub record LeftNote (book : TableId) (left : Coded Left) (cpus lane : ℕ) (l : LaneIs) (note : Option NoteIs) : Type 0 where
   pub first : lane ≡ 0 → IsLast book left cpus 0 l.side.course l.side.known.ticket note
@@ -58,78 +52,26 @@ pub record LeftLane (h : Header) (book : TableId) (board : List TableId) (versio
   pub table : s.table ≡ book
   pub number : s.number ≡ 1 + lane
   pub list : s.list ≡ l.side.seat.list
+  pub read : s.read ≡ l.side.seat.read
   pub headers : All (λ d. d.item.header ≡ h) s.list
   pub own : All (λ d. is_of_lane d.item.entry.what ≡ true) s.list
   pub rows : rows_drawn (map (λ d. d.item.entry) s.list) ≡ take l.side.course.rows l.rows
   pub uses : SeatUses h code s
   pub last : KnowsLast left (length h.cpus) lane l.side.course l.side.known.ticket s
+  pub course : IsFirstCourse h l.side.course
   -- what its reader and its looker saw
   pub cells : l.side.known.reader.cells ≡ board
   pub sizes : length l.side.known.reader.seen ≡ length board
   pub saw : SawAll l.side.known.reader s.list
   pub versions_are : l.looker.book ≡ versions
 
--- ---- all of them
--- what a caller sees
-pub record EndedIs : Type 0 where
-  pub header : Header
-  pub book : BookIs
-  pub seats : List (SeatIs Journal)
-  pub queues : List BookedQueue
-  pub courses : List Course
-  pub tickets : List ℕ
-  pub notes : List (Option NoteIs)
-
--- what the owners keep of their lists: one header, the versions that they use were read, and the figures that they name
--- were published
-pub record KeptLists (h : Header) (code : Coded Journal) (seats : List (SeatIs Journal)) : Type 0 where
-  pub headers : All (λ s. All (λ d. d.item.header ≡ h) s.list) seats
-  pub uses : All (SeatUses h code) seats
-  pub figures : All (λ s. All (ReadsAll h (lists_of seats)) s.list) seats
-
--- each queue is the replay of its list
-abbrev pub AreReplays : Header → List (SeatIs Journal) → List BookedQueue → Type 0
-AreReplays h seats queues =
-    (cpu : ℕ) (q : BookedQueue) → slice_get queues cpu ≡ Some q → q.state ≡ replay h cpu (queue_list (lists_of seats) cpu)
-
--- the note of lane 0, where its last entry has this ticket and left this course, before any other note
-abbrev pub HoldsFirst : TableId → Coded Left → ℕ → List Course → List ℕ → List (Option NoteIs) → Type 0
-HoldsFirst book left cpus courses tickets notes =
-    (c : Course) (t : ℕ) (note : Option NoteIs) → slice_get courses 0 ≡ Some c → slice_get tickets 0 ≡ Some t →
-    slice_get notes 0 ≡ Some note → IsLast book left cpus 0 c t note
-
--- each lane's seat knows the fact of its last entry
-abbrev pub KnowLasts : Coded Left → ℕ → List Course → List ℕ → List (SeatIs Journal) → Type 0
-KnowLasts left cpus courses tickets seats =
-    (lane : ℕ) (c : Course) (t : ℕ) (s : SeatIs Journal) → slice_get courses lane ≡ Some c →
-    slice_get tickets lane ≡ Some t → slice_get seats (lane + 1) ≡ Some s → KnowsLast left cpus lane c t s
-
-pub record EndedKeeps (h : Header) (book : TableId) (code : Coded Journal) (left : Coded Left) (e : EndedIs) : Type 0 where
-  pub header_is : e.header ≡ h
-  pub accepted : IsHeader h
-  pub book_is : e.book.table ≡ book
-  pub numbered : Numbered e.book.table 0 e.seats
-  pub owners : e.book.owners ≡ 17 + length h.cpus
-  pub all_seats : length e.seats ≡ e.book.owners
-  pub all_queues : length e.queues ≡ length h.cpus
-  pub all_courses : length e.courses ≡ h.lanes
-  pub all_tickets : length e.tickets ≡ h.lanes
-  pub all_notes : length e.notes ≡ h.lanes
-  pub lists : KeptLists h code e.seats
-  pub replays : AreReplays h e.seats e.queues
-  pub lasts : KnowLasts left (length h.cpus) e.courses e.tickets e.seats
-  pub first : HoldsFirst book left (length h.cpus) e.courses e.tickets e.notes
-
 -- ---- as the lanes left it
--- nothing closes yet
-abbrev pub NothingCloses : List (SeatIs Journal) → Type 0
-NothingCloses seats = InAll (λ d. (closing_out d.item ≡ false) × (is_end d.item.entry.what ≡ false)) (lists_of seats)
-
--- the lane has a seat with its list, whose rows are the first so many of its own; it knows how the lane was left
+-- the lane has a seat with its list and with what it read, whose rows are the first so many of its own; it knows how the lane was left
 pub record LaneIsLeft (left : Coded Left) (seats : List (SeatIs Journal)) (lane : ℕ) (l : LaneIs) : Type 0 where
   pub seat : SeatIs Journal
   pub there : slice_get seats (lane + 1) ≡ Some seat
   pub list : seat.list ≡ l.side.seat.list
+  pub read : seat.read ≡ l.side.seat.read
   pub rows : own_rows (lists_of seats) lane ≡ take l.side.course.rows l.rows
   pub rest : 1 ≤ lane → l.side.course.form ≡ Rest → (seat.list ≡ [] → ⊥) → KnowsRest left (seat.fresh ++ seat.known) lane
 

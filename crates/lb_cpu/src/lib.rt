@@ -13,7 +13,6 @@ mod command;
 mod cpus;
 mod cut;
 mod due;
-mod ended;
 mod landing;
 mod locks;
 mod looking;
@@ -28,4 +27,4 @@ mod waking;
 
 pub use blank::Blank;
 pub use cpus::Cpus;
-pub use ended::Ended;
+pub use lb_end::Ended;

@@ -1,20 +1,20 @@
 //! A machine comes to rest: its locks and its lanes are taken apart, and what was read is compared with what was published.
 ghost use Rattle.std.specs.Prelude.{ℕ, ◌≡◌, ◌++◌, ◌∷◌, Some, IfOk, length, map, slice_get};
-ghost use Rattle.lb_cpu.specs.Ends.{LaneIsLeft, NothingCloses, VersionsAreSeen};
+ghost use Rattle.lb_cpu.specs.Ends.{LaneIsLeft, VersionsAreSeen};
+ghost use Rattle.lb_end.specs.Ends.{NothingCloses};
 ghost use Rattle.lb_cpu.specs.Numbering.{EachFrom};
 ghost use Rattle.lb_lane.specs.Lanes.{LaneIs};
 
 use crate::apart::{end_cells, end_lanes};
 use crate::cpus::Cpus;
-use crate::ended::Ended;
 use lb_base::NoMemory;
 use lb_cell::laws::{plain_is_kept, saw_is_read};
 use lb_cell::{Names, Shared};
+use lb_end::Ended;
 use lb_journal::{Journal, Left};
 use lb_lane::{Lane, Versions};
 use lb_ticket::{Coding, Seat};
 use std::alloc::Global;
-use std::marker::PhantomData;
 use std::sync::Wait;
 
 // The seats of all owners, in the order of their numbers.
@@ -72,15 +72,14 @@ impl<N: Names + Versions> Cpus<N> {
         lb_board::gather(rt, board, cells.writers, lanes.readers);
         lb_topub::gather(rt, publisher, lanes.lookers);
         let seats = all_seats(alloc, seat, lanes.seats, unused, cells.seats)?;
-        Ok(Ended {
+        Ok(Ended::new(
             header,
             book,
             seats,
-            queues: cells.queues,
-            courses: lanes.courses,
-            tickets: lanes.tickets,
-            notes: lanes.notes,
-            names: PhantomData,
-        })
+            cells.queues,
+            lanes.courses,
+            lanes.tickets,
+            lanes.notes,
+        ))
     }
 }

@@ -1,4 +1,4 @@
-use Rattle.std.proofs.Common.{ℕ, ◌≡◌, List, map, length, vec_len, All, ap, sym, subst, ◌∙◌}
+use Rattle.std.proofs.Common.{ℕ, ◌≡◌, Some, List, map, length, vec_len, slice_get, All, ap, sym, subst, ◌∙◌}
 use Rattle.std.proofs.lemmas.List.{length-map}
 use mathlib.Core.List.{IsPrefix}
 use Rattle.logbook.specs.Pages.{Book}
@@ -12,9 +12,10 @@ use Rattle.lb_journal.specs.contracts.journal.Left.{the_row as left_row}
 use Rattle.lb_lane.specs.Lanes.{LaneIs}
 use Rattle.lb_lane.specs.Publishers.{PublisherIs}
 use Rattle.lb_cpu.specs.Cpus.{CpusIs}
-use Rattle.lb_cpu.specs.Ends.{HoldsFirst, KnowLasts}
+use Rattle.lb_end.specs.Ends.{EndedIs, HoldsFirst, IsFirstCourse, KnowLasts, NothingCloses}
+use Rattle.lb_cpu.specs.Ends.{LaneIsLeft, VersionsAreSeen}
 use Rattle.lb_cpu.proofs.Parting.{writers_are, readers_are, lookers_are}
-use Rattle.lb_cpu.proofs.Leaving.{all_numbered, all_counted, all_replays, all_kept, all_lasts, all_open, left_lane}
+use Rattle.lb_cpu.proofs.Leaving.{all_numbered, all_counted, all_replays, all_kept, all_lasts, all_open, first_course, left_lane}
 use Rattle.lb_cpu.proofs.Resting.{holds_first, put_together, versions_seen}
 use Rattle.lb_cpu.proofs.cpus.Cpus.rest.Goals as goal
 
@@ -51,8 +52,8 @@ gather-requires-2 g c =
           (subst (λ (b : Book). All (λ l. l.book ≡ b) (map (λ (l : LaneIs). l.looker) lanes)) (sym of) lookers);
     }
 
-pub invariant_of-result : goal.invariant_of-result
-invariant_of-result g c =
+pub new-requires : goal.new-requires
+new-requires g c =
     let n = g.N.Names in
     let k = c.self.invariant in
     let x = c.self.inside in
@@ -95,6 +96,10 @@ invariant_of-result g c =
           (subst (λ (ts : List ℕ). KnowLasts left_row.coded (length n.header.cpus) (map course lanes) ts all) (sym tickets)
           (all_lasts n.header n.book n.board g.N.Versions.versions the_row.coded left_row.coded p lanes ls x.unused.items cells.queues.items
           cells.seats.items cells.writers.items all left));
+      quiet =
+          subst (λ (cs : List Course). (f : Course) → slice_get cs 0 ≡ Some f → IsFirstCourse n.header f) (sym courses)
+          (first_course n.header n.book n.board g.N.Versions.versions the_row.coded left_row.coded p lanes ls x.unused.items
+          cells.queues.items cells.seats.items cells.writers.items all left);
       first =
           subst (λ (cs : List Course). HoldsFirst n.book left_row.coded (length n.header.cpus) cs
           c.in_ok-lanes.lanes.tickets.items c.in_ok-lanes.lanes.notes.items) (sym courses)
@@ -121,8 +126,10 @@ returns-clause-left g c =
     c.end-publisher.ensures.parts c.end-publisher.ensures.kept c.in_ok-lanes.ensures.lanes c.requires.lanes.1
     c.in_ok-cells.ensures.cells c.in_ok-cells.ensures.count c.in_ok-lanes.ensures.readers c.gather.ensures.seen
     c.in_ok-seats.ensures in
-    left_lane n.header n.book n.board g.N.Versions.versions the_row.coded left_row.coded p lanes ls x.unused.items cells.queues.items
-    cells.seats.items cells.writers.items all left
+    subst (λ (e : EndedIs). (k : ℕ) (l : LaneIs) → slice_get lanes k ≡ Some l → LaneIsLeft left_row.coded e.seats k l)
+    (sym c.new.ensures)
+    (left_lane n.header n.book n.board g.N.Versions.versions the_row.coded left_row.coded p lanes ls x.unused.items cells.queues.items
+    cells.seats.items cells.writers.items all left)
 
 pub returns-clause-open : goal.returns-clause-open
 returns-clause-open g c =
@@ -141,15 +148,19 @@ returns-clause-open g c =
     c.end-publisher.ensures.parts c.end-publisher.ensures.kept c.in_ok-lanes.ensures.lanes c.requires.lanes.1
     c.in_ok-cells.ensures.cells c.in_ok-cells.ensures.count c.in_ok-lanes.ensures.readers c.gather.ensures.seen
     c.in_ok-seats.ensures in
-    all_open n.header n.book n.board g.N.Versions.versions the_row.coded left_row.coded p lanes ls x.unused.items cells.queues.items
-    cells.seats.items cells.writers.items all left
+    subst (λ (e : EndedIs). NothingCloses e.seats) (sym c.new.ensures)
+    (all_open n.header n.book n.board g.N.Versions.versions the_row.coded left_row.coded p lanes ls x.unused.items cells.queues.items
+    cells.seats.items cells.writers.items all left)
 
 pub returns-clause-versions : goal.returns-clause-versions
 returns-clause-versions g c =
     let n = g.N.Names in
     let p : PublisherIs = record { publisher = c.end-publisher.result.0; seat = c.end-publisher.result.1 } in
-    versions_seen n.header n.book g.N.Versions.versions c.into_inner.result p _ c.in_ok-seats.seats.items
+    subst
+    (λ (e : EndedIs). VersionsAreSeen n.header n.book g.N.Versions.versions e.seats
+    (map (λ (l : LaneIs). l.looker) c.args.lanes.items)) (sym c.new.ensures)
+    (versions_seen n.header n.book g.N.Versions.versions c.into_inner.result p _ c.in_ok-seats.seats.items
     (map (λ (l : LaneIs). l.looker) c.args.lanes.items) c.end-publisher.ensures.parts c.end-publisher.ensures.kept
     c.in_ok-seats.ensures
     (subst (λ (ls : List VersionsSeen). All (λ l. IsPrefix l.topologies c.end-publisher.result.0.topologies) ls)
-    c.in_ok-lanes.ensures.lookers c.gather-2.ensures.seen)
+    c.in_ok-lanes.ensures.lookers c.gather-2.ensures.seen))
