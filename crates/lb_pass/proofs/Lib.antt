@@ -1,0 +1,3 @@
+mod Attempting
+mod Settling
+mod Closing
