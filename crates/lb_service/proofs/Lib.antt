@@ -1,0 +1,5 @@
+mod Rows
+mod Following
+mod Entries
+mod Turning
+mod RowAnswers

@@ -1,0 +1,21 @@
+use Rattle.std.proofs.Common.{length}
+use Rattle.lb_service.proofs.Entries.{scan_same, scanned_serves, serving_grounded}
+use Rattle.lb_service.proofs.ticks.serve_scan.Goals as goal
+
+pub returns-clause-serving : goal.returns-clause-serving
+returns-clause-serving g c =
+    let n = g.N.Names in
+    scanned_serves n.header (length n.board) c.args.lane.now c.scan.new.lane c.in_ok-scan.field-0 c.keeps.ensures.cells
+    c.in_ok-scan.ensures.ok
+
+pub returns-clause-rows : goal.returns-clause-rows
+returns-clause-rows g c =
+    let n = g.N.Names in
+    scan_same n.header (length n.board) c.args.lane.now c.scan.new.lane c.in_ok-scan.field-0 c.in_ok-scan.ensures.ok
+
+pub returns-clause-grounded : goal.returns-clause-grounded
+returns-clause-grounded g c =
+    let n = g.N.Names in
+    serving_grounded n.header c.scan.new.lane.side.course
+    (scanned_serves n.header (length n.board) c.args.lane.now c.scan.new.lane c.in_ok-scan.field-0 c.keeps.ensures.cells
+    c.in_ok-scan.ensures.ok)
