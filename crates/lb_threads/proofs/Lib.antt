@@ -1,0 +1,4 @@
+pub mod Going
+pub mod Numbers
+pub mod Premises
+pub mod Starting

@@ -1,0 +1,6 @@
+use Rattle.lb_threads.proofs.Going.{HasServed}
+use Rattle.lb_threads.proofs.rows.serve_rows.Given as goal
+
+-- the lane has served its own of the rows that were passed
+abbrev pub invariant-loop-row : goal.invariant-loop-row
+invariant-loop-row g l = HasServed l.rows l.row-index l.initial.lane l.lane
