@@ -7,7 +7,7 @@ use Rattle.lb_read.specs.declared.written.Read.{Read}
 use Rattle.lb_read.specs.Laws.{ReadOnce, NoneIsBad, OneIsFirst}
 use Rattle.lb_audit.specs.Verdict.{verdict_of}
 use Rattle.lb_words.specs.declared.work.Work.{Work}
-use Rattle.lb_words.specs.declared.work.Work.TheVariants.{Step, Topo, Check, Gen, Sum}
+use Rattle.lb_words.specs.declared.work.Work.TheVariants.{Step, Run, Topo, Check, Gen, Sum}
 use Rattle.lb.specs.declared.status.Status.{Status}
 use Rattle.lb.specs.declared.status.Status.TheVariants as status
 use Rattle.lb.specs.Invocation.{Stream}
@@ -26,6 +26,7 @@ some_input (Some bytes) input P is h = let same : bytes ≡ input = cc in subst 
 
 pub of_input : (work : Work) (source : Stream) (input : List ℕ) (P : List ℕ → Type 0) → IsInput work source input → OfInput work source P → P input
 of_input Step source input P is h = some_input source.before input P is h
+of_input Run source input P is h = some_input source.before input P is h
 of_input Topo source input P is h = some_input source.before input P is h
 of_input Check source input P is h = some_input source.before input P is h
 of_input (Gen number rows) source input P is h = subst P (sym is) h
@@ -38,6 +39,7 @@ some_each (Some bytes) P Q f h = f bytes h
 
 pub of_each : (work : Work) (source : Stream) (P Q : List ℕ → Type 0) → ((i : List ℕ) → P i → Q i) → OfInput work source P → OfInput work source Q
 of_each Step source P Q f h = some_each source.before P Q f h
+of_each Run source P Q f h = some_each source.before P Q f h
 of_each Topo source P Q f h = some_each source.before P Q f h
 of_each Check source P Q f h = some_each source.before P Q f h
 of_each (Gen number rows) source P Q f h = f [] h
@@ -64,6 +66,7 @@ one_history_end law input a b (inr (within, inr x)) (inr (short, inr y)) = both_
 
 pub one_end : Reading → (work : Work) (input : List ℕ) (a b : Status) → IsStatusOf work input a → IsStatusOf work input b → a ≡ b
 one_end law Step input a b x y = x ∙ sym y
+one_end law Run input a b x y = x ∙ sym y
 one_end law Topo input a b x y = x ∙ sym y
 one_end law Check input a b x y = one_history_end law input a b x y
 one_end law (Gen number rows) input a b x y = x ∙ sym y

@@ -1,102 +1,84 @@
--- Where the work of `step` is done, what was written is the text of the trace's one serial history.
-use Rattle.std.proofs.Common.{◌≡◌, ℕ, zero, suc, true, List, [], ◌∷◌, take, Option, Some, None, Ok, sym, ◌∙◌, subst}
-use Rattle.lb_core.specs.declared.entry.Entry.{Entry}
+-- Where the work of `step` is done, what was written is the text of the trace's one serial history, and where
+-- that of `run` is, the text of a history of the trace.
+use Rattle.std.proofs.Common.{◌≡◌, ℕ, List, Option, Some, None, Ok, sym, ◌∙◌, subst}
+use Rattle.std.specs.Prelude.{IfSome}
 use Rattle.lb_core.specs.declared.history.History.{History}
-use Rattle.lb_core.specs.Machine.{MachineState, start}
-use Rattle.lb_core.specs.Ranges.{entries_fit}
-use Rattle.lb_core.specs.Step.{after}
-use Rattle.lb_core.specs.Legal.{MayFollow, IsLegalFront, IsLegalHistory}
-use Rattle.lb_core.specs.Placed.{PlacedAlways}
-use Rattle.lb_core.specs.Permitted.{PermittedAlways}
-use Rattle.lb_core.specs.Replies.{RepliesAlways}
-use Rattle.lb_core.specs.Passes.{PassesAlways}
-use Rattle.lb_trace.specs.declared.trace.Header.{Header}
+use Rattle.lb_core.specs.Serial.{OneSerialHistory}
 use Rattle.lb_trace.specs.declared.trace.Trace.{Trace}
-use Rattle.lb_trace.specs.Accepted.{IsTrace, IsHeader}
 use Rattle.lb_trace.specs.Grammar.{reading_of}
-use Rattle.lb_core.specs.Serial.{IsSerialHistory, OneSerialHistory}
-use Rattle.lb_ready.specs.Laws.{EntriesFit}
 use Rattle.lb_record.specs.History.{text_of}
-use Rattle.lb_read.specs.Laws.{ReadOnce, HeadersReadBack, ReadBack}
-use Rattle.lb_read.specs.Whole.{IsDeclared, ReadsAs}
-use Rattle.lb_read.specs.Written.{as_read}
 use Rattle.lb_words.specs.declared.work.Work.{Work}
-use Rattle.lb_words.specs.declared.work.Work.TheVariants.{Step, Topo, Check, Gen, Sum}
-use Rattle.lb_words.specs.Words.{work_of}
+use Rattle.lb_words.specs.declared.work.Work.TheVariants.{Step, Run}
 use Rattle.lb.specs.declared.status.Status.{Status}
 use Rattle.lb.specs.declared.status.Status.TheVariants as status
-use Rattle.std.specs.Prelude.{IfSome}
 use Rattle.lb.specs.Invocation.{Stream, Invocation, Took}
 use Rattle.lb.specs.Works.{IsDone, HasOutput}
 use Rattle.lb.specs.Answers.{Answers}
-use Rattle.lb.specs.Headline.{IsTheHistory, Headline}
+use Rattle.lb.specs.Headline.{HistoriesAreSound, IsSoundHistory, IsTheHistory, Headline, HeadlineOfRun}
 
--- the laws that the headline stands on
-pub record Laws : Type 0 where
-  pub accepted : (text : List ℕ) (t : Trace) → reading_of text ≡ Ok t → IsTrace t
-  pub placed : PlacedAlways
-  pub permitted : PermittedAlways
-  pub replies : RepliesAlways
-  pub passes : PassesAlways
-  pub one : OneSerialHistory
-  pub fit : EntriesFit
-  pub declared : HeadersReadBack
-  pub back : ReadBack
-  pub once : ReadOnce
+-- ---- what was written for a text
+abbrev IsWritten : (Trace → History → Type 0) → Stream → List ℕ → Type 0
+IsWritten P out text = (t : Trace) × (reading_of text ≡ Ok t) × ((h : History) × P t h × Took out (text_of h))
 
-front_taken : (n : ℕ) (es : List Entry) (m : MachineState) → MayFollow es m → MayFollow (take n es) m
-front_taken zero es m legal = tt
-front_taken (suc n) [] m legal = tt
-front_taken (suc n) (e ∷ es) m legal = (legal.0, front_taken n es (after m e) legal.1)
+-- the work of this kind writes such a history of its trace
+abbrev Writes : (Trace → History → Type 0) → Work → Type 0
+Writes P work = (out : Stream) (output text : List ℕ) → Took out output → IsDone work text output → IsWritten P out text
 
-the_history : Laws → (text : List ℕ) (t : Trace) (h : History) → reading_of text ≡ Ok t → IsSerialHistory t h → IsTheHistory t h
-the_history law text t h is s =
-    let given : IsTrace t = law.accepted text t is in
-    let header : IsHeader h.header = subst (λ (x : Header). IsHeader x) (sym s.of_trace.header) given.header in
-    let front : (n : ℕ) → IsLegalFront h.header (take n h.entries) = λ n. front_taken n h.entries (start h.header) s.of_trace.legal.0 in
-    let declared : IsDeclared h.header = subst (λ (x : Header). IsDeclared x) (sym s.of_trace.header) (law.declared text t is) in
-    let fit : entries_fit h.entries ≡ true = law.fit t h given s.of_trace in
-    let reads : ReadsAs (text_of h) (as_read h) = law.back h (record { header = declared; entries = fit }) in
-    record {
-      history = s.of_trace;
-      in_range = fit;
-      serial = s;
-      alone = λ other k. law.one t other h k s;
-      replied = λ before later e is. law.replies h.header before later e (subst (λ (es : List Entry). IsLegalHistory h.header es) is s.of_trace.legal);
-      placed = λ n. law.placed h.header (take n h.entries) header (front n);
-      permitted = λ n. law.permitted h.header (take n h.entries) header (front n);
-      passes = λ before later e is. law.passes h.header before later e (subst (λ (es : List Entry). IsLegalFront h.header es) is s.of_trace.legal.0);
-      reads = reads;
-      only = λ read other. law.once (text_of h) read (as_read h) other reads;
-    }
+step_writes : HistoriesAreSound → OneSerialHistory → Writes IsTheHistory Step
+step_writes sound one out output text took (end, (t, is, (h, serial, same))) =
+    let the : IsTheHistory t h = record {
+      serial = serial;
+      alone = λ other k. one t other h k serial;
+      sound = sound text t h is serial.of_trace;
+    } in
+    (t, is, (h, the, subst (λ (bytes : List ℕ). Took out bytes) same took))
 
--- ---- the headline
-abbrev IsWritten : Stream → List ℕ → Type 0
-IsWritten out text = (t : Trace) × (reading_of text ≡ Ok t) × ((h : History) × IsTheHistory t h × Took out (text_of h))
+run_writes : HistoriesAreSound → Writes IsSoundHistory Run
+run_writes sound out output text took (end, (t, is, (h, of_trace, same))) =
+    (t, is, (h, sound text t h is of_trace, subst (λ (bytes : List ℕ). Took out bytes) same took))
 
-written : Laws → (out : Stream) (output text : List ℕ) → Took out output → IsDone Step text output → IsWritten out text
-written law out output text took (end, (t, is, (h, serial, same))) =
-    (t, is, (h, the_history law text t h is serial, subst (λ (bytes : List ℕ). Took out bytes) same took))
+-- ---- where the status is Done
+of_source : (P : Trace → History → Type 0) (work : Work) → Writes P work
+    → (before : Option (List ℕ)) (out : Stream) (output : List ℕ)
+    → Took out output → IfSome before (λ text. IsDone work text output) → IfSome before (IsWritten P out)
+of_source P work writes None out output took h = tt
+of_source P work writes (Some text) out output took h = writes out output text took h
 
-of_source : Laws → (before : Option (List ℕ)) (out : Stream) (output : List ℕ) → Took out output
-    → IfSome before (λ text. IsDone Step text output) → IfSome before (IsWritten out)
-of_source law None out output took h = tt
-of_source law (Some text) out output took h = written law out output text took h
+abbrev IsDoneBy : Invocation → Work → Type 0
+IsDoneBy c work = (output : List ℕ) × HasOutput work c.source output × Took c.out output
 
-step_done : Laws → (c : Invocation) (work : Work) (output : List ℕ) → work ≡ Step → HasOutput work c.source output → Took c.out output → Headline c
-step_done law c Step output is h took = (h.0, of_source law c.source.before c.out output took h.1)
-step_done law c Topo output is h took = absurd (cc)
-step_done law c Check output is h took = absurd (cc)
-step_done law c (Gen number rows) output is h took = absurd (cc)
-step_done law c (Sum number rows) output is h took = absurd (cc)
+-- the work that was asked for was done, and written whole
+done_by : (s : Status) (c : Invocation) (error : Stream) (work : Work)
+    → Answers s c error → s ≡ status.Done → c.work ≡ Some work → IsDoneBy c work
+done_by status.Done c error work w is asked =
+    let same : Some w.0.1.0 ≡ Some work = sym w.0.1.1 ∙ asked in
+    let one : w.0.1.0 ≡ work = cc in
+    (w.0.0, subst (λ (x : Work). HasOutput x c.source w.0.0) one w.0.1.2, w.0.2)
+done_by status.ReadFault c error work w is asked = absurd (cc)
+done_by status.Usage c error work w is asked = absurd (cc)
+done_by (status.Refused line code) c error work w is asked = absurd (cc)
+done_by status.WriteFault c error work w is asked = absurd (cc)
+done_by status.NoMemory c error work w is asked = absurd (cc)
+done_by (status.Illegal ticket rule) c error work w is asked = absurd (cc)
 
-pub headlined : Laws → (s : Status) (c : Invocation) (error : Stream) → Answers s c error → s ≡ status.Done → work_of c.words ≡ Some Step → Headline c
-headlined law status.Done c error w is step =
-    let same : Some w.0.1.0 ≡ Some Step = sym w.0.1.1 ∙ step in
-    step_done law c w.0.1.0 w.0.0 (cc) w.0.1.2 w.0.2
-headlined law status.ReadFault c error w is step = absurd (cc)
-headlined law status.Usage c error w is step = absurd (cc)
-headlined law (status.Refused line code) c error w is step = absurd (cc)
-headlined law status.WriteFault c error w is step = absurd (cc)
-headlined law status.NoMemory c error w is step = absurd (cc)
-headlined law (status.Illegal ticket rule) c error w is step = absurd (cc)
+pub of_step : HistoriesAreSound → OneSerialHistory → (s : Status) (c : Invocation) (error : Stream)
+    → Answers s c error → s ≡ status.Done → c.work ≡ Some Step → Headline c
+of_step sound one s c error w is asked =
+    let done : IsDoneBy c Step = done_by s c error Step w is asked in
+    (done.1.0, of_source IsTheHistory Step (step_writes sound one) c.source.before c.out done.0 done.2 done.1.1)
+
+pub of_run : HistoriesAreSound → (s : Status) (c : Invocation) (error : Stream)
+    → Answers s c error → s ≡ status.Done → c.work ≡ Some Run → HeadlineOfRun c
+of_run sound s c error w is asked =
+    let done : IsDoneBy c Run = done_by s c error Run w is asked in
+    (done.1.0, of_source IsSoundHistory Run (run_writes sound) c.source.before c.out done.0 done.2 done.1.1)
+
+-- where no work is asked for, none is done
+pub none_done : (s : Status) (c : Invocation) (error : Stream) → Answers s c error → c.work ≡ None → s ≡ status.Done → ⊥
+none_done status.Done c error w none is = let asked : c.work ≡ Some w.0.1.0 = w.0.1.1 in cc
+none_done status.ReadFault c error w none is = cc
+none_done status.Usage c error w none is = cc
+none_done (status.Refused line code) c error w none is = cc
+none_done status.WriteFault c error w none is = cc
+none_done status.NoMemory c error w none is = cc
+none_done (status.Illegal ticket rule) c error w none is = cc

@@ -9,7 +9,7 @@ use Rattle.lb_trace.specs.declared.trace.TheConstants.{MAX_BYTES}
 use Rattle.lb_trace.specs.declared.trace.Code.TheVariants.{TooLong}
 use Rattle.lb_trace.specs.Grammar.{reading_of}
 use Rattle.lb_words.specs.declared.work.Work.{Work}
-use Rattle.lb_words.specs.declared.work.Work.TheVariants.{Step, Topo, Check, Gen, Sum}
+use Rattle.lb_words.specs.declared.work.Work.TheVariants.{Step, Run, Topo, Check, Gen, Sum}
 use Rattle.lb.specs.declared.status.Status.{Status}
 use Rattle.lb.specs.declared.status.Status.TheVariants as status
 use Rattle.lb.specs.Invocation.{Stream, HadFault}
@@ -24,6 +24,7 @@ long_trace text long = let no : leb (length text) MAX_BYTES ≡ false = lt-leb (
 
 too_long : (work : Work) (input : List ℕ) → reads work ≡ true → limit work < length input → IsStatusOf work input (status.Refused 0 TooLong)
 too_long Step input read long = sym (ap status_of_reading (long_trace input long))
+too_long Run input read long = sym (ap status_of_reading (long_trace input long))
 too_long Topo input read long = sym (ap status_of_reading (long_trace input long))
 too_long Check input read long = inl (long, refl)
 too_long (Gen number rows) input read long = absurd (cc)
@@ -32,6 +33,7 @@ too_long (Sum number rows) input read long = absurd (cc)
 -- what holds of what the source told holds of the input of a work that reads it
 of_told : (work : Work) (source : Stream) (P : List ℕ → Type 0) → reads work ≡ true → IfSome source.before P → OfInput work source P
 of_told Step source P read h = h
+of_told Run source P read h = h
 of_told Topo source P read h = h
 of_told Check source P read h = h
 of_told (Gen number rows) source P read h = absurd (cc)

@@ -1,11 +1,11 @@
--- What each status of the program says of its words, its source and its sinks: what was read and written,
--- and what was told to the error sink.
+-- Definitions: what each status of the program says of its work, its source and its sinks, that is what was
+-- read and written, and what was told to the error sink.
 use Rattle.std.specs.Prelude.{◌≡◌, ◌⊎◌, ℕ, List, [], ◌∷◌, ◌++◌, codes, Some, None}
+use Rattle.std.specs.declared.option.Option.{Option}
 use Rattle.std.specs.Fmt.{decimal}
 use Rattle.lb_trace.specs.Codes.{code_word}
 use Rattle.lb_core.specs.Names.{name_of}
 use Rattle.lb_words.specs.declared.work.Work.{Work}
-use Rattle.lb_words.specs.Words.{work_of}
 use Rattle.lb.specs.declared.status.Status.{Status}
 use Rattle.lb.specs.declared.status.Status.TheVariants as status
 use Rattle.lb.specs.Invocation.{Stream, Invocation, IsUntouched, HadFault, HadNoFault, Took, TookPrefix}
@@ -33,25 +33,25 @@ status_text status.NoMemory = codes "lb: no memory\n"
 status_text (status.Illegal ticket rule) = codes "lb: ticket " ++ (decimal ticket ++ (codes ": " ++ (name_of rule ++ 10 ∷ [])))
 
 -- ---- the work
--- the words ask for a work, and P holds of it
-abbrev pub OfWork : List (List ℕ) → (Work → Type 0) → Type 0
-OfWork words P = (work : Work) × (work_of words ≡ Some work) × P work
+-- a work is asked for, and P holds of it
+abbrev pub OfWork : Option Work → (Work → Type 0) → Type 0
+OfWork asked P = (work : Work) × (asked ≡ Some work) × P work
 
--- the words are no command, or their work fails with this status before anything could be written
-abbrev pub FailsCall : Status → Invocation → Type 0
-FailsCall status.Usage c = (work_of c.words ≡ None) × IsUntouched c.source
-FailsCall status.NoMemory c = Unit {0}
-FailsCall end c = OfWork c.words (λ work. Fails work c.source end)
+-- no work is asked for, or it fails with this status before anything could be written
+abbrev pub FailsCall : Status → Option Work → Stream → Type 0
+FailsCall status.Usage asked source = (asked ≡ None) × IsUntouched source
+FailsCall status.NoMemory asked source = Unit {0}
+FailsCall end asked source = OfWork asked (λ work. Fails work source end)
 
--- the work of the words is done, and has this to write
-abbrev pub WorkHas : Invocation → List ℕ → Type 0
-WorkHas c output = OfWork c.words (λ work. HasOutput work c.source output)
+-- the work that is asked for is done, and has this to write
+abbrev pub WorkHas : Option Work → Stream → List ℕ → Type 0
+WorkHas asked source output = OfWork asked (λ work. HasOutput work source output)
 
 -- what a status says before it is reported
 abbrev pub Says : Status → Invocation → Type 0
-Says status.Done c = (output : List ℕ) × WorkHas c output × Took c.out output × HadNoFault c.out
-Says status.WriteFault c = HadFault c.out × ((output : List ℕ) × WorkHas c output × TookPrefix c.out output)
-Says end c = FailsCall end c × IsUntouched c.out
+Says status.Done c = (output : List ℕ) × WorkHas c.work c.source output × Took c.out output × HadNoFault c.out
+Says status.WriteFault c = HadFault c.out × ((output : List ℕ) × WorkHas c.work c.source output × TookPrefix c.out output)
+Says end c = FailsCall end c.work c.source × IsUntouched c.out
 
 -- the status stands before anything is written to the out sink
 abbrev pub IsBeforeWriting : Status → Type 0
@@ -88,6 +88,6 @@ Answers s c error = Says s c × Told s error
 abbrev pub Completes : Status → Invocation → Stream → Type 0
 Completes s c error =
     (work : Work) (input : List ℕ) (end : Status)
-    → work_of c.words ≡ Some work → IsInput work c.source input → IsStatusOf work input end
+    → c.work ≡ Some work → IsInput work c.source input → IsStatusOf work input end
     → (HadFault c.source → ⊥) → (HadFault c.out → ⊥) → (HadFault error → ⊥)
     → (s ≡ end) ⊎ (s ≡ status.NoMemory)

@@ -1,11 +1,12 @@
--- What a call of the program found and left: its words, and of its source and its `out` sink the bytes that they
--- hold, where they tell them, and their counts of faults, before and after the call. Clauses name the `err` sink
--- beside it.
+-- What a call of the program found and left: the work that it was to do, and of its source and its `out` sink the
+-- bytes that they hold, where they tell them, and their counts of faults, before and after the call. Clauses name
+-- the `err` sink beside it.
 use Rattle.std.specs.Prelude.{◌≡◌, ℕ, List}
 use Rattle.std.specs.declared.option.Option.{Option}
 use Rattle.std.specs.Io.KnownBytes.{Appends}
 use Rattle.lb_io.specs.Faults.{Rose}
 use Rattle.lb_io.specs.Moved.{AppendsPrefix}
+use Rattle.lb_words.specs.declared.work.Work.{Work}
 
 -- ---- a source or a sink
 pub record Stream : Type 0 where
@@ -35,11 +36,12 @@ abbrev pub TookPrefix : Stream → List ℕ → Type 0
 TookPrefix s bytes = AppendsPrefix s.before s.after bytes
 
 -- ---- a call
--- the words of a call, what its source had left, and what its out sink took
+-- the work of a call, or None where its words ask for none that it does; what its source had left, and what its
+-- out sink took
 pub record Invocation : Type 0 where
-  pub words : List (List ℕ)
+  pub work : Option Work
   pub source : Stream
   pub out : Stream
 
-abbrev pub invocation_of : List (List ℕ) → Stream → Stream → Invocation
-invocation_of words source out = record { words = words; source = source; out = out }
+abbrev pub invocation_of : Option Work → Stream → Stream → Invocation
+invocation_of work source out = record { work = work; source = source; out = out }

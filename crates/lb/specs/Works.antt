@@ -1,6 +1,6 @@
 -- What each work does with its input: its status, where that could be read and there is memory, and what
--- it writes where it is done. `step` and `topo` read a trace, `check` reads a history, and `gen` and `sum`
--- read nothing.
+-- it writes where it is done. `step`, `run` and `topo` read a trace, `check` reads a history, and `gen` and
+-- `sum` read nothing.
 use Rattle.std.specs.Prelude.{◌≡◌, ◌⊎◌, ℕ, ◌<◌, ◌≤◌, Bool, true, false, List, [], ◌∷◌, ◌++◌, length, codes, Result, Ok, Err, Option, Some, None, IfSome}
 use Rattle.std.specs.Io.KnownBytes.{IsAtEnd}
 use Rattle.std.specs.Fmt.{decimal}
@@ -10,6 +10,7 @@ use Rattle.lb_trace.specs.declared.trace.Code.TheVariants.{TooLong, BadLine}
 use Rattle.lb_trace.specs.declared.trace.Trace.{Trace}
 use Rattle.lb_trace.specs.Grammar.{reading_of}
 use Rattle.lb_core.specs.declared.history.History.{History}
+use Rattle.lb_core.specs.OfTrace.{IsHistoryOf}
 use Rattle.lb_core.specs.Serial.{IsSerialHistory}
 use Rattle.lb_record.specs.declared.history.TheConstants.{MAX_HISTORY_BYTES}
 use Rattle.lb_record.specs.History.{text_of}
@@ -25,10 +26,17 @@ use Rattle.lb_generator.specs.Generator.{trace_drawn}
 use Rattle.lb_generator.specs.Text.{text_drawn}
 use Rattle.lb_summary.specs.Text.{summary_text}
 use Rattle.lb_words.specs.declared.work.Work.{Work}
-use Rattle.lb_words.specs.declared.work.Work.TheVariants.{Step, Topo, Check, Gen, Sum}
+use Rattle.lb_words.specs.declared.work.Work.TheVariants.{Step, Run, Topo, Check, Gen, Sum}
 use Rattle.lb.specs.declared.status.Status.{Status}
 use Rattle.lb.specs.declared.status.Status.TheVariants as status
 use Rattle.lb.specs.Invocation.{Stream, IsUntouched, HadFault}
+
+-- ---- who does a work
+-- the work that is asked for, where one thread does it: the lanes of `run` wait for one another
+abbrev pub on_one_thread : Option Work → Option Work
+on_one_thread None = None
+on_one_thread (Some Run) = None
+on_one_thread (Some work) = Some work
 
 -- ---- what a work reads
 -- the work reads its source
@@ -97,6 +105,7 @@ IsStatusOfHistory input end =
 
 abbrev pub IsStatusOf : Work → List ℕ → Status → Type 0
 IsStatusOf Step input end = end ≡ status_of_reading (reading_of input)
+IsStatusOf Run input end = end ≡ status_of_reading (reading_of input)
 IsStatusOf Topo input end = end ≡ status_of_reading (reading_of input)
 IsStatusOf Check input end = IsStatusOfHistory input end
 IsStatusOf (Gen number rows) input end = end ≡ status.Done
@@ -123,6 +132,10 @@ legal_text entries = codes "legal " ++ (decimal entries ++ 10 ∷ [])
 abbrev pub IsSerialText : Trace → List ℕ → Type 0
 IsSerialText t text = (h : History) × IsSerialHistory t h × (text ≡ text_of h)
 
+-- the text of a legal history of a trace, whichever its lanes made
+abbrev pub IsHistoryText : Trace → List ℕ → Type 0
+IsHistoryText t text = (h : History) × IsHistoryOf t h × (text ≡ text_of h)
+
 -- the summary of the serial history of a trace
 abbrev pub IsSummary : Trace → List ℕ → Type 0
 IsSummary t text = (h : History) × IsSerialHistory t h × (text ≡ summary_text h)
@@ -130,6 +143,7 @@ IsSummary t text = (h : History) × IsSerialHistory t h × (text ≡ summary_tex
 -- what the work writes for its input, where it is done
 abbrev pub IsOutput : Work → List ℕ → List ℕ → Type 0
 IsOutput Step input output = (t : Trace) × (reading_of input ≡ Ok t) × IsSerialText t output
+IsOutput Run input output = (t : Trace) × (reading_of input ≡ Ok t) × IsHistoryText t output
 IsOutput Topo input output = (t : Trace) × (reading_of input ≡ Ok t) × (output ≡ topology_text t)
 IsOutput Check input output = (read : Read) × ReadsAs input read × (output ≡ legal_text (length read.entries))
 IsOutput (Gen number rows) input output = output ≡ text_drawn number rows

@@ -3,10 +3,14 @@
 
 ghost use Rattle.std.specs.Prelude.{◌≡◌, ◌⊎◌, IfErr};
 
+mod laws;
 mod once;
+mod reading;
+mod run;
 mod status;
 mod top;
 mod works;
+mod writing;
 
 use lb_io::{OpenGate, ReadSource, WriteSink};
 use status::{Status, report};

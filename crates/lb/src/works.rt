@@ -1,11 +1,11 @@
-//! What each work makes of its input, before anything is written.
+//! What each work that one thread does makes of its input, before anything is written.
 ghost use Rattle.std.specs.Prelude.{◌≡◌, ◌⊎◌, ◌≤◌, length, true, IfOk, IfErr, Ok};
 ghost use Rattle.lb_trace.specs.Accepted.{IsTrace};
 ghost use Rattle.lb_trace.specs.Grammar.{reading_of};
 ghost use Rattle.lb_read.specs.Whole.{ReadsAs};
 ghost use Rattle.lb_record.specs.declared.history.TheConstants.{MAX_HISTORY_BYTES};
 ghost use Rattle.lb_words.specs.declared.work.Work.{Work};
-ghost use Rattle.lb_words.specs.declared.work.Work.TheVariants.{Step};
+ghost use Rattle.lb_words.specs.declared.work.Work.TheVariants.{Run};
 ghost use Rattle.lb_words.specs.Words.{IsInRange};
 ghost use Rattle.lb_generator.specs.Generator.{trace_drawn};
 ghost use Rattle.lb.specs.declared.status.Status.TheVariants as status;
@@ -63,8 +63,8 @@ fn legal_text(alloc: Global, entries: u64) -> Result<Vec<u8>, NoMemory>
     Ok(text)
 }
 
-// The trace that an input is.
-fn trace_in(alloc: Global, input: Vec<u8>) -> Result<Trace, Status>
+/// The trace that an input is.
+pub fn trace_in(alloc: Global, input: Vec<u8>) -> Result<Trace, Status>
     ensures read { IfOk result (λ trace. reading_of input.items ≡ Ok trace) }
     ensures accepted { IfOk result (λ trace. IsTrace trace) }
     ensures failed { IfErr result (λ end.
@@ -108,16 +108,18 @@ fn drawn_summary(alloc: Global, number: u32, rows: u32) -> Result<Vec<u8>, NoMem
     }
 }
 
-/// What a work writes for its input; or the status that says what is wrong with the input, or that memory
+/// What a work that one thread does writes for its input; or the status that says what is wrong with the input, or that memory
 /// ran out.
 pub fn text_for(alloc: Global, work: Work, input: Vec<u8>) -> Result<Vec<u8>, Status>
     requires in_range { IsInRange work }
+    requires alone { work ≡ Run → ⊥ }
     requires short { length input.items ≤ limit work }
     ensures done { IfOk result (λ output. IsDone work input.items output.items) }
     ensures failed { IfErr result (λ end. (end ≡ status.NoMemory) ⊎ (NamesFault end × IsStatusOf work input.items end)) }
 {
     let output = match work {
         Work::Step => serial_text(alloc, &trace_in(alloc, input)?)?,
+        Work::Run => unreachable!(),
         Work::Topo => topology_text(alloc, &trace_in(alloc, input)?)?,
         Work::Check => judged_text(alloc, input)?,
         Work::Gen { number, rows } => generate(alloc, number, rows)?,

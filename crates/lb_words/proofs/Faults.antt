@@ -73,7 +73,15 @@ under_step rest =
       stopped_fault (built lb_app).top (names_of (built lb_app)) (walk_from nothing_held) (codes "step", []) rest,
     ) (or_nil _)
 
-under_topo : (rest : List Text) → fault_of lb_app (codes "topo" ∷ rest) ≡ leaf_fault 1 rest
+under_run : (rest : List Text) → fault_of lb_app (codes "run" ∷ rest) ≡ leaf_fault 1 rest
+unfolding clap_on_literals
+under_run rest =
+    rw (
+      walk_stopped (built lb_app).top.rules (names_of (built lb_app)) (walk_from nothing_held) (codes "run") [] rest,
+      stopped_fault (built lb_app).top (names_of (built lb_app)) (walk_from nothing_held) (codes "run", []) rest,
+    ) (or_nil _)
+
+under_topo : (rest : List Text) → fault_of lb_app (codes "topo" ∷ rest) ≡ leaf_fault 2 rest
 unfolding clap_on_literals
 under_topo rest =
     rw (
@@ -81,7 +89,7 @@ under_topo rest =
       stopped_fault (built lb_app).top (names_of (built lb_app)) (walk_from nothing_held) (codes "topo", []) rest,
     ) (or_nil _)
 
-under_check : (rest : List Text) → fault_of lb_app (codes "check" ∷ rest) ≡ leaf_fault 2 rest
+under_check : (rest : List Text) → fault_of lb_app (codes "check" ∷ rest) ≡ leaf_fault 3 rest
 unfolding clap_on_literals
 under_check rest =
     rw (
@@ -89,7 +97,7 @@ under_check rest =
       stopped_fault (built lb_app).top (names_of (built lb_app)) (walk_from nothing_held) (codes "check", []) rest,
     ) (or_nil _)
 
-under_gen : (rest : List Text) → fault_of lb_app (codes "gen" ∷ rest) ≡ leaf_fault 3 rest
+under_gen : (rest : List Text) → fault_of lb_app (codes "gen" ∷ rest) ≡ leaf_fault 4 rest
 unfolding clap_on_literals
 under_gen rest =
     rw (
@@ -97,7 +105,7 @@ under_gen rest =
       stopped_fault (built lb_app).top (names_of (built lb_app)) (walk_from nothing_held) (codes "gen", []) rest,
     ) (or_nil _)
 
-under_sum : (rest : List Text) → fault_of lb_app (codes "sum" ∷ rest) ≡ leaf_fault 4 rest
+under_sum : (rest : List Text) → fault_of lb_app (codes "sum" ∷ rest) ≡ leaf_fault 5 rest
 unfolding clap_on_literals
 under_sum rest =
     rw (
@@ -110,39 +118,43 @@ step_more : (x : Text) (xs : List Text) → is_dashed x ≡ false → leaf_fault
 unfolding clap_on_literals
 step_more x xs e = rw (no_end x e, no_long x e, no_short x e) refl
 
-topo_more : (x : Text) (xs : List Text) → is_dashed x ≡ false → leaf_fault 1 (x ∷ xs) ≡ kind.UnknownArgument ∷ []
+run_more : (x : Text) (xs : List Text) → is_dashed x ≡ false → leaf_fault 1 (x ∷ xs) ≡ kind.UnknownArgument ∷ []
+unfolding clap_on_literals
+run_more x xs e = rw (no_end x e, no_long x e, no_short x e) refl
+
+topo_more : (x : Text) (xs : List Text) → is_dashed x ≡ false → leaf_fault 2 (x ∷ xs) ≡ kind.UnknownArgument ∷ []
 unfolding clap_on_literals
 topo_more x xs e = rw (no_end x e, no_long x e, no_short x e) refl
 
-check_more : (x : Text) (xs : List Text) → is_dashed x ≡ false → leaf_fault 2 (x ∷ xs) ≡ kind.UnknownArgument ∷ []
+check_more : (x : Text) (xs : List Text) → is_dashed x ≡ false → leaf_fault 3 (x ∷ xs) ≡ kind.UnknownArgument ∷ []
 unfolding clap_on_literals
 check_more x xs e = rw (no_end x e, no_long x e, no_short x e) refl
 
 -- ---- a command with two values
-gen_one : (a : Text) → is_dashed a ≡ false → leaf_fault 3 (a ∷ []) ≡ kind.MissingRequiredArgument ∷ []
+gen_one : (a : Text) → is_dashed a ≡ false → leaf_fault 4 (a ∷ []) ≡ kind.MissingRequiredArgument ∷ []
 unfolding clap_on_literals
 gen_one a e = rw (no_end a e, no_long a e, no_short a e) refl
 
-gen_two : (a b : Text) → is_dashed a ≡ false → is_dashed b ≡ false → leaf_fault 3 (a ∷ b ∷ []) ≡ []
+gen_two : (a b : Text) → is_dashed a ≡ false → is_dashed b ≡ false → leaf_fault 4 (a ∷ b ∷ []) ≡ []
 unfolding clap_on_literals
 gen_two a b e f = rw (no_end a e, no_long a e, no_short a e, no_end b f, no_long b f, no_short b f) refl
 
 gen_more : (a b x : Text) (xs : List Text) → is_dashed a ≡ false → is_dashed b ≡ false → is_dashed x ≡ false
-    → leaf_fault 3 (a ∷ b ∷ x ∷ xs) ≡ kind.UnknownArgument ∷ []
+    → leaf_fault 4 (a ∷ b ∷ x ∷ xs) ≡ kind.UnknownArgument ∷ []
 unfolding clap_on_literals
 gen_more a b x xs e f g =
     rw (no_end a e, no_long a e, no_short a e, no_end b f, no_long b f, no_short b f, no_end x g, no_long x g, no_short x g) refl
 
-sum_one : (a : Text) → is_dashed a ≡ false → leaf_fault 4 (a ∷ []) ≡ kind.MissingRequiredArgument ∷ []
+sum_one : (a : Text) → is_dashed a ≡ false → leaf_fault 5 (a ∷ []) ≡ kind.MissingRequiredArgument ∷ []
 unfolding clap_on_literals
 sum_one a e = rw (no_end a e, no_long a e, no_short a e) refl
 
-sum_two : (a b : Text) → is_dashed a ≡ false → is_dashed b ≡ false → leaf_fault 4 (a ∷ b ∷ []) ≡ []
+sum_two : (a b : Text) → is_dashed a ≡ false → is_dashed b ≡ false → leaf_fault 5 (a ∷ b ∷ []) ≡ []
 unfolding clap_on_literals
 sum_two a b e f = rw (no_end a e, no_long a e, no_short a e, no_end b f, no_long b f, no_short b f) refl
 
 sum_more : (a b x : Text) (xs : List Text) → is_dashed a ≡ false → is_dashed b ≡ false → is_dashed x ≡ false
-    → leaf_fault 4 (a ∷ b ∷ x ∷ xs) ≡ kind.UnknownArgument ∷ []
+    → leaf_fault 5 (a ∷ b ∷ x ∷ xs) ≡ kind.UnknownArgument ∷ []
 unfolding clap_on_literals
 sum_more a b x xs e f g =
     rw (no_end a e, no_long a e, no_short a e, no_end b f, no_long b f, no_short b f, no_end x g, no_long x g, no_short x g) refl
@@ -153,11 +165,11 @@ unfolding clap_on_literals
 none_asked = refl
 
 pub unknown : (w : Text) (rest : List Text) → is_dashed w ≡ false
-    → bytes_eq (codes "step") w ≡ false → bytes_eq (codes "topo") w ≡ false → bytes_eq (codes "check") w ≡ false
-    → bytes_eq (codes "gen") w ≡ false → bytes_eq (codes "sum") w ≡ false
+    → bytes_eq (codes "step") w ≡ false → bytes_eq (codes "run") w ≡ false → bytes_eq (codes "topo") w ≡ false
+    → bytes_eq (codes "check") w ≡ false → bytes_eq (codes "gen") w ≡ false → bytes_eq (codes "sum") w ≡ false
     → fault_of lb_app (w ∷ rest) ≡ kind.UnknownArgument ∷ kind.InvalidSubcommand ∷ []
 unfolding clap_on_literals
-unknown w rest e step topo check gen sum = rw (step, topo, check, gen, sum, no_end w e, no_long w e, no_short w e) refl
+unknown w rest e step run topo check gen sum = rw (step, run, topo, check, gen, sum, no_end w e, no_long w e, no_short w e) refl
 
 -- ---- together: what the parser finds wrong, by the number of words
 -- a command of this word takes nothing after it
@@ -178,6 +190,13 @@ unfolding clap_on_literals
 step_alone = record {
   alone = refl;
   more = λ x xs e. under_step (x ∷ xs) ∙ step_more x xs e;
+}
+
+pub run_alone : StandsAlone (codes "run")
+unfolding clap_on_literals
+run_alone = record {
+  alone = refl;
+  more = λ x xs e. under_run (x ∷ xs) ∙ run_more x xs e;
 }
 
 pub topo_alone : StandsAlone (codes "topo")

@@ -13,7 +13,7 @@ use Rattle.lb_text.specs.Numbers.{number_of, number_within}
 use Rattle.lb_words.specs.declared.work.Work.{Work}
 use Rattle.lb_words.specs.Words.{generated, work_named, work_of}
 use Rattle.lb_words.specs.Parser.{is_special, lb_app, work_found, work_read}
-use Rattle.lb_words.proofs.Faults.{is_dashed, no_end, no_long, no_short, none_asked, unknown, StandsAlone, TakesTwo, step_alone, topo_alone, check_alone, gen_two_values, sum_two_values}
+use Rattle.lb_words.proofs.Faults.{is_dashed, no_end, no_long, no_short, none_asked, unknown, StandsAlone, TakesTwo, step_alone, run_alone, topo_alone, check_alone, gen_two_values, sum_two_values}
 
 -- ---- tests of words
 same_words : (a b : Text) → bytes_eq a b ≡ true → a ≡ b
@@ -117,6 +117,10 @@ step_found : work_found (subcommand_of lb_app (codes "step" ∷ [])) ≡ work_na
 unfolding clap_on_literals work_found work_read
 step_found = refl
 
+run_found : work_found (subcommand_of lb_app (codes "run" ∷ [])) ≡ work_named (codes "run")
+unfolding clap_on_literals work_found work_read
+run_found = refl
+
 topo_found : work_found (subcommand_of lb_app (codes "topo" ∷ [])) ≡ work_named (codes "topo")
 unfolding clap_on_literals work_found work_read
 topo_found = refl
@@ -127,22 +131,22 @@ check_found = refl
 
 -- words of which the first is no command
 no_command : (w : Text) (rest : List Text)
-    → bytes_eq w (codes "step") ≡ false → bytes_eq w (codes "topo") ≡ false → bytes_eq w (codes "check") ≡ false
-    → bytes_eq w (codes "gen") ≡ false → bytes_eq w (codes "sum") ≡ false → work_of (w ∷ rest) ≡ None
+    → bytes_eq w (codes "step") ≡ false → bytes_eq w (codes "run") ≡ false → bytes_eq w (codes "topo") ≡ false
+    → bytes_eq w (codes "check") ≡ false → bytes_eq w (codes "gen") ≡ false → bytes_eq w (codes "sum") ≡ false → work_of (w ∷ rest) ≡ None
 unfolding work_of
-no_command w [] step topo check gen sum = rw (step, topo, check) refl
-no_command w (x ∷ []) step topo check gen sum = refl
-no_command w (x ∷ y ∷ []) step topo check gen sum = none_with_two w x y (λ n r. rw (gen, sum) refl)
-no_command w (x ∷ y ∷ z ∷ more) step topo check gen sum = refl
+no_command w [] step run topo check gen sum = rw (step, run, topo, check) refl
+no_command w (x ∷ []) step run topo check gen sum = refl
+no_command w (x ∷ y ∷ []) step run topo check gen sum = none_with_two w x y (λ n r. rw (gen, sum) refl)
+no_command w (x ∷ y ∷ z ∷ more) step run topo check gen sum = refl
 
 other : (w : Text) (rest : List Text) → is_dashed w ≡ false
-    → bytes_eq w (codes "step") ≡ false → bytes_eq w (codes "topo") ≡ false → bytes_eq w (codes "check") ≡ false
-    → bytes_eq w (codes "gen") ≡ false → bytes_eq w (codes "sum") ≡ false → Verdict (w ∷ rest)
-other w rest e step topo check gen sum =
+    → bytes_eq w (codes "step") ≡ false → bytes_eq w (codes "run") ≡ false → bytes_eq w (codes "topo") ≡ false
+    → bytes_eq w (codes "check") ≡ false → bytes_eq w (codes "gen") ≡ false → bytes_eq w (codes "sum") ≡ false → Verdict (w ∷ rest)
+other w rest e step run topo check gen sum =
     refused _ _ _
-    (unknown w rest e (turned w (codes "step") step) (turned w (codes "topo") topo) (turned w (codes "check") check)
-    (turned w (codes "gen") gen) (turned w (codes "sum") sum))
-    (no_command w rest step topo check gen sum)
+    (unknown w rest e (turned w (codes "step") step) (turned w (codes "run") run) (turned w (codes "topo") topo)
+    (turned w (codes "check") check) (turned w (codes "gen") gen) (turned w (codes "sum") sum))
+    (no_command w rest step run topo check gen sum)
 
 on_none : Verdict []
 unfolding work_of
@@ -154,15 +158,18 @@ verdict (w ∷ rest) e =
     let more = plain_rest w rest e in
     elim (cases_Bool (bytes_eq w (codes "step"))) [
       | inl same ↦ at w (codes "step") rest same (alone _ step_alone step_found (λ n r. refl) rest more)
-      | inr step ↦ elim (cases_Bool (bytes_eq w (codes "topo"))) [
-        | inl same ↦ at w (codes "topo") rest same (alone _ topo_alone topo_found (λ n r. refl) rest more)
-        | inr topo ↦ elim (cases_Bool (bytes_eq w (codes "check"))) [
-          | inl same ↦ at w (codes "check") rest same (alone _ check_alone check_found (λ n r. refl) rest more)
-          | inr check ↦ elim (cases_Bool (bytes_eq w (codes "gen"))) [
-            | inl same ↦ at w (codes "gen") rest same (with_two _ gen_two_values refl gen_found rest more)
-            | inr gen ↦ elim (cases_Bool (bytes_eq w (codes "sum"))) [
-              | inl same ↦ at w (codes "sum") rest same (with_two _ sum_two_values refl sum_found rest more)
-              | inr sum ↦ other w rest (plain_head w rest e) step topo check gen sum
+      | inr step ↦ elim (cases_Bool (bytes_eq w (codes "run"))) [
+        | inl same ↦ at w (codes "run") rest same (alone _ run_alone run_found (λ n r. refl) rest more)
+        | inr run ↦ elim (cases_Bool (bytes_eq w (codes "topo"))) [
+          | inl same ↦ at w (codes "topo") rest same (alone _ topo_alone topo_found (λ n r. refl) rest more)
+          | inr topo ↦ elim (cases_Bool (bytes_eq w (codes "check"))) [
+            | inl same ↦ at w (codes "check") rest same (alone _ check_alone check_found (λ n r. refl) rest more)
+            | inr check ↦ elim (cases_Bool (bytes_eq w (codes "gen"))) [
+              | inl same ↦ at w (codes "gen") rest same (with_two _ gen_two_values refl gen_found rest more)
+              | inr gen ↦ elim (cases_Bool (bytes_eq w (codes "sum"))) [
+                | inl same ↦ at w (codes "sum") rest same (with_two _ sum_two_values refl sum_found rest more)
+                | inr sum ↦ other w rest (plain_head w rest e) step run topo check gen sum
+              ]
             ]
           ]
         ]
@@ -222,7 +229,12 @@ unfolding work_of
 special [] e = refl
 special (w ∷ []) e =
     let sure = or_nothing _ e in
-    rw (not_named w (codes "step") refl sure, not_named w (codes "topo") refl sure, not_named w (codes "check") refl sure) refl
+    rw (
+      not_named w (codes "step") refl sure,
+      not_named w (codes "run") refl sure,
+      not_named w (codes "topo") refl sure,
+      not_named w (codes "check") refl sure,
+    ) refl
 special (w ∷ x ∷ []) e = refl
 special (w ∷ a ∷ b ∷ []) e = two_special w a b e
 special (w ∷ a ∷ b ∷ x ∷ xs) e = refl

@@ -10,7 +10,7 @@ use Rattle.lb_text.specs.Numbers.{number_of}
 use Rattle.lb_trace.specs.declared.trace.TheConstants.{MAX_ROWS}
 use Rattle.lb_words.specs.declared.words.TheConstants.{MAX_NUMBER}
 use Rattle.lb_words.specs.declared.work.Work.{Work}
-use Rattle.lb_words.specs.declared.work.Work.TheVariants.{Step, Topo, Check}
+use Rattle.lb_words.specs.declared.work.Work.TheVariants.{Step, Run, Topo, Check}
 use Rattle.lb_words.specs.Words.{generated}
 
 -- a word that the parser could take for an option or for its own help
@@ -38,8 +38,8 @@ bare_app =
 
 abbrev pub alone_apps : App
 alone_apps =
-    with_subcommand (with_subcommand (with_subcommand bare_app (new_app (codes "step")).top)
-    (new_app (codes "topo")).top) (new_app (codes "check")).top
+    with_subcommand (with_subcommand (with_subcommand (with_subcommand bare_app (new_app (codes "step")).top)
+    (new_app (codes "run")).top) (new_app (codes "topo")).top) (new_app (codes "check")).top
 
 abbrev pub lb_app : App
 lb_app = with_subcommand (with_subcommand alone_apps (generator_app (codes "gen")).top) (generator_app (codes "sum")).top
@@ -54,9 +54,10 @@ work_with word number rows =
 unfoldable pub work_read : Text → List Row → Option Work
 work_read word found =
     if bytes_eq word (codes "step") then Some Step
+    else (if bytes_eq word (codes "run") then Some Run
     else (if bytes_eq word (codes "topo") then Some Topo
     else (if bytes_eq word (codes "check") then Some Check
-    else work_with word (first_of (codes "NUMBER") found) (first_of (codes "ROWS") found)))
+    else work_with word (first_of (codes "NUMBER") found) (first_of (codes "ROWS") found))))
 
 -- the work that the parser found
 unfoldable pub work_found : Option (Text × List Row) → Option Work

@@ -6,15 +6,16 @@ use Rattle.lb_text.specs.Numbers.{number_of}
 use Rattle.lb_trace.specs.declared.trace.TheConstants.{MAX_ROWS}
 use Rattle.lb_words.specs.declared.words.TheConstants.{MAX_NUMBER}
 use Rattle.lb_words.specs.declared.work.Work.{Work}
-use Rattle.lb_words.specs.declared.work.Work.TheVariants.{Step, Topo, Check, Gen, Sum}
+use Rattle.lb_words.specs.declared.work.Work.TheVariants.{Step, Run, Topo, Check, Gen, Sum}
 
 -- the work that a word alone names
 abbrev pub work_named : List ℕ → Option Work
 work_named word =
     if bytes_eq word (codes "step") then Some Step
+    else (if bytes_eq word (codes "run") then Some Run
     else (if bytes_eq word (codes "topo") then Some Topo
     else (if bytes_eq word (codes "check") then Some Check
-    else None))
+    else None)))
 
 -- the work on a generated trace that a word names
 abbrev pub generated : List ℕ → ℕ → ℕ → Option Work

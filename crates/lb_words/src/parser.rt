@@ -34,6 +34,7 @@ pub fn parser<'a>(alloc: Global) -> Result<Command<'a>, AllocError>
         .disable_help_subcommand(true)
         .subcommand_required(true)
         .subcommand(Command::new(alloc, "step"))?
+        .subcommand(Command::new(alloc, "run"))?
         .subcommand(Command::new(alloc, "topo"))?
         .subcommand(Command::new(alloc, "check"))?;
     let command = command.subcommand(generator(alloc, "gen")?)?;

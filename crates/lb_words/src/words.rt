@@ -75,6 +75,9 @@ fn work_read(word: &str, found: &ArgMatches) -> Option<Work>
     if word == "step" {
         return Some(Work::Step);
     }
+    if word == "run" {
+        return Some(Work::Run);
+    }
     if word == "topo" {
         return Some(Work::Topo);
     }

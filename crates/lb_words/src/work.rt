@@ -5,6 +5,8 @@
 pub enum Work {
     /// Writes the history of a trace that one thread makes: `step`.
     Step,
+    /// Writes the history of a trace that a thread for each lane makes: `run`.
+    Run,
     /// Writes the scheduling domains of a trace: `topo`.
     Topo,
     /// Judges a history: `check`.

@@ -28,14 +28,18 @@ returns c =
     c.new.ensures.app in
     let with_step : app_of c.in_ok-subcommand.field-0 ≡ with_subcommand bare_app (new_app (codes "step")).top =
     c.in_ok-subcommand.ensures.shape c.new-2.ensures.local ∙ ap₂ with_subcommand bare (ap top_of c.new-2.ensures.app) in
-    let with_topo : app_of c.in_ok-subcommand-2.field-0
-    ≡ with_subcommand (with_subcommand bare_app (new_app (codes "step")).top) (new_app (codes "topo")).top =
+    let with_run : app_of c.in_ok-subcommand-2.field-0
+    ≡ with_subcommand (with_subcommand bare_app (new_app (codes "step")).top) (new_app (codes "run")).top =
     c.in_ok-subcommand-2.ensures.shape c.new-3.ensures.local ∙ ap₂ with_subcommand with_step (ap top_of c.new-3.ensures.app) in
+    let with_topo : app_of c.in_ok-subcommand-3.field-0
+    ≡ with_subcommand (with_subcommand (with_subcommand bare_app (new_app (codes "step")).top) (new_app (codes "run")).top)
+    (new_app (codes "topo")).top =
+    c.in_ok-subcommand-3.ensures.shape c.new-4.ensures.local ∙ ap₂ with_subcommand with_run (ap top_of c.new-4.ensures.app) in
     let with_check : app_of c.in_ok-command.command ≡ alone_apps =
-    c.in_ok-command.ensures.shape c.new-4.ensures.local ∙ ap₂ with_subcommand with_topo (ap top_of c.new-4.ensures.app) in
+    c.in_ok-command.ensures.shape c.new-5.ensures.local ∙ ap₂ with_subcommand with_topo (ap top_of c.new-5.ensures.app) in
     let with_gen : app_of c.in_ok-command-2.command ≡ with_subcommand alone_apps (generator_app (codes "gen")).top =
     c.in_ok-command-2.ensures.shape c.in_ok-generator.ensures.local
     ∙ ap₂ with_subcommand with_check (ap top_of c.in_ok-generator.ensures.app) in
-    IfOk-weaker c.subcommand-5.result _ _
+    IfOk-weaker c.subcommand-6.result _ _
     (λ m h. h.shape c.in_ok-generator-2.ensures.local ∙ ap₂ with_subcommand with_gen (ap top_of c.in_ok-generator-2.ensures.app))
-    c.subcommand-5.ensures
+    c.subcommand-6.ensures

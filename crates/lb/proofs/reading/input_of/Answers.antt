@@ -3,7 +3,7 @@ use Rattle.lb.specs.Invocation.{Stream, stream_of}
 use Rattle.lb.specs.Works.{Fails}
 use Rattle.lb.specs.Failures.{status_of_read_error}
 use Rattle.lb.proofs.Unread.{made_into, read_failed}
-use Rattle.lb.proofs.once.input_of.Goals as goal
+use Rattle.lb.proofs.reading.input_of.Goals as goal
 
 pub returns-in_err-read_all-in-Some-clause-failed : goal.returns-in_err-read_all-in-Some-clause-failed
 returns-in_err-read_all-in-Some-clause-failed g c =
