@@ -66,7 +66,7 @@ OwnAsks what c own = ⊥
 pub record MayFollow (h : Header) (c : Course) : Type 0 where
   pub named : length c.named ≡ length h.cpus
   pub range : IsInRange c
-  pub grounded : is_flight c.form ≡ false
+  pub empty_handed : is_flight c.form ≡ false
   pub quiet : IsQuiet c
 
 -- of the seat: what else it learnt is that each further ticket is above this one

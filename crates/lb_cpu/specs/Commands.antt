@@ -43,7 +43,7 @@ pub record Answered (h : Header) (book : TableId) (board : List TableId) (code :
   pub answer : reply ≡ (answer_to l.side.course.command l.side.course.at there.before.queue.state).0
 
 -- the woken task, which has to wake where the hand goes, left the queue of a CPU in the hand
-pub record LeftToWake (h : Header) (book : TableId) (board : List TableId) (code : Coded Journal) (l l' : LaneIs)
+pub record DepartedToWake (h : Header) (book : TableId) (board : List TableId) (code : Coded Journal) (l l' : LaneIs)
     (hand : HandState) : Type 0 where
   pub cpu : ℕ
   pub there : DrewThere h book board code l l' cpu (Out Wake hand.to (ids hand.tasks))
@@ -55,7 +55,7 @@ pub record WokeElsewhere (h : Header) (book : TableId) (board : List TableId) (c
     (reply : Reply) : Type 0 where
   pub mid : LaneIs
   pub hand : HandState
-  pub left : LeftToWake h book board code l mid hand
+  pub left : DepartedToWake h book board code l mid hand
   pub landed : DrewThere h book board code mid l' hand.to (Landed (ids hand.tasks))
   pub answer : reply ≡ Done
 

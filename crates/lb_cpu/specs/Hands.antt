@@ -33,7 +33,7 @@ pub record TookThere (h : Header) (book : TableId) (board : List TableId) (code 
   pub flies : InFlight h l'.side.course Pull hand
 
 -- what was due at the queue of the ticked CPU left it, or nothing was due there
-pub record LeftDue (h : Header) (book : TableId) (board : List TableId) (code : Coded Journal) (l l' : LaneIs) (cpu : ℕ)
+pub record DepartedDue (h : Header) (book : TableId) (board : List TableId) (code : Coded Journal) (l l' : LaneIs) (cpu : ℕ)
     (hand : HandState) : Type 0 where
   pub cause : OutCause
   pub there : DrewThere h book board code l l' cpu (Out cause hand.to (ids hand.tasks))
@@ -47,5 +47,5 @@ pub record NoneDue (h : Header) (book : TableId) (board : List TableId) (code : 
   pub none : out_target l.side.course saw.before.queue.state ≡ None
 
 abbrev pub OutDue : Header → TableId → List TableId → Coded Journal → LaneIs → LaneIs → ℕ → Option HandState → Type 0
-OutDue h book board code l l' cpu (Some hand) = LeftDue h book board code l l' cpu hand
+OutDue h book board code l l' cpu (Some hand) = DepartedDue h book board code l l' cpu hand
 OutDue h book board code l l' cpu None = NoneDue h book board code l l' cpu

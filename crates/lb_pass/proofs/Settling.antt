@@ -148,7 +148,7 @@ stops_looked h board l m l' d x same =
       looks = inr (record { decision = d; look = x });
       side = unmoved m.side;
       rest = same_rest m;
-      grounded = ap is_flight (lane_look_left h (length board) l m d x).form;
+      empty_handed = ap is_flight (lane_look_left h (length board) l m d x).form;
     })
 
 pub in_vain : (h : Header) (board : List TableId) (l l' : LaneIs) (d : Decision) → (d ≡ NotMine) ⊎ (d ≡ Balanced)

@@ -135,7 +135,7 @@ pub record StopsAt (h : Header) (board : List TableId) (l l' : LaneIs) : Type 0 
   pub looks : (looked ≡ l) ⊎ LookedOnce h board l looked
   pub side : Unmoved looked.side l'.side
   pub rest : SameRest looked l'
-  pub grounded : is_flight l'.side.course.form ≡ false
+  pub empty_handed : is_flight l'.side.course.form ≡ false
 
 -- so after some attempts, and nothing else was drawn
 pub record Stopped (h : Header) (book : TableId) (board : List TableId) (code : Coded Journal) (l l' : LaneIs) : Type 0 where

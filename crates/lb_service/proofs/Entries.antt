@@ -57,31 +57,31 @@ use Rattle.lb_service.specs.Services.{DueIn, IsAt, StillDue, IsTurning, ScannedA
 use Rattle.lb_service.proofs.Following.{end_serves, kick_serves, tickless_below}
 
 -- ---- forms
-grounded_by : (f : Form) (h : Header) (c : Course) → DueIn f h c → is_flight f ≡ false
-grounded_by forms.Rest h c a = refl
-grounded_by forms.Serving h c a = refl
-grounded_by forms.Due h c a = refl
-grounded_by forms.ScanDue h c a = refl
-grounded_by forms.Kicking h c a = refl
-grounded_by forms.Asked h c a = absurd a
-grounded_by forms.Flight h c a = absurd a
-grounded_by forms.Used h c a = absurd a
-grounded_by forms.Position h c a = absurd a
-grounded_by forms.Looked h c a = absurd a
-grounded_by forms.Landed h c a = absurd a
-grounded_by forms.Closed h c a = absurd a
-grounded_by forms.Done h c a = absurd a
-grounded_by forms.Ended h c a = absurd a
+empty_handed_by : (f : Form) (h : Header) (c : Course) → DueIn f h c → is_flight f ≡ false
+empty_handed_by forms.Rest h c a = refl
+empty_handed_by forms.Serving h c a = refl
+empty_handed_by forms.Due h c a = refl
+empty_handed_by forms.ScanDue h c a = refl
+empty_handed_by forms.Kicking h c a = refl
+empty_handed_by forms.Asked h c a = absurd a
+empty_handed_by forms.Flight h c a = absurd a
+empty_handed_by forms.Used h c a = absurd a
+empty_handed_by forms.Position h c a = absurd a
+empty_handed_by forms.Looked h c a = absurd a
+empty_handed_by forms.Landed h c a = absurd a
+empty_handed_by forms.Closed h c a = absurd a
+empty_handed_by forms.Done h c a = absurd a
+empty_handed_by forms.Ended h c a = absurd a
 
 -- a lane in service has no task in its hand
-pub serving_grounded : (h : Header) (c : Course) → StillDue h c → is_flight c.form ≡ false
-serving_grounded h c a = grounded_by c.form h c a
+pub serving_empty_handed : (h : Header) (c : Course) → StillDue h c → is_flight c.form ≡ false
+serving_empty_handed h c a = empty_handed_by c.form h c a
 
-pub form_grounded : (c : Course) (f : Form) → c.form ≡ f → is_flight f ≡ false → is_flight c.form ≡ false
-form_grounded c f e g = ap is_flight e ∙ g
+pub form_empty_handed : (c : Course) (f : Form) → c.form ≡ f → is_flight f ≡ false → is_flight c.form ≡ false
+form_empty_handed c f e g = ap is_flight e ∙ g
 
-pub turning_grounded : (h : Header) (c : Course) → IsTurning h c → is_flight c.form ≡ false
-turning_grounded h c t = elim t.comes [
+pub turning_empty_handed : (h : Header) (c : Course) → IsTurning h c → is_flight c.form ≡ false
+turning_empty_handed h c t = elim t.comes [
   | inl at ↦ ap is_flight at.0.form
   | inr done ↦ ap is_flight done
 ]

@@ -25,16 +25,16 @@ pub record IsReady (rows : List Row) (lane : ℕ) (l : LaneIs) : Type 0 where
 
 -- ---- after
 -- it is at rest, and took up all
-pub record IsAtEnd (l : LaneIs) : Type 0 where
+pub record HasServedAll (l : LaneIs) : Type 0 where
   pub rest : l.side.course.form ≡ Rest
   pub all : l.side.course.rows ≡ length l.rows
 
 pub record IsDone (rows : List Row) (lane : ℕ) (l : LaneIs) : Type 0 where
   pub has : HasRows rows lane l
-  pub ended : IsAtEnd l
+  pub ended : HasServedAll l
 
 -- however it was left: its number and its rows are as they were, and no task is in its hand
-pub record IsLeft (l l' : LaneIs) : Type 0 where
+pub record HasReturned (l l' : LaneIs) : Type 0 where
   pub number : l'.side.number ≡ l.side.number
   pub rows : l'.rows ≡ l.rows
-  pub grounded : is_flight l'.side.course.form ≡ false
+  pub empty_handed : is_flight l'.side.course.form ≡ false

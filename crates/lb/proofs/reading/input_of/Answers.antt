@@ -1,3 +1,5 @@
+-- For `input_of` of src/reading.rt: the input of a work: all that its source has, or nothing where it reads
+-- nothing.
 use Rattle.std.proofs.Common.{ap, Err}
 use Rattle.lb.specs.Invocation.{Stream, stream_of}
 use Rattle.lb.specs.Works.{Fails}

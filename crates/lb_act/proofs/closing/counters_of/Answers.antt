@@ -1,3 +1,4 @@
+-- For `counters_of` of src/closing.rt: the queue's counters of a position, or zeros where it has none.
 use Rattle.std.proofs.Common.{sym, []}
 use Rattle.std.specs.Prelude.{unwrap_or}
 use Rattle.lb_queue.specs.Turns.{no_counters}

@@ -1,3 +1,5 @@
+-- For `source` of src/queue.rt: the CPU of `group` that a pull takes from, or None where no CPU of it has
+-- something to give (docs/rules/decision.md).
 use Rattle.std.proofs.Common.{◌+◌, None, arith}
 use Rattle.lb_base.specs.declared.mask.TheConstants.{MAX_CPUS}
 use Rattle.lb_base.specs.Greatest.{Picks}

@@ -1,3 +1,4 @@
+-- The loops of `end_lanes` of src/apart.rt: what is left of all lanes.
 use Rattle.std.proofs.Common.{◌≡◌, ◌≤◌, ◌++◌, length, map, vec_capacity}
 use Rattle.std.specs.Vec.Iter.{into_iter_items, into_iter_len}
 use Rattle.lb_journal.specs.contracts.journal.Journal.{the_row}

@@ -1,3 +1,4 @@
+-- For `target_at` of src/serving.rt: where the tasks go that are due to leave the queue.
 use Rattle.std.proofs.Common.{rules, ◌≡◌, ◌∙◌, None, refl, sym}
 use Rattle.lb_journal.specs.contracts.journal.Journal.{the_row}
 use Rattle.lb_cpu.proofs.There.{saw_there}

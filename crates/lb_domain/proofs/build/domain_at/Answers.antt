@@ -1,3 +1,4 @@
+-- For `domain_at` of src/build.rt: the domain of a level, if it is kept.
 use Rattle.std.proofs.Common.{◌≡◌, ℕ, ◌&&◌, Some, List, sym, ◌∙◌, ap, arith}
 use Rattle.std.specs.List.{slice_index_or}
 use Rattle.std.proofs.lemmas.Bool.{and_parts}

@@ -1,3 +1,4 @@
+-- The loops of `domains_of_all` of src/build.rt: the domains of every CPU, each within its own part.
 use Rattle.std.proofs.Common.{◌≡◌, map, None}
 use Rattle.std.specs.List.{range_with_len, slice_index_or}
 use Rattle.lb_domain.specs.Domains.{domains_in}

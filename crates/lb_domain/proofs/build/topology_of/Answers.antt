@@ -1,3 +1,4 @@
+-- For `topology_of` of src/build.rt: the domains of every CPU within disjoint parts.
 use Rattle.std.proofs.Common.{◌≡◌, ◌<◌, ◌≤◌, ℕ, List, length, Option, Some, None, ◌∙◌, sym, ap, subst, arith}
 use Rattle.std.specs.List.{slice_index_or}
 use Rattle.std.proofs.lemmas.Result.{IfOk-weaker}

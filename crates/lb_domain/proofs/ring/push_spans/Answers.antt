@@ -1,3 +1,4 @@
+-- For `push_spans` of src/ring.rt: adds the spans of these CPUs at a step.
 use Rattle.std.proofs.Common.{ℕ, ◌+◌, [], ◌∷◌, ◌++◌, map, List, sym, ◌∙◌, ap}
 use Rattle.lb_base.specs.declared.mask.Mask.{Mask}
 use Rattle.lb_base.proofs.Members.{members_all}

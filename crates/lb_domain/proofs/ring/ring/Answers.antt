@@ -1,3 +1,4 @@
+-- For `ring` of src/ring.rt: the groups that these CPUs lead at a step, from that of the CPU's own group on.
 use Rattle.std.proofs.Common.{◌++◌, map, List, ◌∙◌, ap}
 use Rattle.std.specs.Prelude.{unwrap_or}
 use Rattle.lb_base.specs.declared.mask.Mask.{Mask}

@@ -1,3 +1,4 @@
+-- For `next_of` of src/next.rt: what comes next.
 use Rattle.std.proofs.Common.{Bor, Option, sym, ◌∙◌, ap}
 use Rattle.std.specs.Prelude.{option_map}
 use Rattle.std.proofs.lemmas.Result.{IfOk-weaker}

@@ -1,3 +1,4 @@
+-- For `reply_due` of src/answers.rt: what the queue where the task is answers to the command in service.
 use Rattle.std.proofs.Common.{rules, sym, ◌∙◌, subst}
 use Rattle.lb_core.specs.declared.place.Place.{Place}
 use Rattle.lb_queue.specs.declared.answers.Reply.TheVariants.{Done, Already, Gone}

@@ -1,3 +1,4 @@
+-- For `out_of_queue` of src/leaving.rt: what is to leave the queue, if anything is due there.
 use Rattle.std.proofs.Common.{rules}
 use Rattle.lb_due.proofs.Outgoing.{served_stop}
 use Rattle.lb_due.proofs.leaving.out_of_queue.Goals as goal

@@ -1,3 +1,5 @@
+-- For `follow` of src/following.rt: the seat of one owner reads what another drew so far: its next ticket is
+-- above all of that, and not below the other's next one.
 use Rattle.std.proofs.Common.{ℕ, ◌≡◌, ◌<◌, ◌+◌, ◌++◌, length, get_or, refl, sym, subst, ap, ◌∙◌, arith}
 use Rattle.std.proofs.lemmas.List.{length-append}
 use Rattle.lb_journal.specs.declared.journal.Journal.{the_code}

@@ -1,3 +1,5 @@
+-- For `draw_out` of src/stops.rt: the task of the queue's next pending stop request leaves in a hand that
+-- goes where it does, by an `out stop`.
 use Rattle.std.proofs.Common.{◌≡◌, ◌<◌, ◌+◌, length, sym, subst, ap, ◌∙◌, map, arith}
 use Rattle.std.proofs.lemmas.List.{length-set}
 use Rattle.std.specs.Prelude.{None}

@@ -1,3 +1,5 @@
+-- For `decide` of src/decision.rt: the decision of `cpu` about one of its domains, of the given shape and
+-- groups (docs/rules/decision.md).
 use Rattle.std.proofs.Common.{◌≤◌, length, get_or, arith, rules}
 use Rattle.lb_base.specs.Mask.{no_cpus}
 use Rattle.lb_imbalance.specs.Decision.{all_stats}

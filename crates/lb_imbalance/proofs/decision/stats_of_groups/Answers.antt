@@ -1,3 +1,5 @@
+-- For `stats_of_groups` of src/decision.rt: the statistics of the groups without the excluded CPUs, in the
+-- first places.
 use Rattle.std.proofs.Common.{◌≡◌, ◌<◌, length, get_or, arith, sym, refl, ◌∙◌}
 use Rattle.std.proofs.lemmas.List.{get_or_default}
 use Rattle.std.proofs.Math.ListN.{length-set}

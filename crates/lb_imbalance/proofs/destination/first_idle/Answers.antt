@@ -1,3 +1,4 @@
+-- For `first_idle` of src/destination.rt.
 use Rattle.std.proofs.Common.{◌+◌, arith}
 use Rattle.lb_base.proofs.Walks.{stands, IsAt}
 use Rattle.lb_imbalance.proofs.Idle.{none_passed, none_more, first_idle_none, first_idle_some, NoneIdle}

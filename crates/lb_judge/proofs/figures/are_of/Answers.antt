@@ -1,3 +1,4 @@
+-- For `are_of` of src/figures.rt: whether there is one name for each CPU of the mask, in their order.
 use Rattle.std.proofs.Common.{◌≡◌, Bool, true, false, not, refl, List, map, sym, ◌∙◌, ap, is_some}
 use Rattle.std.proofs.lemmas.Bool.{not-true, not-false}
 use Rattle.std.proofs.lemmas.List.{drop_all}

@@ -1,3 +1,4 @@
+-- For `breaks_figure` of src/figures.rt: whether the entry breaks the rule `figure`.
 use Rattle.lb_judge.proofs.Staged.{staged_look, staged_look_due, staged_scan, staged_scan_due}
 use Rattle.lb_judge.proofs.figures.breaks_figure.Goals as goal
 

@@ -1,3 +1,4 @@
+-- For `is_hand` of src/leaving.rt: whether these are the tasks in the hand, in their order.
 use Rattle.std.proofs.Common.{arith, ◌≡◌, ◌==◌, true, false, refl, sym, ◌∙◌, get_or}
 use Rattle.std.proofs.lemmas.Bool.{eq-eqb}
 use Rattle.std.proofs.lemmas.Bool.{ne_eqb}

@@ -1,3 +1,4 @@
+-- For `waits_for_push` of src/stage.rt: whether the `use` of a tick has to wait for a push of its CPU.
 use Rattle.std.proofs.Common.{arith, ◌≡◌, length, sym, subst, true}
 use Rattle.lb_core.specs.declared.course.Course.{Course}
 use Rattle.lb_core.specs.declared.entry.What.{What}

@@ -1,3 +1,4 @@
+-- For `fault_of` of src/machine.rt: the first fault of the rows and the table.
 use Rattle.std.proofs.Common.{ℕ, ◌<◌, sym, ◌∙◌, ap, arith, Some, None}
 use Rattle.lb_levels.specs.Faults.{first_misfit}
 use Rattle.lb_levels.proofs.FaultOrder.{clash_first, misfit_first, bad_row_first, not_nested_first, fits_length, fits_square}

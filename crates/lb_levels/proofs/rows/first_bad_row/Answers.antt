@@ -1,3 +1,4 @@
+-- For `first_bad_row` of src/rows.rt: the first row that cannot stand below those before it.
 use Rattle.std.proofs.Common.{length, take, arith, rules}
 use Rattle.lb_levels.specs.Rows.{distances_at, is_bad_distance}
 use Rattle.lb_levels.specs.Faults.{first_bad_row}

@@ -1,3 +1,4 @@
+-- For `nodes_of` of src/rows.rt: how many nodes there are.
 use Rattle.std.proofs.Common.{ltb, arith, ◌∙◌, ap}
 use Rattle.std.proofs.lemmas.Bool.{ltb-true}
 use Rattle.std.proofs.lemmas.List.{take_more}

@@ -1,3 +1,4 @@
+-- For `levels_of` of src/span.rt: the levels, from the bottom.
 use Rattle.std.proofs.Common.{◌≡◌, ℕ, List, ◌∷◌, map, filter, sym, ◌∙◌, ap, arith}
 use Rattle.std.specs.List.{range_with_len}
 use Rattle.std.proofs.lemmas.List.{map_push}

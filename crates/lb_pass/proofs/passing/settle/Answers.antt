@@ -1,3 +1,4 @@
+-- For `settle` of src/passing.rt: attempts until no further look is due, or one moves nothing.
 use Rattle.std.proofs.Common.{refl}
 use Rattle.lb_pass.proofs.Settling.{ends_in_vain, ends_pulled, one_more, pull_of, still, stop_stays, vain_of}
 use Rattle.lb_pass.proofs.passing.settle.Goals as goal

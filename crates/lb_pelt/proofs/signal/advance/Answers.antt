@@ -1,3 +1,5 @@
+-- For `advance` of src/signal.rt: the signal at the moment `now`, in nanoseconds, after a time of `run` since
+-- its stamp.
 use Rattle.std.proofs.Common.{◌/◌, arith, rules}
 use Rattle.lb_pelt.proofs.Bounds.{load_fits, sum_fits}
 use Rattle.lb_pelt.proofs.signal.advance.Goals as goal

@@ -1,3 +1,4 @@
+-- For `share_of` of src/signal.rt: what some units add, from a part of a period on.
 use Rattle.std.proofs.Common.{◌+◌, ◌-◌, ◌/◌, arith, rules}
 use Rattle.lb_pelt.proofs.Decays.{decayed_le, room}
 use Rattle.lb_pelt.proofs.signal.share_of.Goals as goal

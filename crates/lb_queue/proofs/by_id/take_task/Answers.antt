@@ -1,3 +1,4 @@
+-- For `take_task` of src/by_id.rt: takes a task out of a list in which it stands at most once.
 use Rattle.std.proofs.Common.{◌∙◌, sym, ◌==◌}
 use Rattle.lb_queue.specs.declared.record.TaskRecord.{TaskRecord}
 use Rattle.lb_queue.proofs.Search.{find_of_position, find_of_no_position, rest_of_position, rest_of_none}

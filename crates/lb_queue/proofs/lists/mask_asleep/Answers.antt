@@ -1,3 +1,4 @@
+-- For `mask_asleep` of src/lists.rt: the task of that id, which sleeps, gets a mask.
 use Rattle.std.proofs.Common.{◌==◌, ◌∙◌, ap, arith, ◌<◌, ◌≤◌, length, List, get_or}
 use Rattle.std.specs.Prelude.{if◌then◌else◌}
 use Rattle.std.proofs.Math.ListN.{set}

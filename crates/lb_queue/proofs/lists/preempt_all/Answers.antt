@@ -1,3 +1,4 @@
+-- For `preempt_all` of src/lists.rt: the running task is put down and waits.
 use Rattle.std.proofs.Common.{◌∙◌, ap, arith, ◌<◌, ◌≤◌, length, List, get_or}
 use Rattle.std.proofs.Math.ListN.{set}
 use Rattle.lb_queue.specs.declared.awake.Awake.{Awake}

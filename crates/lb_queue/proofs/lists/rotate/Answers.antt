@@ -1,3 +1,5 @@
+-- For `rotate` of src/lists.rt: where two or more are awake, the one nearest the back that does not run takes
+-- the place of the running one.
 use Rattle.std.proofs.Common.{◌≤◌, ◌∙◌, sym, arith, length}
 use Rattle.lb_queue.proofs.Ticking.{rotate_short, rotate_none, rotate_some}
 use Rattle.lb_queue.proofs.lists.rotate.Goals as goal

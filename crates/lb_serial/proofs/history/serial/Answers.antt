@@ -1,3 +1,5 @@
+-- For `serial` of src/history.rt: the serial history of a trace: the rows in file order, each with all that
+-- follows it until its lane rests, and the end (docs/rules/lanes.md).
 use Rattle.std.proofs.Common.{[], sym, ◌∙◌}
 use Rattle.lb_serial.proofs.Next.{all_drawn}
 use Rattle.lb_serial.proofs.Draws.{after_draw, closes_on}

@@ -1,10 +1,12 @@
+-- For `open_turn` of src/turns.rt: opens a turn; true where it is open, and false where none is: another is,
+-- or a push has to come first.
 use Rattle.std.proofs.Common.{◌≡◌, subst, ◌∙◌, ap}
 use Rattle.lb_lane.specs.declared.turns.Began.{Began}
 use Rattle.lb_lane.specs.declared.turns.Began.TheVariants.{Turn}
 use Rattle.lb_cpu.specs.Turns.{BeganThere}
 use Rattle.lb_queue.specs.declared.answers.TurnReply.TheVariants.{Opened, TurnOpen}
 use Rattle.lb_journal.specs.contracts.journal.Journal.{the_row}
-use Rattle.lb_service.proofs.Entries.{serving_grounded, turning_grounded}
+use Rattle.lb_service.proofs.Entries.{serving_empty_handed, turning_empty_handed}
 use Rattle.lb_service.proofs.Turning.{began_open, began_push, began_shut, due_kicks, push_same, turn_same}
 use Rattle.lb_service.proofs.turns.open_turn.Goals as goal
 
@@ -25,9 +27,9 @@ returns-in-Turn-Opened-clause-rows g c =
     (subst (λ (b : Began). BeganThere n.header n.book n.board the_row.coded c.args.lane.now c.turn.new.lane c.args.kind c.args.cpu b)
     (c.in-Turn-Opened.is ∙ ap Turn c.in-Turn-Opened.field-0-is) c.in_ok-turn.ensures.ok)
 
-pub returns-in-Turn-Opened-clause-grounded : goal.returns-in-Turn-Opened-clause-grounded
-returns-in-Turn-Opened-clause-grounded g c =
-    turning_grounded g.N.Names.header c.turn.new.lane.side.course (returns-in-Turn-Opened-clause-began g c)
+pub returns-in-Turn-Opened-clause-empty_handed : goal.returns-in-Turn-Opened-clause-empty_handed
+returns-in-Turn-Opened-clause-empty_handed g c =
+    turning_empty_handed g.N.Names.header c.turn.new.lane.side.course (returns-in-Turn-Opened-clause-began g c)
 
 pub returns-in-Turn-TurnOpen-clause-began : goal.returns-in-Turn-TurnOpen-clause-began
 returns-in-Turn-TurnOpen-clause-began g c =
@@ -44,9 +46,9 @@ returns-in-Turn-TurnOpen-clause-rows g c =
     (subst (λ (b : Began). BeganThere n.header n.book n.board the_row.coded c.args.lane.now c.turn.new.lane c.args.kind c.args.cpu b)
     (c.in-Turn-TurnOpen.is ∙ ap Turn c.in-Turn-TurnOpen.field-0-is) c.in_ok-turn.ensures.ok)
 
-pub returns-in-Turn-TurnOpen-clause-grounded : goal.returns-in-Turn-TurnOpen-clause-grounded
-returns-in-Turn-TurnOpen-clause-grounded g c =
-    serving_grounded g.N.Names.header c.turn.new.lane.side.course (returns-in-Turn-TurnOpen-clause-began g c)
+pub returns-in-Turn-TurnOpen-clause-empty_handed : goal.returns-in-Turn-TurnOpen-clause-empty_handed
+returns-in-Turn-TurnOpen-clause-empty_handed g c =
+    serving_empty_handed g.N.Names.header c.turn.new.lane.side.course (returns-in-Turn-TurnOpen-clause-began g c)
 
 pub returns-in-PushFirst-clause-began : goal.returns-in-PushFirst-clause-began
 returns-in-PushFirst-clause-began g c =
@@ -62,6 +64,6 @@ returns-in-PushFirst-clause-rows g c =
     (subst (λ (b : Began). BeganThere n.header n.book n.board the_row.coded c.args.lane.now c.turn.new.lane c.args.kind c.args.cpu b)
     c.in-PushFirst.is c.in_ok-turn.ensures.ok)
 
-pub returns-in-PushFirst-clause-grounded : goal.returns-in-PushFirst-clause-grounded
-returns-in-PushFirst-clause-grounded g c =
-    serving_grounded g.N.Names.header c.turn.new.lane.side.course (returns-in-PushFirst-clause-began g c)
+pub returns-in-PushFirst-clause-empty_handed : goal.returns-in-PushFirst-clause-empty_handed
+returns-in-PushFirst-clause-empty_handed g c =
+    serving_empty_handed g.N.Names.header c.turn.new.lane.side.course (returns-in-PushFirst-clause-began g c)

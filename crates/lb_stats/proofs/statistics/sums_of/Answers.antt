@@ -1,3 +1,4 @@
+-- For `sums_of` of src/statistics.rt.
 use Rattle.std.proofs.Common.{◌+◌, ℕ, List, [], ◌∷◌, ◌++◌, false, refl, sym, subst, arith}
 use Rattle.lb_base.specs.declared.mask.TheConstants.{MAX_CPUS}
 use Rattle.lb_base.specs.Mask.{members_below}

@@ -1,3 +1,4 @@
+-- For `two_cores_of_two_threads` of src/imbalance.rt.
 use Rattle.std.proofs.Common.{ℕ, [], ◌∷◌, lit<, lit≤, refl}
 use Rattle.lb_base.specs.declared.mask.Mask.{Mask}
 use Rattle.lb_base.specs.declared.figure.Fig.{Fig}

@@ -1,3 +1,4 @@
+-- For `the_flag_of_the_position_below_marks_a_group` of src/stats.rt.
 use Rattle.std.proofs.Common.{◌≡◌, ℕ, ◌<◌, true, [], ◌∷◌, lit<, inl, inr}
 use Rattle.std.proofs.lemmas.Bool.{both_ways, cases_lt}
 use Rattle.lb_base.specs.declared.mask.Mask.{Mask}

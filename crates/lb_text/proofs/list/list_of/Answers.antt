@@ -1,3 +1,5 @@
+-- For `list_of` of src/list.rt: the CPUs that a list names: none where it is empty, else those of its items,
+-- which are split by `;`.
 use Rattle.std.proofs.Common.{◌≡◌, List, ℕ, length, subst, sym, arith, rules}
 use Rattle.std.proofs.lemmas.Bool.{eqb-true, eqb-false}
 use Rattle.lb_text.proofs.Taken.{IsReading, bad_list, list_fits, reading_none, reading_more, reading_ends, list_of_none}

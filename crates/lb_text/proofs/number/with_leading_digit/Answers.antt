@@ -1,3 +1,4 @@
+-- For `with_leading_digit` of src/number.rt: the same, where some number from `least` to `most` begins so.
 use Rattle.std.proofs.Common.{◌<◌, ◌^◌, ◌++◌, ◌∷◌, [], List, ℕ, Option, Some, sym, subst, refl, arith}
 use Rattle.std.proofs.lemmas.Bool.{both_ways}
 use Rattle.lb_text.specs.Numbers.{is_number}

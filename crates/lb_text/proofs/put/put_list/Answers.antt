@@ -1,3 +1,5 @@
+-- For `put_list` of src/put.rt: appends the CPUs of a mask as a list of runs, each as long as it can be, or
+-- `-` where there are none (docs/rules/history-text.md).
 use Rattle.std.proofs.Common.{◌++◌, sym, ap, ◌∙◌}
 use Rattle.lb_text.proofs.RunFacts.{list_text_none, list_text_some}
 use Rattle.lb_text.proofs.put.put_list.Goals as goal

@@ -1,3 +1,5 @@
+-- For `two_lanes` of src/machine.rt: two lanes serve a row each, on two threads: the replies, and the closed
+-- lists.
 use denote.Param.Send.{IsSend, IsSync, arg_send, arg_sync, param_send, param_sync, recorded_send, recorded_sync, shr_send, struct_send}
 use denote.Param.{param}
 use Rattle.std.proofs.Crossing.{send as alloc_send}

@@ -1,3 +1,4 @@
+-- For `history_of` of src/ending.rt: the history of a machine whose lanes have done their rows.
 use Rattle.std.proofs.Common.{◌≡◌, List, All, ap, sym, subst, ◌∙◌}
 use Rattle.lb_trace.specs.declared.trace.Header.{Header}
 use Rattle.lb_core.specs.declared.course.Course.{Course}

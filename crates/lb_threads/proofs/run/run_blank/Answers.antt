@@ -1,3 +1,4 @@
+-- For `run_blank` of src/run.rt: the same, of a machine before any entry, which the names are of.
 use Rattle.std.proofs.Common.{◌≡◌, List, [], ◌++◌, length, take, drop, ap, sym, subst, ◌∙◌}
 use Rattle.std.proofs.lemmas.List.{take_all}
 use Rattle.lb_lane.specs.Lanes.{LaneIs}

@@ -1,3 +1,5 @@
+-- The loops of `put_rebuilds` of src/text.rt: appends the version of each rebuild of a trace, from version 2
+-- on.
 use Rattle.std.proofs.Common.{◌≡◌, ◌+◌, ◌≤◌, ◌++◌, drop}
 use Rattle.std.specs.List.{filter_map}
 use Rattle.lb_topo.specs.Text.{versions_text, rebuilt}

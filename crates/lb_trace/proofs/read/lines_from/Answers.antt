@@ -1,3 +1,4 @@
+-- For `lines_from` of src/read.rt: reads all lines of a text.
 use Rattle.std.proofs.Common.{◌≡◌, ◌≤◌, ◌+◌, ◌∷◌, ◌++◌, length, length-append, true, List, ℕ, refl, sym, ap, ◌∙◌, arith, rules}
 use Rattle.std.specs.List.{join_with_byte}
 use Rattle.std.proofs.lemmas.List.Splits.{join_with_byte-slice_split}

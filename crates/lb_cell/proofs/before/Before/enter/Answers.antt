@@ -1,3 +1,5 @@
+-- For `Before::enter` of src/enter.rt: draws the entry of a queue for a lane, upon the cell and the lane as
+-- they were before it.
 use Rattle.std.proofs.Common.{rules, sym, subst}
 use Rattle.lb_ticket.specs.Seats.{SeatIs}
 use Rattle.lb_journal.specs.Journal.{Journal}

@@ -1,3 +1,6 @@
+-- For `Blank::new` of src/blank.rt: the machine of an accepted trace before any entry: a book with a seat for
+-- each owner, a board with the opening figures, version 1 with the masks of the header, the queues with the
+-- tasks that are declared, and the rows of each lane in their order.
 use Rattle.std.proofs.Common.{◌≡◌, ◌+◌, List, ◌∷◌, [], length, map, ap, sym, subst, ◌∙◌, arith}
 use Rattle.std.specs.List.{range_with_len}
 use Rattle.lb_base.specs.declared.mask.Mask.{Mask}

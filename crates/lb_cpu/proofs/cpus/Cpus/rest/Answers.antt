@@ -1,3 +1,5 @@
+-- For `Cpus::rest` of src/rest.rt: takes the locks apart, with the lanes that `start` made, in the order of
+-- their numbers.
 use Rattle.std.proofs.Common.{ℕ, ◌≡◌, Some, List, map, length, vec_len, slice_get, All, ap, sym, subst, ◌∙◌}
 use Rattle.std.proofs.lemmas.List.{length-map}
 use mathlib.Core.List.{IsPrefix}

@@ -1,3 +1,5 @@
+-- For `Topology::build` of src/topology.rt: the domains of each CPU of the machine within its mask, each of
+-- the masks being a partition of its own.
 use Rattle.std.proofs.Common.{length, ◌∙◌, ap}
 use Rattle.lb_domain.proofs.Sizes.{length-topology_of}
 use Rattle.lb_domain.proofs.topology.Topology.build.Goals as goal

@@ -1,3 +1,4 @@
+-- For `Ended::arrive` of src/serving.rt: it lands by an `in` above all that was drawn.
 use Rattle.std.proofs.Common.{ℕ, ◌≡◌, ◌+◌, ◌≤◌, ◌<◌, Some, true, ◌&&◌, List, [], refl, sym, subst, ap, ◌∙◌, arith, inl, inr}
 use Rattle.lb_queue.specs.declared.answers.OutCause.TheVariants as cause
 use Rattle.lb_core.specs.declared.course.Course.{Course}

@@ -1,3 +1,5 @@
+-- For `Ended::depart` of src/serving.rt: the task of the next stop request leaves by an `out` above all that
+-- was drawn.
 use Rattle.std.proofs.Common.{ℕ, ◌≡◌, ◌+◌, ◌≤◌, ◌<◌, Some, true, ◌&&◌, List, [], refl, sym, subst, ap, ◌∙◌, arith, inl, inr}
 use Rattle.lb_queue.specs.declared.answers.OutCause.TheVariants as cause
 use Rattle.lb_core.specs.declared.course.Course.{Course}

@@ -1,3 +1,5 @@
+-- For `Ended::land` of src/serving.rt: the task of lane 0's hand lands where it goes, and lane 0 is at rest
+-- again.
 use Rattle.std.proofs.Common.{ℕ, refl, ◌≡◌, ◌+◌, ◌<◌, ◌≤◌, List, length, sym, subst, ap, ◌∙◌, map, get_or, set, arith}
 use Rattle.std.proofs.lemmas.List.{get_or-set_same}
 use Rattle.lb_queue.specs.Queue.{BookedQueue, QueueState}

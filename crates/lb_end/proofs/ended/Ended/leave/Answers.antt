@@ -1,3 +1,5 @@
+-- For `Ended::leave` of src/serving.rt: the task of a queue's next pending stop request leaves in a hand that
+-- goes where it does.
 use Rattle.std.proofs.Common.{ℕ, false, refl, ◌≡◌, ◌+◌, ◌<◌, ◌≤◌, List, length, sym, subst, ap, ◌∙◌, map, get_or, set, arith}
 use Rattle.std.proofs.lemmas.List.{get_or-set_same}
 use Rattle.lb_queue.specs.Queue.{BookedQueue, QueueState}

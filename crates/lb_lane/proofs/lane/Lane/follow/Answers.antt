@@ -1,3 +1,5 @@
+-- For `Lane::follow` of src/at_queues.rt: reads all that the queue has drawn, which stands in the closed
+-- lists: each further ticket of the lane is above it.
 use Rattle.std.proofs.Common.{refl}
 use Rattle.lb_journal.specs.contracts.journal.Journal.{the_row}
 use Rattle.lb_lane.specs.Lanes.{LaneIs}

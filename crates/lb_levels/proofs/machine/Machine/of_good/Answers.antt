@@ -1,3 +1,4 @@
+-- For `Machine::of_good` of src/machine.rt: the machine of rows and distances without a fault.
 use Rattle.std.proofs.Common.{List, map, ◌∙◌, ap, arith}
 use Rattle.lb_base.specs.declared.shape.LevelName.{LevelName}
 use Rattle.lb_levels.specs.Faults.{nodes_of}

@@ -1,3 +1,5 @@
+-- For `Machine::span` of src/machine.rt: the CPUs that share with a CPU what a level stands for, among them
+-- the CPU itself.
 use Rattle.std.proofs.Common.{length, ◌∙◌, ap, arith}
 use Rattle.lb_levels.specs.Rows.{Layout}
 use Rattle.lb_levels.specs.Spans.{levels_of, level_at, span_of}

@@ -1,3 +1,4 @@
+-- For `TaskLists::awake_len` of src/lists.rt: how many tasks are awake.
 use Rattle.std.proofs.Common.{arith, reverse}
 use Rattle.std.proofs.lemmas.List.{length-reverse}
 use Rattle.lb_queue.proofs.Keeping.{known_length}

@@ -1,3 +1,5 @@
+-- For `TaskLists::join` of src/lists.rt: a task joins the front of the awake ones, and is picked where nobody
+-- runs.
 use Rattle.std.proofs.Common.{◌≡◌, true, sym, subst}
 use Rattle.lb_base.specs.Mask.{has}
 use Rattle.lb_queue.specs.contracts.lists.TaskLists.{the_view}

@@ -1,3 +1,4 @@
+-- For `TaskLists::land` of src/lists.rt: tasks land, one after the other, for which landings are booked.
 use Rattle.std.proofs.Common.{◌<◌, arith, length}
 use Rattle.lb_queue.proofs.Landing.{landing_step}
 use Rattle.lb_queue.proofs.lists.TaskLists.land.Goals as goal

@@ -1,3 +1,4 @@
+-- For `TaskLists::mask_asleep` of src/lists.rt: the sleeping task of that id gets a mask.
 use Rattle.std.proofs.Common.{rules, ◌≡◌, ◌==◌, cond}
 use Rattle.lb_queue.specs.declared.record.TaskRecord.{TaskRecord}
 use Rattle.lb_queue.specs.contracts.lists.TaskLists.{the_view}

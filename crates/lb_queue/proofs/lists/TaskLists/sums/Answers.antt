@@ -1,3 +1,5 @@
+-- For `TaskLists::sums` of src/lists.rt: the sums of what the signals say at a moment, those of the runnable
+-- averages over the awake tasks alone.
 use Rattle.std.proofs.Common.{length, arith, reverse, refl, ap}
 use Rattle.std.proofs.lemmas.List.{length-reverse}
 use Rattle.lb_queue.specs.declared.awake.Awake.{Awake}

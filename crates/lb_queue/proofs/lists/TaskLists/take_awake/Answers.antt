@@ -1,3 +1,5 @@
+-- For `TaskLists::take_awake` of src/lists.rt: an awake task is taken out: put down where it runs, and then
+-- the one at the back is picked.
 use Rattle.lb_queue.specs.contracts.lists.TaskLists.{the_view}
 use Rattle.lb_queue.proofs.Keeping.{kept_out, unknown_down, once_awake, same_down}
 use Rattle.lb_queue.proofs.lists.TaskLists.take_awake.Goals as goal

@@ -1,3 +1,5 @@
+-- For `TaskLists::tick` of src/lists.rt: another task takes the place of the running one, and pending
+-- requests become owed.
 use Rattle.std.proofs.Common.{◌≡◌, ◌∙◌, refl, sym, ap, map, reverse, length, arith}
 use Rattle.std.proofs.lemmas.List.{length-reverse}
 use Rattle.lb_queue.specs.contracts.lists.TaskLists.{the_view}

@@ -1,3 +1,5 @@
+-- For `Queue::away` of src/queue.rt: the least CPU of the task's mask, exactly where the task sleeps here and
+-- its mask lacks this CPU: where it has to wake.
 use Rattle.std.proofs.Common.{◌∙◌, sym}
 use Rattle.lb_queue.specs.contracts.queue.Queue.{the_view}
 use Rattle.lb_queue.proofs.Replies.{away_none, away_here, away_there}

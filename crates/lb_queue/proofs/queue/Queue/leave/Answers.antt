@@ -1,3 +1,5 @@
+-- For `Queue::leave` of src/queue/hands.rt: a task that has to wake elsewhere leaves in a hand that goes
+-- there, and has room for it.
 use Rattle.std.proofs.Common.{◌≡◌, ◌∙◌, sym, subst, Some}
 use Rattle.lb_queue.specs.contracts.queue.Queue.{the_view}
 use Rattle.lb_queue.specs.Queue.{BookedQueue, away}

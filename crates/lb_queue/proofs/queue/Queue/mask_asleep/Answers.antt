@@ -1,3 +1,4 @@
+-- For `Queue::mask_asleep` of src/queue/commands.rt: sets the mask of a task that sleeps here.
 use Rattle.std.proofs.Common.{◌≡◌, ◌∙◌, sym, subst, is_some, false, true}
 use Rattle.lb_queue.specs.contracts.queue.Queue.{the_view}
 use Rattle.lb_queue.specs.Queue.{BookedQueue}

@@ -1,3 +1,4 @@
+-- For `Queue::mask_awake` of src/queue/commands.rt: sets the mask of a task that is awake here.
 use Rattle.std.proofs.Common.{◌≡◌, ◌∙◌, sym, subst, is_some, true}
 use Rattle.lb_queue.specs.contracts.queue.Queue.{the_view}
 use Rattle.lb_queue.specs.Queue.{BookedQueue}

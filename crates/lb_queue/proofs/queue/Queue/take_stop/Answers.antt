@@ -1,3 +1,5 @@
+-- For `Queue::take_stop` of src/queue/hands.rt: a task whose pending stop request goes to the hand's
+-- destination leaves in the hand, which has room for it.
 use Rattle.std.proofs.Common.{◌≡◌, ◌∙◌, sym, subst, Some}
 use Rattle.lb_queue.specs.contracts.queue.Queue.{the_view}
 use Rattle.lb_queue.specs.Queue.{BookedQueue}

@@ -1,3 +1,5 @@
+-- For `Queue::turn` of src/queue/turns.rt: opens a turn over the shapes of a version of the CPU's domains,
+-- the i-th of them of position i, for a lane.
 use Rattle.std.proofs.Common.{◌≡◌, ◌∙◌, sym, ap, refl, subst, arith}
 use Rattle.lb_queue.specs.contracts.queue.Queue.{the_view}
 use Rattle.lb_queue.specs.Queue.{BookedQueue}

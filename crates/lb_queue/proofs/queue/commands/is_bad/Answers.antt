@@ -1,3 +1,4 @@
+-- For `is_bad` of src/queue/commands.rt: whether a mask is empty, or has a CPU past the machine.
 use Rattle.std.proofs.Common.{rules, ◌≡◌, ◌<◌, ◌^◌, ◌∙◌, sym, ap, false}
 use Rattle.std.specs.Prelude.{is_none}
 use Rattle.lb_base.specs.Sets.{is_empty, is_below}

@@ -1,3 +1,4 @@
+-- For `load_all` of src/queue/hands.rt: tasks that wait leave in a hand, one after the other.
 use Rattle.std.proofs.Common.{◌<◌, ◌∙◌, ℕ, List, length, take, get_or, arith, sym, subst, ap}
 use Rattle.std.proofs.lemmas.List.{take_more, length-take-le}
 use Rattle.lb_queue.specs.declared.awake.Awake.{Awake}

@@ -1,3 +1,5 @@
+-- The loops of `due_fresh` of src/queue/turns.rt: the positions that are due by counters that are fresh at
+-- some milliseconds.
 use Rattle.std.proofs.Common.{◌≡◌, ◌&&◌, nat_lt, ℕ, map}
 use Rattle.lb_base.specs.Mask.{has}
 use Rattle.lb_interval.specs.After.{is_due}

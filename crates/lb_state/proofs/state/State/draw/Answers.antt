@@ -1,3 +1,5 @@
+-- For `State::draw` of src/state.rt: draws the serial entry of a lane, which takes up the last published
+-- version and reads each queue's last figure, and takes it.
 use Rattle.std.proofs.Common.{arith, ◌<◌, ◌≡◌, ◌+◌, true, sym, subst, Option, option_copied}
 use Rattle.std.specs.Prelude.{IfSome}
 use Rattle.lb_core.specs.declared.history.TheConstants.{MAX_TICKET}

@@ -1,3 +1,4 @@
+-- For `Summary::of` of src/summary.rt: counts the entries of a legal history, each in the state before it.
 use Rattle.std.proofs.Common.{◌≡◌, arith, List, [], length, ◌∙◌, ap, drop}
 use Rattle.std.proofs.lemmas.List.{drop_all}
 use Rattle.lb_core.specs.declared.entry.Entry.{Entry}
