@@ -78,8 +78,16 @@ cell_parts_send = declared_send cell_parts.the_type (queue.the_send, (log_send, 
 
 lane_parts_send : IsSend lane_parts.the_row
 lane_parts_send =
-    declared_send lane_parts.the_type
-    (search sendable, (course.the_send, (known.the_send, (seat.the_send journal.the_row (ghosts journal.the_row) journal_send, (search (sendable, items.the_send), tt)))))
+    declared_send lane_parts.the_type (
+      search sendable,
+      (
+        course.the_send,
+        (
+          known.the_send,
+          (seat.the_send journal.the_row (ghosts journal.the_row) journal_send, (search (sendable, items.the_send), tt)),
+        ),
+      ),
+    )
 
 -- ---- of a machine
 module _ (N : RattleType) (g : names.Ghosts N.Denot) (n : IsSend N) where

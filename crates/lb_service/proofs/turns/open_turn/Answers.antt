@@ -16,7 +16,8 @@ returns-in-Turn-Opened-clause-began g c =
     let l = c.args.lane.now in
     let i = c.in-Turn-Opened in
     began_open n.header n.book n.board the_row.coded l c.turn.new.lane c.args.kind c.args.cpu i.field-0-0 c.requires.declared
-    (due_kicks n.header l.side.course c.args.kind c.args.cpu c.requires.serving c.requires.due) (subst (λ (b : Began). BeganThere n.header n.book n.board the_row.coded c.args.lane.now c.turn.new.lane c.args.kind c.args.cpu b)
+    (due_kicks n.header l.side.course c.args.kind c.args.cpu c.requires.serving c.requires.due)
+    (subst (λ (b : Began). BeganThere n.header n.book n.board the_row.coded c.args.lane.now c.turn.new.lane c.args.kind c.args.cpu b)
     (c.in-Turn-Opened.is ∙ ap Turn c.in-Turn-Opened.field-0-is) c.in_ok-turn.ensures.ok)
 
 pub returns-in-Turn-Opened-clause-rows : goal.returns-in-Turn-Opened-clause-rows
@@ -36,7 +37,8 @@ returns-in-Turn-TurnOpen-clause-began g c =
     let n = g.N.Names in
     let l = c.args.lane.now in
     began_shut n.header n.book n.board the_row.coded l c.turn.new.lane c.args.kind c.args.cpu
-    (due_kicks n.header l.side.course c.args.kind c.args.cpu c.requires.serving c.requires.due) (subst (λ (b : Began). BeganThere n.header n.book n.board the_row.coded c.args.lane.now c.turn.new.lane c.args.kind c.args.cpu b)
+    (due_kicks n.header l.side.course c.args.kind c.args.cpu c.requires.serving c.requires.due)
+    (subst (λ (b : Began). BeganThere n.header n.book n.board the_row.coded c.args.lane.now c.turn.new.lane c.args.kind c.args.cpu b)
     (c.in-Turn-TurnOpen.is ∙ ap Turn c.in-Turn-TurnOpen.field-0-is) c.in_ok-turn.ensures.ok)
 
 pub returns-in-Turn-TurnOpen-clause-rows : goal.returns-in-Turn-TurnOpen-clause-rows

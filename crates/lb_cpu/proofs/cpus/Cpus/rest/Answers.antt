@@ -79,7 +79,8 @@ new-requires g c =
       header_is = k.header_is;
       accepted = k.accepted;
       book_is = k.book_is;
-      numbered = subst (λ (t : TableId). Numbered t 0 all) (sym k.book_is) (all_numbered n.header n.book n.board g.N.Versions.versions the_row.coded left_row.coded p lanes ls x.unused.items cells.queues.items
+      numbered = subst (λ (t : TableId). Numbered t 0 all) (sym k.book_is)
+          (all_numbered n.header n.book n.board g.N.Versions.versions the_row.coded left_row.coded p lanes ls x.unused.items cells.queues.items
           cells.seats.items cells.writers.items all left);
       owners = k.owners;
       all_seats = all_counted n.header n.book n.board g.N.Versions.versions the_row.coded left_row.coded p lanes ls x.unused.items cells.queues.items

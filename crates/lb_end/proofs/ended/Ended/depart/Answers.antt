@@ -25,14 +25,16 @@ returns-clause-on g c =
     ≡ true =
     ap (λ (f : Form). is_out_at_rest (what.Out cause.Stop c.leave.new.hand.to c.args.out) f && true) form in
     on c.closing_goes_on.ensures g.N.Names.header
-    (let lanes = c.keeps.ensures.accepted.most_lanes in omega (arith, lanes)) (17 + c.args.cpu) (item_of g.N.Names.header (owner.Queue c.args.cpu) (first_course c.follow.new.self) (first_course c.leave.new.self)
+    (let lanes = c.keeps.ensures.accepted.most_lanes in omega (arith, lanes)) (17 + c.args.cpu)
+    (item_of g.N.Names.header (owner.Queue c.args.cpu) (first_course c.follow.new.self) (first_course c.leave.new.self)
     (first_ticket c.follow.new.self) (what.Out cause.Stop c.leave.new.hand.to c.args.out)) c.args.self.now c.follow.new.self c.leave.new.self
     c.follow-2.new.self (omega arith) c.follow.ensures.seats (ap first_ticket c.follow.ensures.same) c.leave.ensures.drew
     c.follow-2.ensures.seats (ap first_ticket c.follow-2.ensures.same) refl
     (λ above.
     (c.closes_now.ensures g.N.Names.header _ _
     (under c.closing_goes_on.ensures g.N.Names.header
-    (let lanes = c.keeps.ensures.accepted.most_lanes in omega (arith, lanes)) (17 + c.args.cpu) (item_of g.N.Names.header (owner.Queue c.args.cpu) (first_course c.follow.new.self) (first_course c.leave.new.self)
+    (let lanes = c.keeps.ensures.accepted.most_lanes in omega (arith, lanes)) (17 + c.args.cpu)
+    (item_of g.N.Names.header (owner.Queue c.args.cpu) (first_course c.follow.new.self) (first_course c.leave.new.self)
     (first_ticket c.follow.new.self) (what.Out cause.Stop c.leave.new.hand.to c.args.out)) c.args.self.now c.follow.new.self c.leave.new.self
     c.follow-2.new.self (omega arith) c.follow.ensures.seats (ap first_ticket c.follow.ensures.same) c.leave.ensures.drew
     c.follow-2.ensures.seats (ap first_ticket c.follow-2.ensures.same) above)).0
@@ -50,7 +52,8 @@ returns-clause-left g c =
     ≡ true =
     ap (λ (f : Form). is_out_at_rest (what.Out cause.Stop c.leave.new.hand.to c.args.out) f && true) form in
     left c.closing_goes_on.ensures g.N.Names.header
-    (let lanes = c.keeps.ensures.accepted.most_lanes in omega (arith, lanes)) (17 + c.args.cpu) (item_of g.N.Names.header (owner.Queue c.args.cpu) (first_course c.follow.new.self) (first_course c.leave.new.self)
+    (let lanes = c.keeps.ensures.accepted.most_lanes in omega (arith, lanes)) (17 + c.args.cpu)
+    (item_of g.N.Names.header (owner.Queue c.args.cpu) (first_course c.follow.new.self) (first_course c.leave.new.self)
     (first_ticket c.follow.new.self) (what.Out cause.Stop c.leave.new.hand.to c.args.out)) c.args.self.now c.follow.new.self c.leave.new.self
     c.follow-2.new.self (omega arith) c.follow.ensures.seats (ap first_ticket c.follow.ensures.same) c.leave.ensures.drew
     c.follow-2.ensures.seats (ap first_ticket c.follow-2.ensures.same) closes
