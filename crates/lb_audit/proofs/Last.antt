@@ -14,7 +14,8 @@ ended_by : (w : What) (ended : Bool) → ended_after w ended ≡ true → ended 
 ended_by (End unserved) ended h k = tt
 ended_by w ended h k = clash ended h k
 
-ends : (entries : List Entry) (m : MachineState) → m.ended ≡ false → MayFollow entries m → (run entries m).ended ≡ true → EndsWithEnd entries
+ends : (entries : List Entry) (m : MachineState) → m.ended ≡ false → MayFollow entries m → (run entries m).ended ≡ true
+    → EndsWithEnd entries
 unfolding after
 ends [] m live may over = clash m.ended over live
 ends (e ∷ entries) m live may over =

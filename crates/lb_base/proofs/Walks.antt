@@ -48,5 +48,6 @@ passes_none m n (Some c) room found =
 pub walk_starts : (m : Mask) (o : Option ℕ) → Finds m 0 o → members_below m (passed o) ≡ []
 walk_starts m o found = passes_none m 0 o (omega arith) found ∙ members_below_none m
 
-pub walk_steps : (m : Mask) (c : ℕ) (o : Option ℕ) → IsAt m c → Finds m (c + 1) o → members_below m (passed o) ≡ members_below m c ++ c ∷ []
+pub walk_steps : (m : Mask) (c : ℕ) (o : Option ℕ) → IsAt m c → Finds m (c + 1) o
+    → members_below m (passed o) ≡ members_below m c ++ c ∷ []
 walk_steps m c o at found = passes_none m (c + 1) o (omega (arith, at.in_range)) found ∙ members_below_yes m c at.there

@@ -168,7 +168,8 @@ drew_says Publisher n c out k = k
 abbrev pub LeftOut : List Entry → MachineState → Type 0
 LeftOut pre m = (lane : ℕ) → Out_of (course_at m.courses lane) (last_said left_out lane no_cpus pre)
 
-left_out_step : (m : MachineState) (e : Entry) (pre : List Entry) → MayBeAdded m e → LeftOut pre m → LeftOut (pre ++ e ∷ []) (after m e)
+left_out_step : (m : MachineState) (e : Entry) (pre : List Entry) → MayBeAdded m e → LeftOut pre m
+    → LeftOut (pre ++ e ∷ []) (after m e)
 unfolding after course_after sight
 left_out_step m e pre a k lane = elim (cases_eq e.lane lane) [
   | inl same ↦

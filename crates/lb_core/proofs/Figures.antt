@@ -37,7 +37,8 @@ unfolding after
 even_kept m (Queue u) lane prev w h = length-set m.figures u _ ∙ h ∙ sym (length-set m.queues u _)
 even_kept m o lane prev w h = h
 
-size_kept : (m : MachineState) (o : Owner) (lane prev : ℕ) (w : What) → length (after m (entry o lane prev w)).queues ≡ length m.queues
+size_kept : (m : MachineState) (o : Owner) (lane prev : ℕ) (w : What)
+    → length (after m (entry o lane prev w)).queues ≡ length m.queues
 unfolding after
 size_kept m (Queue u) lane prev w = length-set m.queues u _
 size_kept m o lane prev w = refl
@@ -154,7 +155,8 @@ opening_figures h cpu =
       | inr b ↦ inr (b.0, let e = length-map-range_with_len (opening_queue h) 0 n in let k = b.1 in omega arith)
     ]
 
-none_come : (es : List Entry) (m : MachineState) (cpu : ℕ) → Even m → length m.queues ≤ cpu → MayFollow es m → figs (run es m) cpu ≡ []
+none_come : (es : List Entry) (m : MachineState) (cpu : ℕ) → Even m → length m.queues ≤ cpu → MayFollow es m
+    → figs (run es m) cpu ≡ []
 none_come [] m cpu h ge l = past m.figures cpu [] (omega arith)
 none_come (e ∷ es) m cpu h ge l = none_come es (after m e) cpu (even_kept m e.owner e.lane e.prev e.what h)
     (let k = size_kept m e.owner e.lane e.prev e.what in omega arith) l.1
@@ -175,7 +177,8 @@ named_by h pre cpu (suc n) l a le = let k = ap length a in
     (omega arith) (nth pre (start h) cpu n (even_start h) l le)
 
 pub named : (h : Header) (pre : List Entry) (name : FigName) → MayFollow pre (start h)
-    → name.n ≤ entries_at (run pre (start h)) name.cpu → IsFigureOf h pre name (get_or (figs (run pre (start h)) name.cpu) name.n no_fig)
+    → name.n ≤ entries_at (run pre (start h)) name.cpu
+    → IsFigureOf h pre name (get_or (figs (run pre (start h)) name.cpu) name.n no_fig)
 named h pre name l le = elim (opening_figures h name.cpu) [
   | inl a ↦
       let c = counts pre (start h) name.cpu (even_start h) l in

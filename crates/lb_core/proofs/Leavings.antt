@@ -78,7 +78,8 @@ pushes : (o : Option ℕ) (at : ℕ) (q : QueueState) (l : Leaving) → q.active
 pushes None at q l a e = nothing q l e
 pushes (Some to) at q l a e = by q _ None (TakePush at to) l refl e (λ next one masks. a)
 
-serves : (o : Option Stop) (at : ℕ) (q : QueueState) (l : Leaving) → next_stop q true ≡ o → served_out o at q ≡ Some l → IsLeft q l
+serves : (o : Option Stop) (at : ℕ) (q : QueueState) (l : Leaving) → next_stop q true ≡ o → served_out o at q ≡ Some l
+    → IsLeft q l
 serves None at q l s e = pushes q.active at q l refl e
 serves (Some stop) at q l s e = stops (Some stop) true at q l s e
 

@@ -141,7 +141,8 @@ Rest_ m es a fs b = MayFollow fs (after m b) → (run fs (after m b)).ended ≡ 
     → row_of a.what a.lane ++ rows_drawn es ≡ row_of b.what b.lane ++ rows_drawn fs → a ∷ es ≡ b ∷ fs
 
 same_from : (es fs : List Entry) (m : MachineState) → OneAtWork m → MayFollow es m → MayFollow fs m
-    → (run es m).ended ≡ true → (run fs m).ended ≡ true → AreSerial es m → AreSerial fs m → rows_drawn es ≡ rows_drawn fs → es ≡ fs
+    → (run es m).ended ≡ true → (run fs m).ended ≡ true → AreSerial es m → AreSerial fs m → rows_drawn es ≡ rows_drawn
+    fs → es ≡ fs
 same_from [] fs m one ha hb ea eb za zb rows = sym (nothing_follows fs m ea hb)
 same_from (a ∷ es) [] m one ha hb ea eb za zb rows = nothing_follows (a ∷ es) m eb ha
 same_from (a ∷ es) (b ∷ fs) m one ha hb ea eb za zb rows =

@@ -42,7 +42,8 @@ unfolding counters_found
 found_many q at version shapes h = by_version (version == q.version) refl
   where
     by_version : (b : Bool) → (version == q.version) ≡ b
-        → length (cond b (counters_or_fresh q.counters shapes) (map (fresh_at (milliseconds (clock_at q at))) shapes)) ≡ length shapes
+        → length (cond b (counters_or_fresh q.counters shapes) (map (fresh_at (milliseconds (clock_at q at))) shapes)) ≡
+        length shapes
     by_version true e = fresh_many q.counters shapes (h (eqb-true version q.version e))
     by_version false e = length-map shapes (fresh_at (milliseconds (clock_at q at)))
 
@@ -52,7 +53,8 @@ as_many None shapes h = tt
 as_many (Some cs) shapes h = sym h
 
 pub positions_below : (q : QueueState) (at : ℕ) (k : Kind) (version p : ℕ) (shapes : List Shape)
-    → (version ≡ q.version → AreMany q.counters (length shapes)) → has (positions_found q at k version shapes) p ≡ true → p < length shapes
+    → (version ≡ q.version → AreMany q.counters (length shapes)) → has (positions_found q at k version shapes) p ≡ true
+    → p < length shapes
 positions_below q at k version p shapes many h =
     let w = positions_within q at k version shapes p (λ same. as_many q.counters shapes (many same)) h in
     let l = found_many q at version shapes many in

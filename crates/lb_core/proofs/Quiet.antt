@@ -75,7 +75,8 @@ pub quiet_by : CallsKeepRest → (w : What) (s : Sight) (lane : ℕ) → turns w
 unfolding leaving ask_active kick
 quiet_by law (Did r) s lane n = answer_quiet law s.course.command s.course.at s.queue
 quiet_by law (Out cause to tasks) s lane n = out_quiet law s.course.form s.header s.course s.queue
-quiet_by law (Landed tasks) s lane n = call_quiet law s.queue (Land s.course.at (cause_of s.course) s.course.moment s.course.hand) refl
+quiet_by law (Landed tasks) s lane n = call_quiet law s.queue
+    (Land s.course.at (cause_of s.course) s.course.moment s.course.hand) refl
 quiet_by law (Turn ps) s lane n = absurd (let y : ⊥ = cc in y)
 quiet_by law (Close p w i f) s lane n = absurd (let y : ⊥ = cc in y)
 quiet_by law Over s lane n = absurd (let y : ⊥ = cc in y)

@@ -57,7 +57,8 @@ left_cell h book board c cpu q s w eq log keeps is =
 
 -- ---- a lane
 lasts : (book : TableId) (left : Coded Left) (cpus lane : ℕ) (course : Course) (ticket : ℕ) (s : SeatIs Journal)
-    (known : List Fact) (o : Option NoteIs) → IsLast book left cpus lane course ticket o → (1 ≤ lane → s.known ≡ known ++ facts_of o)
+    (known : List Fact) (o : Option NoteIs) → IsLast book left cpus lane course ticket o
+    → (1 ≤ lane → s.known ≡ known ++ facts_of o)
     → (ticket ≡ 0 → s.list ≡ []) → KnowsLast left cpus lane course ticket s
 lasts book left cpus lane course ticket s known None h e first = record {
   none = λ z. (first z, h.1);

@@ -99,4 +99,9 @@ declared_rows h rows e =
     (all_index (is_row h) rows e)
 
 pub can_be_read : (h : Header) → IsHeader h → CanBeRead h.cpus h.distances
-can_be_read h accepted = record { some = let s = accepted.some_cpu in omega arith; few = accepted.most_cpus; good = accepted.machine }
+can_be_read h accepted = record {
+  some = let s = accepted.some_cpu in omega arith;
+  few = accepted.most_cpus;
+  good =
+      accepted.machine;
+}

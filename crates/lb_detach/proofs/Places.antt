@@ -31,7 +31,8 @@ pub each_below : (p : ℕ → Bool) (n : ℕ) → All (λ i. i < n) (places p n)
 each_below p n =
     All-filter p (λ i. i < n) (range_with_len 0 n)
     (All-from_get_or (λ i. i < n) (range_with_len 0 n) 0
-    (λ i lt. let inside : i < n = rw (length-range_with_len 0 n) at lt in rw (get_or-range_with_len 0 n i 0 inside) (omega arith)))
+    (λ i lt. let inside : i < n = rw (length-range_with_len 0 n) at lt in rw (get_or-range_with_len 0 n i 0 inside)
+    (omega arith)))
 
 pub places_contain : (p : ℕ → Bool) (n i : ℕ) → i < n → p i ≡ true → Contains (places p n) i
 places_contain p zero i lt h = absurd (omega arith)
@@ -69,7 +70,13 @@ weaker_one false b h = omega arith
 -- a weaker test passes at no fewer places
 pub no_fewer : (p q : ℕ → Bool) (n : ℕ) → ((i : ℕ) → p i ≡ true → q i ≡ true) → length (places p n) ≤ length (places q n)
 no_fewer p q zero h = omega arith
-no_fewer p q (suc n) h = omega (arith, length-places_suc p n, length-places_suc q n, weaker_one (p n) (q n) (h n), no_fewer p q n h)
+no_fewer p q (suc n) h = omega (
+  arith,
+  length-places_suc p n,
+  length-places_suc q n,
+  weaker_one (p n) (q n) (h n),
+  no_fewer p q n h,
+)
 
 -- where one place fails, fewer pass than there are
 pub fewer : (p : ℕ → Bool) (n i : ℕ) → i < n → p i ≡ false → length (places p n) < n

@@ -31,7 +31,8 @@ in_cut : (cpus : List CpuRow) (table : List (List ℕ)) (part : Mask) (level cpu
     → has (cut_span cpus table part (level_at table level) cpu) k ≡ true
     → (has (span_of cpus table (level_at table level) cpu) k ≡ true) × (has part k ≡ true)
 unfolding cut_span
-in_cut cpus table part level cpu k there = and_parts _ _ (sym (has_both (span_of cpus table (level_at table level) cpu) part k) ∙ there)
+in_cut cpus table part level cpu k there = and_parts _ _
+    (sym (has_both (span_of cpus table (level_at table level) cpu) part k) ∙ there)
 
 cut_from : (cpus : List CpuRow) (table : List (List ℕ)) (part : Mask) (level cpu k : ℕ)
     → has (span_of cpus table (level_at table level) cpu) k ≡ true → has part k ≡ true

@@ -28,7 +28,8 @@ filter_congr p q a (suc n) same =
     ])
 
 -- the CPUs of a that pass a test
-pub members_passing : (m a : Mask) (q : ℕ → Bool) → ((k : ℕ) → k < 64 → has m k ≡ (has a k && q k)) → members m ≡ filter q (members a)
+pub members_passing : (m a : Mask) (q : ℕ → Bool) → ((k : ℕ) → k < 64 → has m k ≡ (has a k && q k))
+    → members m ≡ filter q (members a)
 unfolding members members_below
 members_passing m a q is =
     filter_congr (has m) (λ k. has a k && q k) 0 64 (λ k lo hi. is k (omega (arith, hi)))

@@ -39,7 +39,8 @@ position_next group cpu below level span n at =
 -- one level on
 pub level_more : (cpus : List CpuRow) (table : List (List ℕ)) (part : Mask) (cpu level : ℕ) (below : Option Shape)
     (domains : List Domain) → level < length (levels_of table)
-    → domains ++ domains_from (cut_span cpus table part) cpu (step_span cpus table part level) below (drop level (levels_of table))
+    → domains ++ domains_from (cut_span cpus table part) cpu (step_span cpus table part level) below
+    (drop level (levels_of table))
     ≡ (domains ++ cons_option (kept_domain (step_span cpus table part level) cpu below (level_at table level)
     (cut_span cpus table part (level_at table level) cpu)) [])
     ++ domains_from (cut_span cpus table part) cpu (step_span cpus table part (level + 1))

@@ -46,7 +46,8 @@ pub at_position : (cpus : List CpuRow) (table : List (List ℕ)) (parts : List M
 unfolding domains_of
 at_position cpus table parts cpu p within = by_part (part_of parts cpu) within
   where
-    by_part : (o : Option Mask) → p < length (domains_in cpus table o cpu) → (domain_at (domains_in cpus table o cpu) p).shape.position ≡ p
+    by_part : (o : Option Mask) → p < length (domains_in cpus table o cpu)
+        → (domain_at (domains_in cpus table o cpu) p).shape.position ≡ p
     by_part None within = absurd (omega (arith, within))
     by_part (Some part) within =
         at_each (λ n d. d.shape.position ≡ n) (cut_span cpus table part) cpu (λ below group level. refl)

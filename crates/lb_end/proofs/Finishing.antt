@@ -128,7 +128,8 @@ module _ (h : Header) (e0 e1 e2 e3 e4 : EndedIs) (c c' : Course) (t : ℕ) (u : 
       let cut = next_at e1.seats 1 - 1 in
       let begun : IsClosing h cut e1 =
       starts start h e1
-      (subst (λ (l : List (List (Drawn Journal))). InAll (λ d. (closing_out d.item ≡ false) × (is_end d.item.entry.what ≡ false)) l)
+      (subst (λ (l : List (List (Drawn Journal))). InAll
+      (λ d. (closing_out d.item ≡ false) × (is_end d.item.entry.what ≡ false)) l)
       (sym lists1) nothing) above in
       let ready : IsClosing h cut e3 = closing_same h e2 e3 lists3 nexts3 ticket3 cut (on.closing cut begun) in
       let none3 : pending_now h e3 ≡ None =

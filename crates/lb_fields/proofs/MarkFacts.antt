@@ -14,7 +14,8 @@ no_mark_first (p ∷ ps) lines line cut plain =
     let same : (0xEF ∷ p) ≡ line = ap (λ (l : List (List ℕ)). slice_index_or l 0 []) cut in
     cc (subst (λ (l : List ℕ). is_plain l ≡ true) (sym same) plain)
 
-pub no_mark : (text line : List ℕ) (lines : List (List ℕ)) → pieces 10 text ≡ line ∷ lines → is_plain line ≡ true → strip_bom text ≡ text
+pub no_mark : (text line : List ℕ) (lines : List (List ℕ)) → pieces 10 text ≡ line ∷ lines → is_plain line ≡ true
+    → strip_bom text ≡ text
 unfolding strip_bom
 no_mark [] line lines cut plain = refl
 no_mark (a ∷ []) line lines cut plain = refl

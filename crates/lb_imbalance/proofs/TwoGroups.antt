@@ -22,5 +22,6 @@ below m n fits k here = elim (cases_lt k n)
 pub apart : (a b : Mask) → bit_and a.bits b.bits ≡ 0 → (k : ℕ) → has a k ≡ true → has b k ≡ false
 unfolding has
 apart a b e k here =
-    let both : (has a k && has b k) ≡ false = sym (bit_set_and a.bits b.bits k) ∙ ap (λ (n : ℕ). bit_set n k) e ∙ bit_set_zero k in
+    let both : (has a k && has b k) ≡ false = sym (bit_set_and a.bits b.bits k) ∙ ap (λ (n : ℕ). bit_set n k) e ∙
+    bit_set_zero k in
     rw here at both

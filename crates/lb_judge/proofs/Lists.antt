@@ -8,7 +8,8 @@ cut xs i d lt = drop-cons xs i d lt ∙ ap (λ (k : ℕ). get_or xs i d ∷ drop
 
 -- two lists of one place more
 pub same_more : (xs ys : List ℕ) (i : ℕ) → i < length xs → i < length ys
-    → same_numbers (drop i xs) (drop i ys) ≡ ((get_or xs i 0 == get_or ys i 0) && same_numbers (drop (i + 1) xs) (drop (i + 1) ys))
+    → same_numbers (drop i xs) (drop i ys) ≡
+    ((get_or xs i 0 == get_or ys i 0) && same_numbers (drop (i + 1) xs) (drop (i + 1) ys))
 same_more xs ys i lt lt' = rw (cut xs i 0 lt, cut ys i 0 lt') refl
 
 -- lists of two lengths differ

@@ -69,7 +69,8 @@ none_overlap parts fine second within =
         → option_and_then (λ second. option_map (λ first. Overlap first second) (first_sharing parts second)) o ≡ None → o ≡ None
     no_second parts None shares fine = refl
     no_second parts (Some second) shares fine =
-        absurd (both_ways _ (ap is_some (unmapped (λ first. Overlap first second) (first_sharing parts second) fine)) (shares second refl))
+        absurd (both_ways _ (ap is_some (unmapped (λ first. Overlap first second) (first_sharing parts second) fine))
+        (shares second refl))
 
 pairs_apart : (parts : List Mask) → first_overlap parts ≡ None → (i j : ℕ) → i < j → j < length parts
     → are_apart (part_at parts i) (part_at parts j) ≡ true

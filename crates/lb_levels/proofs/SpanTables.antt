@@ -15,13 +15,15 @@ pub length-spans_of : (cpus : List CpuRow) (table : List (List ℕ)) → length 
 unfolding spans_of
 length-spans_of cpus table = length-map (levels_of table) (spans_at cpus table)
 
-length-spans_at : (cpus : List CpuRow) (table : List (List ℕ)) (level : LevelName) → length (spans_at cpus table level) ≡ length cpus
+length-spans_at : (cpus : List CpuRow) (table : List (List ℕ)) (level : LevelName)
+    → length (spans_at cpus table level) ≡ length cpus
 unfolding spans_at
 length-spans_at cpus table level = length-map (range_with_len 0 (length cpus)) (span_of cpus table level)
     ∙ length-range_with_len 0 (length cpus)
 
 spans_of_at : (cpus : List CpuRow) (table : List (List ℕ)) (level : ℕ) (row : List Mask)
-    → level < length (levels_of table) → slice_get (spans_of cpus table) level ≡ Some row → row ≡ spans_at cpus table (level_at table level)
+    → level < length (levels_of table) → slice_get (spans_of cpus table) level ≡ Some row → row ≡ spans_at cpus table
+    (level_at table level)
 unfolding spans_of
 spans_of_at cpus table level row within e =
     let none : List Mask = [] in

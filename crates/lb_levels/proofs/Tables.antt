@@ -27,7 +27,8 @@ unfolding is_bad_distance
 bad_row_is table a square within =
     let none : List ℕ = [] in
     rw (sym (take_more table a none within), length-take-le a table (omega (arith, within)), square a within)
-    (same_any (is_bad_entry (take (a + 1) table) a) (is_bad_entry table a) (range_with_len 0 (length table)) (bad_entry_is table a))
+    (same_any (is_bad_entry (take (a + 1) table) a) (is_bad_entry table a) (range_with_len 0 (length table))
+    (bad_entry_is table a))
 
 -- a row past the nodes
 pub past_is_misfit : (nodes : ℕ) (table : List (List ℕ)) → is_misfit nodes table nodes ≡ true

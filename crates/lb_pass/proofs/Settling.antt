@@ -118,7 +118,8 @@ ends_pulled h book board code l m l' t x further none =
         looks_end = inl (record {
           same = refl;
           landed = left.form;
-          last = false_from_ne_true (looks_again h l'.side.course) (λ again. let e = none (further left.form again) in let y : ⊥ = cc in y);
+          last = false_from_ne_true (looks_again h l'.side.course)
+              (λ again. let e = none (further left.form again) in let y : ⊥ = cc in y);
         });
       };
       stays = still l m l' t.stays (attempt_stays h book board code m l' x);

@@ -45,7 +45,8 @@ sum_fits part e v small fits =
           let some : 0 < p = omega arith in
           let rest = decayed_times 1024 (1024 - part) p in
           let both = decayed_sum v (1024 * (1024 - part)) p in
-          let whole : decayed (v + 1024 * (1024 - part)) p ≤ decayed (1024 * 47742 + 49152) p = decayed_mono _ _ p (omega arith) in
+          let whole : decayed (v + 1024 * (1024 - part)) p ≤ decayed (1024 * 47742 + 49152) p = decayed_mono _ _ p
+          (omega arith) in
           let r = room p some in
           rw (kept_some p v n, contribution_across part e n) (omega arith)
     ]

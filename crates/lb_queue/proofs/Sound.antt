@@ -223,7 +223,8 @@ low_asleep i u r s t l low high none e = elim (cases_Bool (eqb i u)) [
   | inr other ↦ (let z : cond {A = ℕ} (eqb i u) 1 0 ≡ 0 = cond-false {A = ℕ} (eqb i u) 1 0 other in omega arith)
 ]
 
-pushed_ids : (u : ℕ) (xs : List TaskRecord) (t : TaskRecord) → occurs u (ids (xs ++ t ∷ [])) ≡ occurs u (ids xs) + cond (t.id == u) 1 0
+pushed_ids : (u : ℕ) (xs : List TaskRecord) (t : TaskRecord) → occurs u (ids (xs ++ t ∷ [])) ≡ occurs u (ids xs) + cond
+    (t.id == u) 1 0
 pushed_ids u xs t = let k = occurs-map_append name u xs (t ∷ []) in omega arith
 
 pub sound_asleep : (cpu : ℕ) (awake : List Awake) (asleep gone : List TaskRecord) (t : TaskRecord) → t.id < id_limit

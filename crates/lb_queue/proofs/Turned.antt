@@ -48,11 +48,13 @@ map_reverse f (x ∷ xs) = ap (map f) (reverse-append (x ∷ []) xs) ∙ map-app
     ∙ ap (λ zs. zs ++ f x ∷ []) (map_reverse f xs) ∙ sym (reverse-append (f x ∷ []) (map f xs))
 
 -- ---- what is found from either end
-passed : {X : Type 0} (y : X) (b : Bool) (o q r : Option X) → cond b (Some y) o ≡ None → (o ≡ None → q ≡ r) → cond b (Some y) q ≡ r
+passed : {X : Type 0} (y : X) (b : Bool) (o q r : Option X) → cond b (Some y) o ≡ None → (o ≡ None → q ≡ r)
+    → cond b (Some y) q ≡ r
 passed y true o q r h e = absurd (let z : ⊥ = cc in z)
 passed y false o q r h e = e h
 
-find_push : {X : Type 0} (p : X → Bool) (ys : List X) (x : X) → find p ys ≡ None → find p (ys ++ x ∷ []) ≡ cond (p x) (Some x) None
+find_push : {X : Type 0} (p : X → Bool) (ys : List X) (x : X) → find p ys ≡ None → find p (ys ++ x ∷ []) ≡ cond (p x)
+    (Some x) None
 find_push p [] x h = refl
 find_push p (y ∷ ys) x h = passed y (p y) _ _ _ h (find_push p ys x)
 

@@ -10,7 +10,8 @@ unfoldable pub each_onto : {A : Type 0} → (List ℕ → Option A) → List A �
 each_onto read found pieces = option_map (λ more. found ++ more) (each read pieces)
 
 onto_more : {A : Type 0} (found : List A) (a : A) (rest : Option (List A))
-    → option_map (λ more. found ++ more) (option_map (λ more. a ∷ more) rest) ≡ option_map (λ more. (found ++ a ∷ []) ++ more) rest
+    → option_map (λ more. found ++ more) (option_map (λ more. a ∷ more) rest) ≡ option_map
+    (λ more. (found ++ a ∷ []) ++ more) rest
 onto_more found a None = refl
 onto_more found a (Some more) = ap Some (sym (append_assoc found (a ∷ []) more))
 

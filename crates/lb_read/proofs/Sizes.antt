@@ -228,7 +228,8 @@ headers_have_room h a few =
     let behind = text_append (map distances_body h.distances) tail in
     let whole = text_append (numbered cpu_body 0 h.cpus) (map distances_body h.distances ++ tail) in
     let first = line_length (codes "lbtrace,1") (bodies h.cpus h.distances (Some h.parts) (Some h.lanes) h.tasks) in
-    let same : length (trace_text (trace_lines h)) ≡ length (trace_text (bodies h.cpus h.distances (Some h.parts) (Some h.lanes) h.tasks)) =
+    let same : length (trace_text (trace_lines h)) ≡ length
+    (trace_text (bodies h.cpus h.distances (Some h.parts) (Some h.lanes) h.tasks)) =
     ap (λ ls. length (trace_text ls)) (lines_are h) in
     omega (
       arith,

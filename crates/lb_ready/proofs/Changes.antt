@@ -46,7 +46,8 @@ pub course_of_lane : (m : MachineState) (e : Entry) → MayBeAdded m e → cours
 unfolding after
 course_of_lane m e h = get_or-set_same m.courses e.lane _ no_course (lane_there m e h)
 
-pub course_elsewhere : (m : MachineState) (e : Entry) (l : ℕ) → (l ≡ e.lane → ⊥) → course_at (after m e).courses l ≡ course_at m.courses l
+pub course_elsewhere : (m : MachineState) (e : Entry) (l : ℕ) → (l ≡ e.lane → ⊥) → course_at (after m e).courses
+    l ≡ course_at m.courses l
 unfolding after
 course_elsewhere m e l n = get_or-set_other m.courses e.lane l (course_left m e) no_course n
 
@@ -154,7 +155,8 @@ sizes_kept m o lane prev w k h =
       few_versions = let a = (versions_more w (sight m e).course.command m.versions).1 in let b = k.few_versions in omega arith;
       published = λ cpu lt. let b = k.published cpu lt in let c =
           figures_now m o lane prev w cpu (k.queues ∙ sym k.figures) h in by_test (same_owner o (Queue cpu)) cpu lt c;
-      drawn = λ cpu. let a = (drawn_more m o lane prev w cpu (k.queues ∙ sym k.figures) h).1 in let b = k.drawn cpu in omega arith;
+      drawn = λ cpu. let a = (drawn_more m o lane prev w cpu (k.queues ∙ sym k.figures) h).1 in let b = k.drawn cpu in
+          omega arith;
       lasts = length-set m.last lane (m.ticket + 1) ∙ k.lasts;
       ticks = ticks_same w lane m.ticked ∙ k.ticks;
       last = set_under m.last (λ l. m.ticket + 1) lane (m.ticket + 1) (omega arith) (λ l. let b = k.last l in omega arith);

@@ -16,7 +16,8 @@ pub record IsStaged (m : MachineState) (e : Entry) : Type 0 where
   pub lane : e.lane < length m.courses
   pub owner_there : is_undeclared_owner m e.owner ≡ false
   pub owner : is_owner e.what e.lane (queue_due (course_at m.courses e.lane).form (course_at m.courses e.lane)) e.owner ≡ true
-  pub drawn : draws (course_at m.courses e.lane).form m.header (course_at m.courses e.lane) (owned_queue e.owner m) e.lane e.what ≡ true
+  pub drawn : draws (course_at m.courses e.lane).form m.header (course_at m.courses e.lane) (owned_queue e.owner m)
+      e.lane e.what ≡ true
   pub at_rest : stage_at_rest (course_at m.courses e.lane).form m e.owner e.what ≡ false
   pub used : stage_of_use m (course_at m.courses e.lane) e.what ≡ false
 
@@ -39,4 +40,5 @@ staged m e h =
 
 pub staged_cpu : (m : MachineState) (cpu lane prev : ℕ) (w : What)
     → breaks m (entry (Queue cpu) lane prev w) Stage ≡ false → cpu < length m.queues
-staged_cpu m cpu lane prev w h = ltb-true cpu (length m.queues) (not-false _ (staged m (entry (Queue cpu) lane prev w) h).owner_there)
+staged_cpu m cpu lane prev w h = ltb-true cpu (length m.queues)
+    (not-false _ (staged m (entry (Queue cpu) lane prev w) h).owner_there)

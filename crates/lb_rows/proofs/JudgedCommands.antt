@@ -46,11 +46,13 @@ use Rattle.lb_rows.specs.Commands.{nothing_happens_history, woken_away_history, 
 pub nothing_happens : fault_of nothing_happens_history ≡ None
 unfolding
     has members_below members first_cpus only both either without least least_above is_below are_apart mask_where total
-    is_first_greatest first_greatest weights weight_of inverses inverse_at decayed advanced_by advanced signal_value counters_after
+    is_first_greatest first_greatest weights weight_of inverses inverse_at decayed advanced_by advanced signal_value
+    counters_after
     refuses task_at left_before refused_at taken refused free ends examined ids_at picked_ids kept_ids average_after
     is_tickless tickless_cpus idle_count any_marked stats_of is_busier may_be_busiest is_busier_at busiest_of
     may_be_source has_more source_of
-    is_idle_in first_idle balancer_of is_level imbalance_of all_stats domain_average pull_or_balanced pull_from_group decision_over decision
+    is_idle_in first_idle balancer_of is_level imbalance_of all_stats domain_average pull_or_balanced pull_from_group
+    decision_over decision
     distances_of levels_of span_of cut_span firsts is_kept domains_of
     pick_back somebody_runs joined left_by away value_of view_at views figure wake sleep exit set_mask renice
     has_pending has_owed next_asked rotated tick ask_active kick leave take_stop pushed take_push in_order take_pull taken_by land
@@ -62,11 +64,13 @@ nothing_happens = refl
 pub woken_away : fault_of woken_away_history ≡ None
 unfolding
     has members_below members first_cpus only both either without least least_above is_below are_apart mask_where total
-    is_first_greatest first_greatest weights weight_of inverses inverse_at decayed advanced_by advanced signal_value counters_after
+    is_first_greatest first_greatest weights weight_of inverses inverse_at decayed advanced_by advanced signal_value
+    counters_after
     refuses task_at left_before refused_at taken refused free ends examined ids_at picked_ids kept_ids average_after
     is_tickless tickless_cpus idle_count any_marked stats_of is_busier may_be_busiest is_busier_at busiest_of
     may_be_source has_more source_of
-    is_idle_in first_idle balancer_of is_level imbalance_of all_stats domain_average pull_or_balanced pull_from_group decision_over decision
+    is_idle_in first_idle balancer_of is_level imbalance_of all_stats domain_average pull_or_balanced pull_from_group
+    decision_over decision
     distances_of levels_of span_of cut_span firsts is_kept domains_of
     pick_back somebody_runs joined left_by away value_of view_at views figure wake sleep exit set_mask renice
     has_pending has_owed next_asked rotated tick ask_active kick leave take_stop pushed take_push in_order take_pull taken_by land
@@ -78,11 +82,13 @@ woken_away = refl
 pub hand_brings_its_clock : fault_of hand_brings_its_clock_history ≡ None
 unfolding
     has members_below members first_cpus only both either without least least_above is_below are_apart mask_where total
-    is_first_greatest first_greatest weights weight_of inverses inverse_at decayed advanced_by advanced signal_value counters_after
+    is_first_greatest first_greatest weights weight_of inverses inverse_at decayed advanced_by advanced signal_value
+    counters_after
     refuses task_at left_before refused_at taken refused free ends examined ids_at picked_ids kept_ids average_after
     is_tickless tickless_cpus idle_count any_marked stats_of is_busier may_be_busiest is_busier_at busiest_of
     may_be_source has_more source_of
-    is_idle_in first_idle balancer_of is_level imbalance_of all_stats domain_average pull_or_balanced pull_from_group decision_over decision
+    is_idle_in first_idle balancer_of is_level imbalance_of all_stats domain_average pull_or_balanced pull_from_group
+    decision_over decision
     distances_of levels_of span_of cut_span firsts is_kept domains_of
     pick_back somebody_runs joined left_by away value_of view_at views figure wake sleep exit set_mask renice
     has_pending has_owed next_asked rotated tick ask_active kick leave take_stop pushed take_push in_order take_pull taken_by land
@@ -94,11 +100,13 @@ hand_brings_its_clock = refl
 pub commands_refused : fault_of commands_refused_history ≡ None
 unfolding
     has members_below members first_cpus only both either without least least_above is_below are_apart mask_where total
-    is_first_greatest first_greatest weights weight_of inverses inverse_at decayed advanced_by advanced signal_value counters_after
+    is_first_greatest first_greatest weights weight_of inverses inverse_at decayed advanced_by advanced signal_value
+    counters_after
     refuses task_at left_before refused_at taken refused free ends examined ids_at picked_ids kept_ids average_after
     is_tickless tickless_cpus idle_count any_marked stats_of is_busier may_be_busiest is_busier_at busiest_of
     may_be_source has_more source_of
-    is_idle_in first_idle balancer_of is_level imbalance_of all_stats domain_average pull_or_balanced pull_from_group decision_over decision
+    is_idle_in first_idle balancer_of is_level imbalance_of all_stats domain_average pull_or_balanced pull_from_group
+    decision_over decision
     distances_of levels_of span_of cut_span firsts is_kept domains_of
     pick_back somebody_runs joined left_by away value_of view_at views figure wake sleep exit set_mask renice
     has_pending has_owed next_asked rotated tick ask_active kick leave take_stop pushed take_push in_order take_pull taken_by land
@@ -110,11 +118,13 @@ commands_refused = refl
 pub rebuilt : fault_of rebuilt_history ≡ None
 unfolding
     has members_below members first_cpus only both either without least least_above is_below are_apart mask_where total
-    is_first_greatest first_greatest weights weight_of inverses inverse_at decayed advanced_by advanced signal_value counters_after
+    is_first_greatest first_greatest weights weight_of inverses inverse_at decayed advanced_by advanced signal_value
+    counters_after
     refuses task_at left_before refused_at taken refused free ends examined ids_at picked_ids kept_ids average_after
     is_tickless tickless_cpus idle_count any_marked stats_of is_busier may_be_busiest is_busier_at busiest_of
     may_be_source has_more source_of
-    is_idle_in first_idle balancer_of is_level imbalance_of all_stats domain_average pull_or_balanced pull_from_group decision_over decision
+    is_idle_in first_idle balancer_of is_level imbalance_of all_stats domain_average pull_or_balanced pull_from_group
+    decision_over decision
     distances_of levels_of span_of cut_span firsts is_kept domains_of
     pick_back somebody_runs joined left_by away value_of view_at views figure wake sleep exit set_mask renice
     has_pending has_owed next_asked rotated tick ask_active kick leave take_stop pushed take_push in_order take_pull taken_by land

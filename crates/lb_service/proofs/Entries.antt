@@ -103,7 +103,8 @@ unfolding course_after
 shut_left h c l kicks = end_serves h l.course c.log.writer.cpu (length c.log.seat.list + 1) kicks
 
 pub kicked_serves : (h : Header) (book : TableId) (board : List TableId) (code : Coded Journal) (l l' : LaneIs) (cpu : ℕ)
-    (r : AskReply) → ScannedAreDeclared h Nohz l.side.course → KickedThere h book board code l l' cpu r → StillDue h l'.side.course
+    (r : AskReply) → ScannedAreDeclared h Nohz l.side.course → KickedThere h book board code l l' cpu r
+    → StillDue h l'.side.course
 kicked_serves h book board code l l' cpu r kicks x =
     subst (StillDue h) (sym (there_course h book board code l l' cpu (whats.Kick r) x.there))
     (kick_left h x.there.before l.side r kicks)
@@ -144,7 +145,8 @@ unfolding course_after
 scan_rows_left h l figs = by (target_among figs)
   where
     by : (o : Option ℕ)
-        → (scanned o (record l.course { figures = figs; named = raised_numbers (names_of figs) l.course.named })).rows ≡ l.course.rows
+        → (scanned o (record l.course { figures = figs; named = raised_numbers (names_of figs) l.course.named })).rows ≡
+        l.course.rows
     by None = refl
     by (Some p) = refl
 

@@ -36,7 +36,8 @@ given h (Some r) k rows e = rw e (all_one (is_row h) r k)
 
 -- at rest it is that row, and at work none
 rows_fit : (f : Form) (h : Header) (c : Course) (q : QueueState) (row : Option Row) (lane : ℕ) (w : What)
-    → draws f h c q lane w ≡ true → IfSome row (λ r. is_row h r ≡ true) → Takes f row lane w → list_all (is_row h) (row_of w lane) ≡ true
+    → draws f h c q lane w ≡ true → IfSome row (λ r. is_row h r ≡ true) → Takes f row lane w
+    → list_all (is_row h) (row_of w lane) ≡ true
 unfolding draws
 rows_fit Rest h c q row lane w d k t = given h row k (row_of w lane) t
 rows_fit f h c q row lane (RowEntry n at command) d k t = absurd (let y : ⊥ = cc in y)

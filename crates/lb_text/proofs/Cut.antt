@@ -9,7 +9,8 @@ abbrev pub onto_front : List ℕ → List (List ℕ) → List (List ℕ)
 onto_front front [] = front ∷ []
 onto_front front (piece ∷ others) = (front ++ piece) ∷ others
 
-onto_front-first : (front : List ℕ) (b : ℕ) (ps : List (List ℕ)) → onto_front front (onto_first b ps) ≡ onto_front (front ++ b ∷ []) ps
+onto_front-first : (front : List ℕ) (b : ℕ) (ps : List (List ℕ)) → onto_front front (onto_first b ps) ≡ onto_front
+    (front ++ b ∷ []) ps
 onto_front-first front b [] = refl
 onto_front-first front b (p ∷ ps) = ap (λ (t : List ℕ). t ∷ ps) (sym (append_assoc front (b ∷ []) p))
 

@@ -55,7 +55,8 @@ inside inner outer front piece tail at p b lt go =
 
 first_bad_here : (inner outer : List ℕ → Bool) (front piece tail : List ℕ) (at : ℕ)
     → IsPlaced inner outer front piece tail → inner piece ≡ false → IsFirstBad inner piece at
-    → length front + at < length (front ++ (piece ++ tail)) → CanGoOn outer (take (length front + at + 1) (front ++ (piece ++ tail))) → ⊥
+    → length front + at < length (front ++ (piece ++ tail))
+    → CanGoOn outer (take (length front + at + 1) (front ++ (piece ++ tail))) → ⊥
 first_bad_here inner outer front piece [] at p bad b lt go = elim (cases_lt at (length piece)) [
   | inl within ↦ inside inner outer front piece [] at p b within go
   | inr past ↦ omega (arith, lt, length-append front (piece ++ []), length-append piece [])

@@ -15,7 +15,8 @@ pub record HasServed (rows : List Row) (passed : ℕ) (l l' : LaneIs) : Type 0 w
 
 -- ---- the next row
 module _ {A : Type 0} (p : A → Bool) where
-  behind : (b : Bool) (y : A) (xs ys : List A) → slice_get (cond b (y ∷ ys) ys) (length (cond b (y ∷ xs) xs)) ≡ slice_get ys (length xs)
+  behind : (b : Bool) (y : A) (xs ys : List A) → slice_get (cond b (y ∷ ys) ys)
+      (length (cond b (y ∷ xs) xs)) ≡ slice_get ys (length xs)
   behind true y xs ys = refl
   behind false y xs ys = refl
 

@@ -17,7 +17,8 @@ passes ((false, code) ∷ tests) given value e =
     record { same = rest.same; good = rest.good }
 
 -- a code that is given is the first, and the first is given
-pub first_code : {A : Type 0} (tests : Tests) (given : A) (code : Code) → unless_bad tests given ≡ Err code → IsFirstCode tests code
+pub first_code : {A : Type 0} (tests : Tests) (given : A) (code : Code) → unless_bad tests given ≡ Err code
+    → IsFirstCode tests code
 first_code [] given code e = absurd (cc)
 first_code ((true, other) ∷ tests) given code e =
     record { before = []; after = tests; place = ap (λ c. (true, c) ∷ tests) (cc); first = refl }

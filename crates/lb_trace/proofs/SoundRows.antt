@@ -44,7 +44,8 @@ row_in r kind fields few good =
     (le-leb (number (moment_in fields)) MAX_MOMENT (number_in 2 0 MAX_MOMENT fields numbers.1).1))
     (command_in r kind fields few good)
 
-ticks_in : (r : Reading) (kind : RowKind) (fields : List (List ℕ)) → IsGood r (kinds.Row kind) fields → Agrees (row_of kind fields) r.rows
+ticks_in : (r : Reading) (kind : RowKind) (fields : List (List ℕ)) → IsGood r (kinds.Row kind) fields
+    → Agrees (row_of kind fields) r.rows
 unfolding is_ticked_beside
 ticks_in r rows.Wake fields good = quiet_agrees _ r.rows refl
 ticks_in r rows.Sleep fields good = quiet_agrees _ r.rows refl

@@ -34,7 +34,8 @@ within_is least most text = both (is_numeral text) (nat_le least (digits_value 1
     both true false c h = tt
     both false b c h = tt
 
-then_is : {A B : Type 0} (P : B → Type 0) (o : Option A) (f : A → Option B) → ((a : A) → IfSome (f a) P) → IfSome (option_and_then f o) P
+then_is : {A B : Type 0} (P : B → Type 0) (o : Option A) (f : A → Option B) → ((a : A) → IfSome (f a) P)
+    → IfSome (option_and_then f o) P
 then_is P None f each = tt
 then_is P (Some a) f each = each a
 
@@ -109,8 +110,14 @@ length-masks_from i fields = length-map (drop i fields) (λ field. list (list_of
 
 -- ---- distances
 pub length-distances_in : (fields : List (List ℕ)) → length (distances_in fields) ≡ length fields - 1
-length-distances_in fields = length-map (drop 1 fields) (λ field. number (number_within 1 MAX_DISTANCE field)) ∙ length-drop 1 fields
+length-distances_in fields = length-map (drop 1 fields) (λ field. number (number_within 1 MAX_DISTANCE field)) ∙
+    length-drop 1 fields
 
 -- ---- how many
 pub few_fields : (mark : ℕ) (line : List ℕ) → length (pieces mark line) ≤ length line + 1
-few_fields mark line = omega (arith, length-slice_split (λ byte. byte == mark) line, count_by-le-length (λ byte. byte == mark) line)
+few_fields mark line = omega (
+  arith,
+  length-slice_split (λ byte. byte == mark) line,
+  count_by-le-length
+      (λ byte. byte == mark) line,
+)

@@ -29,7 +29,8 @@ pub some_line : (mark : ℕ) (text : List ℕ) → 0 < length (pieces mark text)
 some_line mark text = omega (arith, length-slice_split (λ byte. byte == mark) text)
 
 onto_short : (byte most : ℕ) (ps : List (List ℕ)) → 0 < most
-    → list_all (λ part. nat_le (length part + 1) most) ps ≡ true → list_all (λ part. nat_le (length part) most) (onto_first byte ps) ≡ true
+    → list_all (λ part. nat_le (length part + 1) most) ps ≡ true → list_all (λ part. nat_le (length part) most)
+    (onto_first byte ps) ≡ true
 onto_short byte most [] some short = and_from _ _ (le-leb 1 most some) refl
 onto_short byte most (p ∷ ps) some short =
     let each = and_parts _ _ short in

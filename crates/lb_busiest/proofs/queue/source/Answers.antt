@@ -37,4 +37,7 @@ pub returns : goal.returns
 returns c =
     let found : Picks (may_be_source c.args.figs.now c.args.group c.args.kind c.args.imbalance)
     (has_more c.args.figs.now c.args.kind) MAX_CPUS c.loop-next.best = rw c.in_default.is at c.loop-next.invariant in
-    record { value = source_of-found c.args.figs.now c.args.group c.args.kind c.args.imbalance c.loop-next.best found; first = found }
+    record {
+      value = source_of-found c.args.figs.now c.args.group c.args.kind c.args.imbalance c.loop-next.best found;
+      first = found;
+    }

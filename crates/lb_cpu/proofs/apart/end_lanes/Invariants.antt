@@ -9,7 +9,8 @@ use Rattle.lb_cpu.proofs.apart.end_lanes.Given as goal
 
 abbrev pub invariant-loop-lane : goal.invariant-loop-lane
 invariant-loop-lane g l = record {
-  so_far : EachOfTwo (LeftLane g.N.Names.header g.N.Names.book g.N.Names.board g.N.Versions.versions the_row.coded left_row.coded) l.yielded l.seats.items;
+  so_far : EachOfTwo (LeftLane g.N.Names.header g.N.Names.book g.N.Names.board g.N.Versions.versions the_row.coded
+      left_row.coded) l.yielded l.seats.items;
   readers : l.readers.items ≡ map (λ x. x.side.known.reader) l.yielded;
   lookers : l.lookers.items ≡ map (λ x. x.looker) l.yielded;
   courses : l.courses.items ≡ map (λ x. x.side.course) l.yielded;

@@ -18,7 +18,8 @@ returns-then-not-is_kept c =
     let level = level_at c.args.machine.now.distances c.args.level in
     let span = c.step_span-span.ensures ∙ step_up c.args.machine.now.cpus c.args.machine.now.distances c.args.part
     c.args.level c.args.cpu in
-    is_dropped (step_span c.args.machine.now.cpus c.args.machine.now.distances c.args.part c.args.level) c.args.cpu c.args.below level
+    is_dropped (step_span c.args.machine.now.cpus c.args.machine.now.distances c.args.part c.args.level) c.args.cpu
+    c.args.below level
     (cut_span c.args.machine.now.cpus c.args.machine.now.distances c.args.part level c.args.cpu)
     (sym (c.if-not-is_kept.ensures ∙ ap (is_kept c.args.below) span))
 

@@ -38,7 +38,8 @@ decide_over-requires-clause-ranges c =
 
 pub decide_over-requires-clause-load : goal.decide_over-requires-clause-load
 decide_over-requires-clause-load c =
-    rw (c.stats_of_groups-stats.ensures, all_loads c.args.shape.now c.args.groups.now c.args.figs.now c.args.excluded) c.requires.sums.load
+    rw (c.stats_of_groups-stats.ensures, all_loads c.args.shape.now c.args.groups.now c.args.figs.now c.args.excluded)
+    c.requires.sums.load
 
 pub decide_over-requires-clause-some_cap : goal.decide_over-requires-clause-some_cap
 decide_over-requires-clause-some_cap c =

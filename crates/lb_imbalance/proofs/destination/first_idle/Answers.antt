@@ -8,7 +8,8 @@ use Rattle.lb_imbalance.proofs.destination.first_idle.Goals.{In-Some}
 pub loop-next-init : goal.loop-next-init
 loop-next-init c = record {
   at = stands c.args.group 0 c.first-next.result c.first-next.ensures.cpus;
-  none = none_passed c.args.figs.now c.args.group 0 c.first-next.result (λ k lt. absurd (omega (arith, lt))) c.first-next.ensures.cpus;
+  none = none_passed c.args.figs.now c.args.group 0 c.first-next.result (λ k lt. absurd (omega (arith, lt)))
+      c.first-next.ensures.cpus;
 }
 
 at : (c : In-Some) → IsAt c.args.group c.in-Some.cpu

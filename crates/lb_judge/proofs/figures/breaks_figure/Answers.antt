@@ -12,7 +12,8 @@ are_wrong-requires-clause-due c = rw c.course-course.ensures
 
 pub are_wrong-requires-in-Scan-clause-turn : goal.are_wrong-requires-in-Scan-clause-turn
 are_wrong-requires-in-Scan-clause-turn c =
-    rw c.course-course.ensures (staged_scan c.args.engine.now.machine c.args.entry.now _ _ c.requires.ready c.requires.stage c.in-Scan.is)
+    rw c.course-course.ensures (staged_scan c.args.engine.now.machine c.args.entry.now _ _ c.requires.ready
+    c.requires.stage c.in-Scan.is)
 
 pub are_wrong-requires-in-Scan-clause-due : goal.are_wrong-requires-in-Scan-clause-due
 are_wrong-requires-in-Scan-clause-due c =

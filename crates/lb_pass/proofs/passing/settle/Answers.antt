@@ -30,5 +30,6 @@ loop-preserved g c = (
   tt,
   tt,
   one_more g.N.Names.header g.N.Names.book g.N.Names.board _ c.args.lane.now c.loop.lane c.attempt.new.lane
-      c.loop.invariant.2 (pull_of _ _ c.in_ok-pulled.pulled c.if-not-pulled.false c.in_ok-pulled.ensures.ok) (c.if-not-can_look.ensures.0 refl),
+      c.loop.invariant.2 (pull_of _ _ c.in_ok-pulled.pulled c.if-not-pulled.false c.in_ok-pulled.ensures.ok)
+      (c.if-not-can_look.ensures.0 refl),
 )

@@ -16,7 +16,8 @@ returns-in-Some-clause-rest c = c.remove.ensures.items
 
 pub returns-in-None-clause-found : goal.returns-in-None-clause-found
 returns-in-None-clause-found c = sym (find_of_no_position
-    (λ (t : TaskRecord). t.id == c.args.id) c.args.tasks.now.items (rw c.deref.ensures.value at (sym c.place_of.ensures ∙ c.in-None.is)))
+    (λ (t : TaskRecord). t.id == c.args.id) c.args.tasks.now.items
+    (rw c.deref.ensures.value at (sym c.place_of.ensures ∙ c.in-None.is)))
 
 pub returns-in-None-clause-rest : goal.returns-in-None-clause-rest
 returns-in-None-clause-rest c =

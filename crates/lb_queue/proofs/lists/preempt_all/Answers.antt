@@ -11,7 +11,8 @@ loop-a-preserved c =
     let f = preempted c.args.clock in
     let i = c.loop-a.a-index in
     let before = c.args.awake.now.items in
-    let here : i < length before = let k = c.loop-a-test.true in let l = ap length c.deref_mut-a-items.ensures.value in omega arith in
+    let here : i < length before = let k = c.loop-a-test.true in let l = ap length c.deref_mut-a-items.ensures.value in
+    omega arith in
     ap (λ (xs : List Awake). set xs i c.preempt.new.self) c.loop-a.invariant
     ∙ mapped_set f i before c.preempt.new.self c.a-item.result here
     (c.preempt.ensures ∙ ap f (ap (λ (xs : List Awake). get_or xs i c.a-item.result) c.loop-a.invariant

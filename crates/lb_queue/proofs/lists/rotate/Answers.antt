@@ -25,4 +25,5 @@ returns-in_default-clause-items c =
     let l = c.len.ensures in
     let t = c.if-len-lt2.false in
     let two : 2 ≤ length c.args.awake.now.items = omega arith in
-    rotate_none c.args.clock c.args.awake.now.items two (rw c.deref.ensures.value at (sym c.first_waiting.ensures ∙ c.in_default.is))
+    rotate_none c.args.clock c.args.awake.now.items two
+    (rw c.deref.ensures.value at (sym c.first_waiting.ensures ∙ c.in_default.is))

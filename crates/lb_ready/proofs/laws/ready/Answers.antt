@@ -29,4 +29,8 @@ returns c =
       turns = c.turns_stay_open.ensures;
       counts = c.turns_fit.ensures;
     } in
-    record { opens = ready_start laws; stays = λ m e k h r. ready_kept laws m e.owner e.lane e.prev e.what k h r; reads = fits_in_range }
+    record {
+      opens = ready_start laws;
+      stays = λ m e k h r. ready_kept laws m e.owner e.lane e.prev e.what k h r;
+      reads = fits_in_range;
+    }

@@ -25,4 +25,5 @@ loop-run-preserved c =
     (after_draw _ _ _ _ _ c.draw.new.self w c.in_ok-draw.ensures).0
 
 pub returns : goal.returns
-returns c = all_drawn c.args.trace.now [] c.loop-run.run c.loop-run.invariant.front (sym c.has_ended.ensures ∙ c.loop-run-test.false)
+returns c = all_drawn c.args.trace.now [] c.loop-run.run c.loop-run.invariant.front
+    (sym c.has_ended.ensures ∙ c.loop-run-test.false)

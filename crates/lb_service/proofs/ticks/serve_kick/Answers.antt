@@ -10,7 +10,8 @@ pub returns-clause-serving : goal.returns-clause-serving
 returns-clause-serving g c =
     let n = g.N.Names in
     let l = c.args.lane.now in
-    kicked_serves n.header n.book n.board the_row.coded l c.kick.new.lane (due_at l.side.course) c.in_ok-kick.field-0 c.requires.kicks
+    kicked_serves n.header n.book n.board the_row.coded l c.kick.new.lane (due_at l.side.course) c.in_ok-kick.field-0
+    c.requires.kicks
     c.in_ok-kick.ensures.kicked
 
 pub returns-clause-rows : goal.returns-clause-rows

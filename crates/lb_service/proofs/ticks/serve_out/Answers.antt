@@ -32,5 +32,7 @@ returns-clause-rows g c =
     subst (λ (o : Option HandState). OutDue n.header n.book n.board the_row.coded l m (due_at l.side.course) o) c.in-Some.is
     c.in_ok-hand.ensures.due in
     rows_still l m c.land.new.lane
-    (there_same n.header n.book n.board the_row.coded l m (due_at l.side.course) (whats.Out left.cause c.in-Some.hand.to (ids c.in-Some.hand.tasks)) left.there)
-    (there_same n.header n.book n.board the_row.coded m c.land.new.lane m.side.course.to (whats.Landed (ids m.side.course.hand)) c.land.ensures)
+    (there_same n.header n.book n.board the_row.coded l m (due_at l.side.course)
+    (whats.Out left.cause c.in-Some.hand.to (ids c.in-Some.hand.tasks)) left.there)
+    (there_same n.header n.book n.board the_row.coded m c.land.new.lane m.side.course.to
+    (whats.Landed (ids m.side.course.hand)) c.land.ensures)

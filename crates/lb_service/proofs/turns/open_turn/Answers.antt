@@ -17,7 +17,8 @@ returns-in-Turn-Opened-clause-began g c =
     let i = c.in-Turn-Opened in
     began_open n.header n.book n.board the_row.coded l c.turn.new.lane c.args.kind c.args.cpu i.field-0-0 c.requires.declared
     (due_kicks n.header l.side.course c.args.kind c.args.cpu c.requires.serving c.requires.due)
-    (subst (λ (b : Began). BeganThere n.header n.book n.board the_row.coded c.args.lane.now c.turn.new.lane c.args.kind c.args.cpu b)
+    (subst (λ (b : Began). BeganThere n.header n.book n.board the_row.coded c.args.lane.now c.turn.new.lane c.args.kind
+    c.args.cpu b)
     (c.in-Turn-Opened.is ∙ ap Turn c.in-Turn-Opened.field-0-is) c.in_ok-turn.ensures.ok)
 
 pub returns-in-Turn-Opened-clause-rows : goal.returns-in-Turn-Opened-clause-rows
@@ -25,7 +26,8 @@ returns-in-Turn-Opened-clause-rows g c =
     let n = g.N.Names in
     let i = c.in-Turn-Opened in
     turn_same n.header n.book n.board the_row.coded c.args.lane.now c.turn.new.lane c.args.kind c.args.cpu (Opened i.field-0-0)
-    (subst (λ (b : Began). BeganThere n.header n.book n.board the_row.coded c.args.lane.now c.turn.new.lane c.args.kind c.args.cpu b)
+    (subst (λ (b : Began). BeganThere n.header n.book n.board the_row.coded c.args.lane.now c.turn.new.lane c.args.kind
+    c.args.cpu b)
     (c.in-Turn-Opened.is ∙ ap Turn c.in-Turn-Opened.field-0-is) c.in_ok-turn.ensures.ok)
 
 pub returns-in-Turn-Opened-clause-empty_handed : goal.returns-in-Turn-Opened-clause-empty_handed
@@ -38,14 +40,16 @@ returns-in-Turn-TurnOpen-clause-began g c =
     let l = c.args.lane.now in
     began_shut n.header n.book n.board the_row.coded l c.turn.new.lane c.args.kind c.args.cpu
     (due_kicks n.header l.side.course c.args.kind c.args.cpu c.requires.serving c.requires.due)
-    (subst (λ (b : Began). BeganThere n.header n.book n.board the_row.coded c.args.lane.now c.turn.new.lane c.args.kind c.args.cpu b)
+    (subst (λ (b : Began). BeganThere n.header n.book n.board the_row.coded c.args.lane.now c.turn.new.lane c.args.kind
+    c.args.cpu b)
     (c.in-Turn-TurnOpen.is ∙ ap Turn c.in-Turn-TurnOpen.field-0-is) c.in_ok-turn.ensures.ok)
 
 pub returns-in-Turn-TurnOpen-clause-rows : goal.returns-in-Turn-TurnOpen-clause-rows
 returns-in-Turn-TurnOpen-clause-rows g c =
     let n = g.N.Names in
     turn_same n.header n.book n.board the_row.coded c.args.lane.now c.turn.new.lane c.args.kind c.args.cpu TurnOpen
-    (subst (λ (b : Began). BeganThere n.header n.book n.board the_row.coded c.args.lane.now c.turn.new.lane c.args.kind c.args.cpu b)
+    (subst (λ (b : Began). BeganThere n.header n.book n.board the_row.coded c.args.lane.now c.turn.new.lane c.args.kind
+    c.args.cpu b)
     (c.in-Turn-TurnOpen.is ∙ ap Turn c.in-Turn-TurnOpen.field-0-is) c.in_ok-turn.ensures.ok)
 
 pub returns-in-Turn-TurnOpen-clause-empty_handed : goal.returns-in-Turn-TurnOpen-clause-empty_handed
@@ -56,14 +60,16 @@ pub returns-in-PushFirst-clause-began : goal.returns-in-PushFirst-clause-began
 returns-in-PushFirst-clause-began g c =
     let n = g.N.Names in
     began_push n.header n.book n.board the_row.coded c.args.lane.now c.turn.new.lane c.args.kind c.args.cpu c.in-PushFirst.field-0
-    c.requires.serving (subst (λ (b : Began). BeganThere n.header n.book n.board the_row.coded c.args.lane.now c.turn.new.lane c.args.kind c.args.cpu b)
+    c.requires.serving (subst (λ (b : Began). BeganThere n.header n.book n.board the_row.coded c.args.lane.now
+    c.turn.new.lane c.args.kind c.args.cpu b)
     c.in-PushFirst.is c.in_ok-turn.ensures.ok)
 
 pub returns-in-PushFirst-clause-rows : goal.returns-in-PushFirst-clause-rows
 returns-in-PushFirst-clause-rows g c =
     let n = g.N.Names in
     push_same n.header n.book n.board the_row.coded c.args.lane.now c.turn.new.lane c.args.kind c.args.cpu c.in-PushFirst.field-0
-    (subst (λ (b : Began). BeganThere n.header n.book n.board the_row.coded c.args.lane.now c.turn.new.lane c.args.kind c.args.cpu b)
+    (subst (λ (b : Began). BeganThere n.header n.book n.board the_row.coded c.args.lane.now c.turn.new.lane c.args.kind
+    c.args.cpu b)
     c.in-PushFirst.is c.in_ok-turn.ensures.ok)
 
 pub returns-in-PushFirst-clause-empty_handed : goal.returns-in-PushFirst-clause-empty_handed

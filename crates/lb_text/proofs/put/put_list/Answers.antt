@@ -7,7 +7,8 @@ use Rattle.lb_text.proofs.put.put_list.Goals as goal
 pub returns-then-is_none-clause-ok : goal.returns-then-is_none-clause-ok
 returns-then-is_none-clause-ok c =
     c.in_ok-extend_from_slice.ensures.items
-    ∙ ap (λ t. c.args.to.now.items ++ t) (sym (list_text_none c.args.mask c.first.result c.first.ensures.value c.if-is_none.ensures))
+    ∙ ap (λ t. c.args.to.now.items ++ t) (sym
+    (list_text_none c.args.mask c.first.result c.first.ensures.value c.if-is_none.ensures))
 
 pub returns-in-Ok-clause-ok : goal.returns-in-Ok-clause-ok
 returns-in-Ok-clause-ok c =

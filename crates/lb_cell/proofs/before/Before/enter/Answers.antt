@@ -14,7 +14,8 @@ returns-clause-cell g c =
     let n = g.N.Names in
     let b = c.args.self in
     cell_more n.header n.book n.board b.cell b.lane c.args.what c.args.cell.now.queue c.draw_at.new.log
-    c.args.cell.now.room c.draw_at.result c.item_of-item.ensures.cell c.requires.may.of_queue c.requires.may.at_work c.requires.room.0 c.requires.room.1
+    c.args.cell.now.room c.draw_at.result c.item_of-item.ensures.cell c.requires.may.of_queue c.requires.may.at_work
+    c.requires.room.0 c.requires.room.1
     (search rules) (search rules) (search rules) (search rules) (search rules)
 
 pub returns-clause-lane : goal.returns-clause-lane

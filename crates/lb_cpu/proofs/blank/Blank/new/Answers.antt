@@ -21,7 +21,8 @@ invariant_of-result g c =
     let accepted : IsHeader h = subst (λ (x : Header). IsHeader x) (sym same) c.requires.header in
     let board = c.in_ok-board.board in
     let seats = c.in_ok-seats.seats in
-    let cells : length board ≡ length h.cpus = (let b = c.in_ok-board.ensures.board in let l = c.len-cpus.ensures in omega arith) in
+    let cells : length board ≡ length h.cpus =
+    (let b = c.in_ok-board.ensures.board in let l = c.len-cpus.ensures in omega arith) in
     let owners : c.in_ok-book.book.owners ≡ 17 + length h.cpus =
     (let o = c.in_ok-book.ensures.seats.0 in let l = c.len-cpus.ensures in omega arith) in
     let count : length seats.queues.items ≡ length h.cpus =

@@ -6,4 +6,5 @@ use Rattle.lb_domain.proofs.topology.Topology.build.Goals as goal
 
 pub returns-clause-all : goal.returns-clause-all
 returns-clause-all c =
-    ap length c.in_ok-topology_of.ensures.value ∙ length-topology_of c.args.machine.now.cpus c.args.machine.now.distances c.args.parts.now
+    ap length c.in_ok-topology_of.ensures.value ∙ length-topology_of c.args.machine.now.cpus
+    c.args.machine.now.distances c.args.parts.now

@@ -10,7 +10,8 @@ use Rattle.lb_queue.proofs.Ticking.{sound_ticked}
 use Rattle.lb_queue.proofs.lists.TaskLists.tick.Goals as goal
 
 pub rotate-requires : goal.rotate-requires
-rotate-requires c = λ u. once_awake u c.self.inside.awake.items c.self.inside.asleep.items c.self.inside.gone.items c.self.invariant.sound
+rotate-requires c = λ u. once_awake u c.self.inside.awake.items c.self.inside.asleep.items c.self.inside.gone.items
+    c.self.invariant.sound
 
 pub invariant_of-self : goal.invariant_of-self
 invariant_of-self c =

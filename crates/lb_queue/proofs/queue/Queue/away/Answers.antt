@@ -10,7 +10,8 @@ returns-in-None c = rw (← c.self.view_is) (away_none (the_view c.self.inside).
 
 pub returns-then-has : goal.returns-then-has
 returns-then-has c = rw (← c.self.view_is)
-    (away_here (the_view c.self.inside).state c.args.id c.in-Some.task c.in-Some.ensures.found (sym c.has.ensures ∙ c.if-has.true))
+    (away_here (the_view c.self.inside).state c.args.id c.in-Some.task c.in-Some.ensures.found
+    (sym c.has.ensures ∙ c.if-has.true))
 
 pub returns-else-has : goal.returns-else-has
 returns-else-has c = rw (← c.self.view_is)

@@ -9,6 +9,7 @@ pub returns : goal.returns
 returns c =
     let fits : c.args.mask.bits < 2 ^ 64 = search rules in
     let some : is_empty c.args.mask ≡ false =
-    ap is_none (sym c.first.ensures.value) ∙ none_not_some c.first.result c.is_none.result c.is_none.ensures ∙ c.if-is_none.false in
+    ap is_none (sym c.first.ensures.value) ∙ none_not_some c.first.result c.is_none.result c.is_none.ensures ∙
+    c.if-is_none.false in
     bad_by (is_empty c.args.mask) (is_below c.args.mask c.args.cpus) c.subset.result some
     (below_is c.args.mask c.all.result c.args.cpus c.subset.result fits c.all.ensures.cpus c.subset.ensures.0 c.subset.ensures.1)

@@ -14,7 +14,8 @@ count-requires-clause-small c =
 
 pub count-requires-clause-may : goal.count-requires-clause-may
 count-requires-clause-may c = (goes_at c.ready.ensures.stays c.ready.ensures.reads _ _ c.loop-entry.state
-    c.loop-entry.entry-index c.entry-item.result _ _ c.as_slice-entry-items.ensures c.loop-entry.invariant c.loop-entry-test.true c.entry-item.is).may
+    c.loop-entry.entry-index c.entry-item.result _ _ c.as_slice-entry-items.ensures c.loop-entry.invariant
+    c.loop-entry-test.true c.entry-item.is).may
 
 pub step-requires : goal.step-requires
 step-requires c = (goes_at c.ready.ensures.stays c.ready.ensures.reads _ _ c.loop-entry.state c.loop-entry.entry-index
