@@ -1,4 +1,5 @@
 -- A work ends on its input in one way.
+-- For `finish`.
 use Rattle.std.proofs.Common.{◌≡◌, ℕ, List, Option, [], Some, None, sym, ◌∙◌, ap, subst, inl, inr}
 use native.Mathlib.Omega.{arith}
 use Rattle.std.specs.Prelude.{IfSome}

@@ -1,4 +1,5 @@
--- Where the source of a work could not be read.
+-- Where no input of a work could be had, since it is too long or its source fails: what the status then is.
+-- For `input_of`.
 use Rattle.std.proofs.Common.{◌≡◌, ℕ, ◌<◌, true, false, List, length, Result, Ok, Err, refl, sym, ap, subst, inl, leb}
 use Rattle.std.specs.Prelude.{IfSome, IfErr}
 use Rattle.std.specs.Result.{IsErrAnd}

@@ -1,4 +1,5 @@
 -- The last entry of a legal history is the end.
+-- For the law `end_is_last`.
 use Rattle.std.proofs.Common.{◌≡◌, Bool, true, false, List, [], ◌∷◌, refl, ap, inl, inr}
 use Rattle.std.proofs.lemmas.Bool.{cases_Bool}
 use Rattle.lb_core.specs.declared.entry.Entry.{Entry}

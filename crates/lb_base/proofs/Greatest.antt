@@ -1,6 +1,7 @@
 -- The first of the greatest, for whoever tries candidates one after the other: one more candidate is
 -- passed over, is the first, stays below or takes the place; there is one answer, and it is the one
 -- that the definition finds.
+-- For the law `first_of_the_greatest`; cited by `lb_busiest` too.
 use Rattle.std.proofs.Common.{◌≡◌, ℕ, zero, suc, ◌+◌, ◌<◌, Bool, true, false, not, ◌||◌, Option, Some, None, refl, sym, ap, subst, arith, below_more, inl, inr, add-one}
 use Rattle.std.proofs.lemmas.Bool.{cases_Bool, cases_order, both_ways, and_parts, and_from, false_from_ne_true, not-true}
 use Rattle.lb_base.specs.Greatest.{IsFirstGreatest, NonePasses, Picks, IsRanking, is_first_greatest, first_greatest}

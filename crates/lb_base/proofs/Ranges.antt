@@ -1,5 +1,7 @@
 -- The numbers of a range, for whoever loops, searches or tests over one: the range by one number
 -- more, the first that passes a test, and whether all or some pass.
+-- For the lemmas of `Greatest`, `Members` and `Sets`, and so for the laws `first_of_the_greatest` and
+-- `mask_of_a_test`; cited by `lb_detach`, `lb_domain` and other crates too.
 use Rattle.std.proofs.Common.{◌≡◌, ℕ, zero, suc, ◌+◌, ◌<◌, ◌≤◌, eqb, ltb, Bool, true, false, ◌&&◌, ◌||◌, List, [], ◌∷◌, ◌++◌, map, Some, None, refl, sym, ◌∙◌, ap, arith, inl, inr, add-one}
 use Rattle.std.specs.Prelude.{find, filter}
 use Rattle.std.specs.List.{range_with_len, list_all, list_any}

@@ -1,5 +1,7 @@
 -- What can be asked of masks, for whoever asks it of a body or a definition: the mask of a test, the
 -- least CPU, a test of all CPUs of a mask, and masks that are below a number or apart.
+-- For the law `mask_of_a_test`, and `Mask::first` and `Mask::next_after`; cited by `lb_domain`, `lb_due` and other
+-- crates too.
 use Rattle.std.proofs.Common.{◌≡◌, ℕ, zero, suc, ◌+◌, ◌-◌, ◌*◌, ◌^◌, ◌<◌, ◌≤◌, nat_lt, eqb, ltb, Bool, true, false, ◌&&◌, not, Option, Some, None, refl, sym, ◌∙◌, ap, subst, arith, inl, inr, add-one}
 use Rattle.std.specs.Prelude.{if◌then◌else◌, sum_by, filter, MatchOption, is_some}
 use Rattle.std.specs.Int.{bit_at}

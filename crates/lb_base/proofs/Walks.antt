@@ -1,5 +1,6 @@
 -- A walk over the CPUs of a mask, from the first one to the next one above, for whoever loops so: how
 -- far it has come, and which CPUs it has passed.
+-- For `lb_busiest`, `lb_domain` and other crates.
 use Rattle.std.proofs.Common.{◌≡◌, ℕ, ◌+◌, ◌-◌, ◌<◌, ◌≤◌, true, [], ◌∷◌, ◌++◌, Option, Some, None, MatchOption, sym, ◌∙◌, ap, arith}
 use Rattle.lb_base.specs.declared.mask.Mask.{Mask}
 use Rattle.lb_base.specs.declared.mask.TheConstants.{MAX_CPUS}

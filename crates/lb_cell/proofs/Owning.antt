@@ -1,4 +1,5 @@
 -- An entry of a lane's own list fits it, and what the lane keeps stays.
+-- For `Lane::draw` and `enter_own`.
 use Rattle.std.proofs.Common.{ℕ, ◌≡◌, ◌+◌, ◌<◌, true, false, List, [], ◌∷◌, ◌++◌, Option, Some, None, length, map, set, refl, sym, subst, ap, ◌∙◌, arith, All}
 use Rattle.std.proofs.lemmas.List.{length-set}
 use Rattle.std.proofs.lemmas.List.Elements.{All-map, All-push}

@@ -1,4 +1,5 @@
 -- With one choice there is one entry that may be added: the law on choices.
+-- For the law `choices`.
 use Rattle.std.proofs.Common.{arith, ◌≡◌, ℕ, ◌+◌, Bool, true, false, cond, ◌||◌, get_or, refl, sym, ◌∙◌, ap}
 use Rattle.std.proofs.lemmas.Bool.{not-false, eqb-true}
 use Rattle.lb_queue.specs.Queue.{QueueState}

@@ -1,5 +1,7 @@
 -- In a serial history one lane at most is at work: an entry that a lane draws at rest asks that all
 -- lanes rest. After a stop at rest, or the end, no row comes. For callers too.
+-- For the lemmas of `Excluded`, `Next` and other files, and so for the laws `one_serial_history`, `replies` and
+-- others; cited by `lb_audit` and `lb_serial` too.
 use Rattle.std.proofs.Common.{◌≡◌, ◌⊎◌, ℕ, zero, suc, Bool, true, false, ◌||◌, List, [], ◌∷◌, length, get_or, replicate, refl, sym, ◌∙◌, ap, arith, inl, inr, get_or-set_other}
 use Rattle.std.specs.List.{list_all}
 use Rattle.std.proofs.lemmas.Bool.{or_parts, or_left, or_right, and_parts, not-false, eqb-true, cases_eq, cases_lt}

@@ -1,4 +1,5 @@
 -- Each answer and each `out` moves tasks as the map says.
+-- For the lemmas of `Permits`, `Places` and `Placing`, and so for the laws `permitted_stays`, `permitted` and others.
 use Rattle.std.proofs.Common.{◌≡◌, ℕ, Bool, true, false, cond, List, [], set, Option, Some, None, refl, ◌∙◌, ap, arith, subst}
 use Rattle.lb_queue.specs.declared.record.TaskRecord.{TaskRecord}
 use Rattle.lb_queue.specs.declared.awake.Awake.{Awake}

@@ -1,4 +1,5 @@
 -- The entry that comes next, with a choice: an entry that may be added is just that one.
+-- For the lemmas of `AfterTake`, `Agreeing` and other files, and so for the laws `choices`, `permitted` and others.
 use Rattle.std.proofs.Common.{◌≡◌, ℕ, ◌+◌, ◌-◌, Bool, true, false, not, cond, ◌&&◌, ◌||◌, if◌then◌else◌, eqb, List, [], ◌∷◌, length, map, Option, Some, None, is_some, is_none, unwrap_or, refl, sym, ◌∙◌, ap}
 use Rattle.std.proofs.lemmas.Bool.{or_parts, and_parts, not-false, not-true, eqb-true}
 use Rattle.lb_base.specs.declared.mask.Mask.{Mask}

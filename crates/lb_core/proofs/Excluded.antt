@@ -1,4 +1,5 @@
 -- A look leaves out the sources of the position's pulls before it.
+-- For the lemmas of `Passing`, and so for the law `permitted`.
 use Rattle.std.proofs.Common.{◌≡◌, ℕ, Bool, true, false, cond, List, [], ◌∷◌, ◌++◌, ◌+◌, Option, Some, None, unwrap_or, refl, sym, ◌∙◌, ap, subst, inl, inr, get_or-set_same, get_or-set_other}
 use Rattle.std.proofs.lemmas.Bool.{or_parts, and_parts, not-false, cases_eq}
 use Rattle.lb_base.specs.declared.mask.Mask.{Mask}

@@ -1,4 +1,6 @@
 -- Each `out` that is due is a call of the queue by which tasks leave: a wake, a stop, a push or a pull.
+-- For the lemmas of `Carrying`, `Permits` and other files, and so for the laws `permitted_stays`, `permitted` and
+-- others.
 use Rattle.std.proofs.Common.{◌≡◌, ℕ, Bool, true, false, not, Option, Some, None, IfSome, refl, subst}
 use Rattle.std.specs.List.{list_all}
 use Rattle.lb_base.specs.Sets.{is_empty}

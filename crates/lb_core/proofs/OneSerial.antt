@@ -1,5 +1,6 @@
 -- A trace has at most one serial history: two entries that a serial history may draw at one place, with
 -- the same rows to come, are one.
+-- For the law `one_serial_history`.
 use Rattle.std.proofs.Common.{◌≡◌, ℕ, Bool, true, false, List, [], ◌∷◌, ◌++◌, length, map, refl, sym, ◌∙◌, ap, subst}
 use Rattle.std.proofs.lemmas.Bool.{or_parts, and_parts, not-false, eqb-true}
 use Rattle.lb_base.specs.Mask.{members}

@@ -1,5 +1,6 @@
 -- Each look is a pass: of the open turn of its lane's last `use`, over one published figure for each CPU
 -- that is left, and with the take that the rules pick. The law Passes.
+-- For the law `permitted`.
 use Rattle.std.proofs.Common.{◌≡◌, ℕ, zero, suc, ◌+◌, ◌<◌, Bool, true, false, ltb, List, [], ◌∷◌, ◌++◌, length, map, get_or, All, Option, Some, None, unwrap_or, not, refl, sym, ◌∙◌, ap, arith, subst, get_or-set_same}
 use Rattle.std.specs.List.{list_any}
 use Rattle.std.proofs.lemmas.Bool.{or_parts, not-false, eqb-true, ltb-false}

@@ -1,5 +1,6 @@
 -- From entry to entry each awake task may run where it is, or is asked to leave, and each task in a hand may run
 -- where the hand goes: of any one step, and so the law Permitted.
+-- For the laws `permitted_stays` and `permitted`.
 use Rattle.std.proofs.Common.{◌≡◌, ℕ, suc, ◌+◌, ◌<◌, Bool, true, false, not, cond, ◌==◌, ◌||◌, eqb, List, [], ◌∷◌, length, get_or, All, Option, Some, None, refl, sym, ◌∙◌, ap, arith, subst, inl, inr}
 use Rattle.std.specs.List.{list_all}
 use Rattle.std.proofs.lemmas.Bool.{or_parts, and_parts, and_from, eqb-true, cases_eq, cases_lt, not-true}

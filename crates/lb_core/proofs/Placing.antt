@@ -1,5 +1,7 @@
 -- Each step of the machine keeps each task at one place. For callers too: what an entry that may be added
 -- says of its lane, its CPU, its form and the tasks that leave.
+-- For the lemmas of `AfterTake`, `Agreeing` and other files, and so for the laws `choices`, `one_serial_history` and
+-- others; cited by `lb_journal`, `lb_ready` and other crates too.
 use Rattle.std.proofs.Common.{◌≡◌, ℕ, ◌+◌, ◌<◌, ◌≤◌, Bool, true, false, not, cond, ◌||◌, ltb, List, [], ◌∷◌, length, Option, Some, None, refl, sym, ◌∙◌, ap, arith, subst, inl, inr, get_or-set_same, get_or-set_other}
 use Rattle.std.proofs.lemmas.Bool.{or_parts, and_parts, not-false, ltb-true, cases_eq}
 use Rattle.lb_queue.specs.declared.record.TaskRecord.{TaskRecord}

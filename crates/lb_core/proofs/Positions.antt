@@ -1,5 +1,7 @@
 -- The least member of a mask, the counters that a turn finds, and its positions, which are those of
 -- domains.
+-- For the lemmas of `Turning` and `Turns`, and so for the laws `turns_fit`, `turns_stay_open` and others; cited by
+-- `lb_service` too.
 use Rattle.std.proofs.Common.{◌≡◌, ℕ, ◌<◌, Bool, true, false, cond, ◌==◌, ◌&&◌, ltb, List, length, map, Option, Some, None, MatchOption, refl, sym, arith}
 use Rattle.std.specs.List.{range_with_len}
 use Rattle.std.proofs.lemmas.Bool.{and_parts, ltb-true, eqb-true}

@@ -1,5 +1,6 @@
 -- What a queue keeps for turns: its version, its counters and its open turn. Each step of a queue
 -- leaves them, but for the opening of a turn, the close of a position and the end of a turn.
+-- For the lemmas of `Turning` and `Turns`, and so for the laws `turns_fit`, `turns_stay_open` and others.
 use Rattle.std.proofs.Common.{◌≡◌, ℕ, Bool, true, false, List, Option, Some, None, refl, subst}
 use Rattle.lb_interval.specs.declared.Counters.{Counters}
 use Rattle.lb_queue.specs.declared.answers.OpenTurn.{OpenTurn}

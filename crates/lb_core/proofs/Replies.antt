@@ -1,4 +1,5 @@
 -- The next entry after a row is its reply.
+-- For the law `replies`.
 use Rattle.std.proofs.Common.{◌≡◌, ◌+◌, ℕ, ◌≤◌, true, false, cond, ◌==◌, List, [], ◌∷◌, ◌++◌, length, Option, Some, None, is_some, refl, sym, ◌∙◌, ap, arith, subst, get_or-set_same}
 use Rattle.std.proofs.lemmas.Bool.{or_parts, not-false, eqb-true, eq-eqb}
 use Rattle.lb_queue.specs.declared.answers.OutCause.TheVariants.{Wake as WakeOut}

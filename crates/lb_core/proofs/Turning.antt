@@ -1,4 +1,5 @@
 -- What is said of turns holds of every front: one lane at most has a turn open at a queue.
+-- For the law `turns_fit`.
 use Rattle.std.proofs.Common.{◌≡◌, ℕ, ◌+◌, ◌-◌, ◌<◌, ◌≤◌, Bool, true, false, List, [], ◌∷◌, ◌++◌, length, get_or, set, max, Option, Some, None, IfSome, is_some, unwrap_or, refl, sym, ◌∙◌, ap, arith, subst, inl, inr, get_or-set_same, get_or-set_other}
 use Rattle.std.proofs.lemmas.Bool.{not-false, cases_eq, ltb-false}
 use Rattle.std.proofs.lemmas.List.{length-set, length-map, length-append, get_or_append_left}

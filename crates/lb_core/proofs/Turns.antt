@@ -2,6 +2,8 @@
 -- its last `use` took up, and from the opening of the turn on the queue of its CPU is at that version and
 -- has the turn open, with the positions of the course, and with the counters that the turn found at each
 -- position that is not yet closed.
+-- For the lemmas of `Excluded`, `OpenTurns` and other files, and so for the laws `turns_stay_open`, `permitted` and
+-- others.
 use Rattle.std.proofs.Common.{◌≡◌, ℕ, ◌-◌, ◌<◌, ◌≤◌, Bool, true, false, cond, ◌==◌, ◌&&◌, leb, ltb, List, [], ◌∷◌, ◌++◌, length, get_or, set, Option, Some, None, IfSome, IsSome, is_some, unwrap_or, refl, sym, ◌∙◌, ap, arith, subst, get_or-set_other}
 use Rattle.std.proofs.lemmas.Bool.{and_parts, not-true, eqb-true, eq-eqb, ne_eqb, lt-ltb, le-leb, leb-true, ltb-true}
 use Rattle.std.proofs.lemmas.List.{length-map}

@@ -1,4 +1,5 @@
 -- What is left of the owners of lists, put together: the seats of all, and what is kept of their lists.
+-- For `Cpus::rest`.
 use Rattle.std.proofs.Common.{◌≤◌, ℕ, ◌≡◌, inl, inr, ◌+◌, ◌<◌, zero, suc, Bool, true, false, ◌&&◌, ◌==◌, Some, List, [], ◌∷◌, ◌++◌, map, length, slice_get, slice_index_or, get_or, All, refl, sym, ap, subst, ◌∙◌, arith}
 use Rattle.std.proofs.lemmas.Option.{slice_get-get_or, slice_get_within}
 use Rattle.std.proofs.lemmas.List.{length-append, get_or_past}

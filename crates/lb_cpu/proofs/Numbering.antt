@@ -1,4 +1,5 @@
 -- What holds of each item with its number, as lists are cut, joined and taken from.
+-- For `end_lanes` and `new_lanes`.
 use Rattle.std.proofs.Common.{ℕ, ◌≡◌, ◌+◌, List, [], ◌∷◌, ◌++◌, length, subst, arith}
 use Rattle.lb_cpu.specs.Numbering.{EachFrom}
 

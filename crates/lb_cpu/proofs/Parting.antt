@@ -1,4 +1,5 @@
 -- A cell and a lane that were taken apart: what they kept is known of what is left.
+-- For `Cpus::rest`, `end_cell` and `end_lane`.
 use Rattle.std.proofs.Common.{◌≤◌, ℕ, zero, suc, true, ◌≡◌, inl, inr, ◌+◌, Option, Some, None, List, [], ◌∷◌, ◌++◌, map, length, slice_get, All, refl, sym, ap, subst, ◌∙◌, arith}
 use Rattle.std.proofs.lemmas.Option.{same_Some, slice_get_within}
 use Rattle.std.proofs.lemmas.List.{length-map}

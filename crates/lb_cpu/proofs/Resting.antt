@@ -1,4 +1,5 @@
 -- A machine comes to rest: what is left of its parts, put together.
+-- For `Cpus::rest`.
 use Rattle.std.proofs.Common.{refl, Option, ℕ, ◌≡◌, List, ◌∷◌, ◌++◌, map, length, slice_get, All, sym, ap, subst, ◌∙◌}
 use mathlib.Core.List.{IsPrefix}
 use base.Stored.{Coded}

@@ -1,4 +1,5 @@
 -- What the cells and the lanes are made of is taken one by one, and fits.
+-- For `new_lanes` and `new_lane`.
 use Rattle.std.proofs.Common.{ℕ, ◌≡◌, ◌+◌, true, ◌&&◌, nat_lt, nat_le, List, ◌∷◌, length, All, ap, arith}
 use Rattle.std.specs.List.{list_all}
 use Rattle.std.proofs.lemmas.Bool.{and_parts}

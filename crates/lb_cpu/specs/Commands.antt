@@ -1,5 +1,6 @@
 -- How a row of a lane is served: by the answer of a queue, by a wake that leaves one queue and lands at another, or by the
 -- publication of a version.
+-- Cited by the contracts of `answer_at`, `Cpus::command`, `Cpus::wake` and others; also by `lb_service`.
 use Rattle.std.specs.Prelude.{ℕ, ◌≡◌, ◌⊎◌, true, Some, List}
 use mathlib.Core.List.{IsPrefix}
 use base.Stored.{Coded}

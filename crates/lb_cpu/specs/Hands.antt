@@ -1,4 +1,6 @@
 -- Tasks in the hand of a lane, on their way from the queue that they left to the one where they land.
+-- Cited by the contracts of `Cpus::land`, `Cpus::out_due`, `Cpus::take` and others; also by `lb_pass` and
+-- `lb_service`.
 use Rattle.std.specs.Prelude.{ℕ, ◌≡◌, ◌<◌, Option, Some, None, List, length}
 use base.Stored.{Coded}
 use Rattle.atomic_table.specs.Seated.{TableId}

@@ -1,4 +1,5 @@
 -- What a loop over the places keeps, one place after another, and what it has at its end.
+-- For `picks`.
 use Rattle.std.proofs.Common.{◌≡◌, ℕ, ◌+◌, ◌-◌, ◌<◌, ◌≤◌, Bool, true, false, not, cond, eqb, ltb, leb, ◌&&◌, ◌||◌, List, [], ◌∷◌, ◌++◌, length, get_or, take, below_more, refl, sym, ◌∙◌, ap, arith, add-one}
 use Rattle.std.specs.Prelude.{map, reverse}
 use Rattle.std.specs.List.{range_with_len}

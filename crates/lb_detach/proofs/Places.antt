@@ -1,5 +1,7 @@
 -- The places below a number that pass a test: one place more, what holds of each of them, and how
 -- many they are.
+-- For the lemmas of `Complete`, `Examining` and other files, and so for the laws `picked_is_complete`,
+-- `flags_tell_pinned` and others.
 use Rattle.std.proofs.Common.{◌≡◌, ℕ, zero, suc, ◌+◌, ◌<◌, ◌≤◌, Bool, true, false, cond, List, [], ◌∷◌, ◌++◌, length, refl, sym, ◌∙◌, ap, subst, arith, add-one, inl, inr, length-append}
 use Rattle.std.specs.Prelude.{All, Contains, filter}
 use Rattle.std.specs.List.{range_with_len}

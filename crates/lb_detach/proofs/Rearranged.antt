@@ -1,4 +1,5 @@
 -- What is picked and what stays are, together, the tasks of the list.
+-- For the law `picked_and_kept_are_the_list`.
 use Rattle.std.proofs.Common.{◌≡◌, ℕ, zero, suc, ◌-◌, ◌≤◌, Bool, true, false, not, List, [], ◌∷◌, ◌++◌, length, get_or, take, drop, refl, sym, ◌∙◌, ap, subst, arith, append_assoc, drop-cons}
 use Rattle.std.specs.Prelude.{map, reverse, IsPermutation}
 use Rattle.std.specs.List.{range_with_len}

@@ -1,4 +1,5 @@
 -- What is picked is taken by the rule.
+-- For the law `picked_is_sound`.
 use Rattle.std.proofs.Common.{◌≡◌, ℕ, zero, suc, ◌+◌, ◌<◌, ◌≤◌, Bool, true, false, not, leb, ltb, ◌&&◌, List, length, refl, arith}
 use Rattle.std.specs.Prelude.{All}
 use Rattle.std.proofs.lemmas.List.{length-map}

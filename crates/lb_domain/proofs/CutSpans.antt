@@ -1,5 +1,6 @@
 -- The spans of a machine cut to a partition mask: at each level they fall into those of the level
 -- below, and from level to level they grow.
+-- For the lemmas of `Growing`, and so for the laws `groups_part_the_span` and `spans_grow`.
 use Rattle.std.proofs.Common.{◌≡◌, ℕ, zero, suc, ◌<◌, ◌≤◌, eqb, true, List, length, refl, sym, ◌∙◌, ap, arith}
 use Rattle.std.proofs.lemmas.Bool.{and_parts, and_from, eqb-true, eq-eqb}
 use Rattle.std.proofs.lemmas.Nat.{one_shl}

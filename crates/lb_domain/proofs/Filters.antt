@@ -1,4 +1,6 @@
 -- Filters of numbers, and the CPUs of a mask as a filter of those of another.
+-- For the lemmas of `Groupings`, `Rings` and `Sizes`, and so for the laws `domains_are_few`, `groups_part_the_span`
+-- and others.
 use Rattle.std.proofs.Common.{◌≡◌, ℕ, zero, suc, ◌+◌, ◌<◌, ◌≤◌, leb, ltb, Bool, ◌&&◌, not, List, [], ◌∷◌, refl, sym, ◌∙◌, ap, arith, inl, inr}
 use Rattle.std.specs.Prelude.{filter}
 use Rattle.std.specs.List.{range_with_len}

@@ -1,5 +1,6 @@
 -- How the CPUs of a span fall into groups: each CPU is in its own, the CPUs of a group have that
 -- group, and it lies in the span. So the groups in ring order part the span.
+-- For the lemmas of `CutSpans` and `Growing`, and so for the laws `groups_part_the_span` and `spans_grow`.
 use Rattle.std.proofs.Common.{◌≡◌, ℕ, zero, suc, ◌+◌, ◌<◌, ◌≤◌, leb, ltb, Bool, true, false, ◌&&◌, ◌||◌, List, [], ◌∷◌, ◌++◌, map, Option, Some, None, refl, sym, ◌∙◌, ap, subst, arith, inl, inr}
 use Rattle.std.specs.Prelude.{filter, unwrap_or}
 use Rattle.std.specs.List.{range_with_len, slice_index_or, list_all, list_any}

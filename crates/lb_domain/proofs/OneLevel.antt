@@ -1,4 +1,5 @@
--- One level of a CPU's domains.
+-- One level more of a CPU: it is dropped, or it adds the next domain to those below it.
+-- For `domain_at` and `domains_in`.
 use Rattle.std.proofs.Common.{◌≡◌, ℕ, suc, ◌+◌, ◌<◌, ◌≤◌, true, false, List, [], ◌++◌, length, drop, Option, Some, None, refl, sym, ◌∙◌, ap, arith, inl, inr, add-one}
 use Rattle.std.specs.List.{cons_option}
 use Rattle.std.proofs.lemmas.Bool.{cases_Bool}

@@ -1,4 +1,5 @@
 -- The domain at a position of a CPU: its position, and where its span lies.
+-- For the laws `spans_lie_inside` and `domains_stand_in_order`.
 use Rattle.std.proofs.Common.{◌≡◌, ℕ, zero, suc, ◌+◌, ◌<◌, List, [], ◌∷◌, length, Option, Some, None, refl, arith, inl, inr}
 use Rattle.std.proofs.lemmas.Bool.{cases_Bool}
 use Rattle.lb_base.specs.declared.mask.Mask.{Mask}

@@ -1,4 +1,6 @@
 -- How many domains a CPU has, and how many groups a domain. For callers too.
+-- For the law `domains_are_few`, and `Topology::build` and `topology_of`; cited by `lb_lane`, `lb_ready` and
+-- `lb_turn` too.
 use Rattle.std.proofs.Common.{◌≡◌, ℕ, zero, suc, ◌<◌, ◌≤◌, leb, ltb, Bool, true, false, not, List, [], ◌∷◌, ◌++◌, length, Option, Some, None, refl, sym, ◌∙◌, ap, arith, inl, inr}
 use Rattle.std.specs.Prelude.{filter, unwrap_or}
 use Rattle.std.specs.List.{range_with_len, slice_index_or}

@@ -1,4 +1,5 @@
 -- The entry that a lane draws next may be added, the queue that draws it is there, and what its call asks is met.
+-- For `next_entry`, `what_next` and `next_of`.
 use Rattle.std.proofs.Common.{arith, ◌≡◌, ℕ, ◌<◌, Bool, true, false, not, ◌||◌, cond, List, length, Option, Some, None, is_some, refl, sym, ◌∙◌, ap, subst, ltb, Bor}
 use Rattle.std.specs.Prelude.{IfSome, option_map, unwrap_or}
 use Rattle.std.proofs.lemmas.Bool.{lt-ltb}

@@ -1,4 +1,5 @@
 -- The ids of the tasks that leave by a wake and by a stop request.
+-- For `out_of_queue`, `wake_due` and `stop_due`.
 use Rattle.std.proofs.Common.{◌≡◌, ℕ, ◌==◌, Bool, true, false, cond, Option, Some, None, List, [], ◌∷◌, refl, ◌∙◌, ap}
 use Rattle.std.proofs.lemmas.Bool.{eqb-true}
 use Rattle.lb_queue.specs.declared.awake.Awake.{Awake}

@@ -1,4 +1,5 @@
 -- The end, drawn above all others where no stop request is pending, closes the history.
+-- For `Ended::finish`.
 use Rattle.std.proofs.Common.{ℕ, ◌≡◌, ◌+◌, ◌-◌, ◌<◌, ◌≤◌, ◌&&◌, ◌||◌, Bool, true, false, is_some, ltb, List, [], ◌∷◌, ◌++◌, Option, None, Some, find, length, map, get_or, refl, sym, subst, ap, ◌∙◌, arith, inl, inr}
 use Rattle.std.specs.Prelude.{slice_get}
 use Rattle.std.specs.List.{list_any, range_with_len}

@@ -1,4 +1,5 @@
 -- What a machine keeps, as one seat follows another, and as lane 0 draws an entry.
+-- For `Ended::reserve`, `Ended::follow` and `Ended::end`.
 use Rattle.std.proofs.Common.{ℕ, zero, suc, ◌≡◌, ◌+◌, ◌<◌, ◌≤◌, List, [], ◌∷◌, ◌++◌, Option, Some, length, map, get_or, set, refl, sym, subst, ap, ◌∙◌, ◌⊎◌, arith, inl, inr, All, append-nil}
 use Rattle.std.specs.Prelude.{slice_get}
 use Rattle.std.proofs.lemmas.Bool.{cases_eq}

@@ -1,4 +1,5 @@
 -- The parts of a machine that an entry of a queue is drawn upon, and the machine once it was drawn.
+-- For `Ended::next_stop`, `Ended::arrive`, `Ended::reserve` and others.
 use Rattle.std.proofs.Common.{ℕ, ◌≡◌, ◌+◌, ◌<◌, ◌≤◌, List, [], Option, Some, length, map, get_or, set, sym, subst, ap, ◌∙◌, arith, inl, inr, All, refl}
 use Rattle.std.specs.Prelude.{slice_get}
 use Rattle.std.proofs.lemmas.List.{length-set, map-set, set-get_or, get_or-map, get_or-set_same}

@@ -1,4 +1,5 @@
 -- What `csv` reads of a plain line: its pieces between the commas.
+-- For `next_fields`.
 use Rattle.std.proofs.Common.{◌≡◌, ℕ, Bool, true, false, eqb, cond, ◌&&◌, List, [], ◌∷◌, ◌++◌, ◌==◌, Bor, Some, None, inl, inr, refl, sym, ap, subst, ◌∙◌, append_assoc}
 use Rattle.std.proofs.lemmas.List.{append-nil}
 use Rattle.std.proofs.lemmas.Bool.{cases_Bool, eqb-true}

@@ -1,4 +1,5 @@
 -- A text whose first line is plain does not begin with a byte order mark.
+-- For `start`.
 use Rattle.std.proofs.Common.{◌≡◌, ℕ, true, List, [], ◌∷◌, inl, inr, refl, sym, ap, subst}
 use Rattle.std.specs.Prelude.{slice_index_or, ◌==◌}
 use Rattle.std.specs.List.{onto_first}

@@ -1,4 +1,5 @@
--- The lines of the rows are read.
+-- The lines of a drawn trace's rows are good ones, and read as those rows.
+-- For the lemmas of `Accepted`, and so for the laws `are_accepted` and `moments_are_small`.
 use Rattle.std.proofs.Common.{◌≡◌, ℕ, zero, suc, ◌+◌, ◌*◌, ◌%◌, ◌^◌, ◌<◌, ◌≤◌, ℤ, Bool, true, false, not, ◌&&◌, eqb, ltb, List, [], ◌∷◌, ◌++◌, map, length, Some, None, Result, Ok, refl, sym, ap, subst, ◌∙◌, append_assoc, arith, inl, inr}
 use Rattle.std.specs.Prelude.{decimal}
 use Rattle.std.specs.List.{list_all}

@@ -1,4 +1,5 @@
 -- The decision that is computed is the one that the relations describe, and they describe no other.
+-- For the law `decision_is_the_choice`.
 use Rattle.std.proofs.Common.{◌≡◌, ℕ, Bool, true, false, cond, eqb, Option, Some, None, List, refl, ◌∙◌, ap}
 use Rattle.std.specs.Prelude.{MatchBool}
 use Rattle.lb_base.specs.declared.mask.Mask.{Mask}

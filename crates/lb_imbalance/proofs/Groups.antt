@@ -1,5 +1,6 @@
 -- The groups of a domain without the excluded CPUs: each has figures and small sums, and the local
 -- one keeps its CPU. For callers too.
+-- For `balances` and `decide`; cited by `lb_lane_laws`, `lb_ready` and `lb_state` too.
 use Rattle.std.proofs.Common.{◌≡◌, ℕ, ◌-◌, ◌^◌, ◌<◌, true, false, eqb, w64, List, [], ◌∷◌, length, get_or, sym, ◌∙◌, ap, arith, inl, inr}
 use Rattle.std.specs.Prelude.{All}
 use Rattle.std.proofs.lemmas.Bool.{eqb-false, and_parts, and_from, both_ways, cases_lt}

@@ -1,5 +1,6 @@
 -- The statistics of the groups: one group more at its place, and the ranges of their numbers. For callers
 -- too: these ranges.
+-- For `decide` and `stats_of_groups`; cited by `lb_ready` too.
 use Rattle.std.proofs.Common.{◌≡◌, ℕ, ◌+◌, ◌*◌, ◌/◌, ◌^◌, ◌<◌, ◌≤◌, true, List, [], ◌∷◌, ◌++◌, length, take, get_or, refl, sym, ◌∙◌, ap, arith, inl, inr}
 use Rattle.std.specs.Prelude.{All, map, sum_by, slice_set}
 use Rattle.std.proofs.Math.Nat.{div-le_of_le-mul, mul-le-mul_left}

@@ -1,4 +1,5 @@
 -- Domains of two groups whose masks are literals, as the tests have them.
+-- For `lb_tests`.
 use Rattle.std.proofs.Common.{◌≡◌, ℕ, ◌^◌, ◌<◌, Bool, true, false, ◌&&◌, ◌||◌, [], ◌∷◌, bit_and, bit_or, refl, sym, ◌∙◌, ap, inl, inr}
 use Rattle.std.proofs.lemmas.Bool.{both_ways, cases_lt}
 use Rattle.lb_base.specs.declared.mask.Mask.{Mask}

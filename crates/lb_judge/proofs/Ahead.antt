@@ -1,4 +1,5 @@
 -- The CPUs of a mask that a walk over them has ahead, and how names of figures follow it.
+-- For `are_of`.
 use Rattle.std.proofs.Common.{◌≡◌, ℕ, zero, suc, ◌+◌, ◌-◌, ◌<◌, ◌≤◌, ◌==◌, ◌&&◌, Bool, true, false, cond, List, [], ◌∷◌, Option, Some, None, not, is_some, length, map, drop, get_or, subst, refl, sym, ◌∙◌, ap, arith}
 use Rattle.std.specs.Prelude.{filter}
 use Rattle.std.specs.List.{range_with_len}

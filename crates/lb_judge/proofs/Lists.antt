@@ -1,4 +1,5 @@
--- Walks over two lists at once.
+-- A loop over two lists at once finds whether they have the same numbers, place by place.
+-- For `is_hand` and `are_same`.
 use Rattle.std.proofs.Common.{zero, Some, slice_get, ◌≡◌, ℕ, ◌+◌, ◌<◌, ◌==◌, ◌&&◌, Bool, true, false, List, [], ◌∷◌, length, map, drop, get_or, refl, sym, ◌∙◌, ap, add-one, suc, drop-cons}
 use Rattle.lb_core.specs.Same.{same_numbers}
 use Rattle.lb_core.proofs.Equality.{numbers_same}

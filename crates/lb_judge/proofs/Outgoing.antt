@@ -1,4 +1,5 @@
 -- Whether another `out` is said than the one that is due.
+-- For `breaks_pick`.
 use Rattle.std.proofs.Common.{not, ◌||◌, ◌≡◌, ℕ, ◌==◌, Bool, true, false, Option, Some, None, List, refl, sym, ◌∙◌, ap}
 use Rattle.lb_queue.specs.Tasks.{ids}
 use Rattle.lb_queue.specs.declared.answers.OutCause.{OutCause}

@@ -1,4 +1,5 @@
 -- What the rules `stage` and `place` say of a reply: the owner's queue is where the task of the command is.
+-- For `breaks_reply`.
 use Rattle.std.proofs.Common.{◌≡◌, ℕ, Bool, true, false, not, ◌||◌, Option, Some, None, refl, sym, ◌∙◌, ap, subst}
 use Rattle.std.proofs.lemmas.Bool.{eqb-true, not-false}
 use Rattle.lb_queue.specs.Queue.{QueueState}

@@ -1,4 +1,5 @@
 -- What an entry that keeps the rule `stage` says of its owner's queue, and of the turn of its lane.
+-- For `breaks_pick`, `breaks_counters`, `breaks_reply` and others.
 use Rattle.std.proofs.Common.{arith, ◌≡◌, ℕ, ◌<◌, Bool, true, false, not, ◌==◌, length, refl, sym, ◌∙◌, ap, subst, Option, Some, List, is_some, ◌+◌, ◌||◌}
 use Rattle.std.proofs.lemmas.Bool.{or_parts, and_parts, eqb-true, ltb-true, not-false}
 use Rattle.lb_base.specs.declared.mask.Mask.{Mask}

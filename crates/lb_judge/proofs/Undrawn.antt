@@ -1,4 +1,5 @@
 -- Which forms of a course draw no entry of a kind: all but those that do.
+-- For `draws_did`, `draws_close`, `draws_look` and others.
 use Rattle.std.proofs.Common.{◌≡◌, ℕ, Bool, false, refl, Option, List}
 use Rattle.lb_base.specs.declared.mask.Mask.{Mask}
 use Rattle.lb_base.specs.declared.shape.Kind.{Kind}

@@ -1,5 +1,6 @@
 -- The lanes of a machine may go to other threads, and its queues may be shared among them: each of their types owns what its
 -- fields own, and no more.
+-- For `lb_thread_tests` and `lb_threads`.
 use denote.RattleType.{RattleType}
 use denote.Param.Send.{IsSend, IsSync, part_keyless, sendable, view_send, view_sync}
 use denote.Param.SendFields.{declared_send, declared_sync}

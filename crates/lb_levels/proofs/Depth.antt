@@ -1,6 +1,7 @@
 -- Why a machine has few levels: in a table without a fault, the distance from a node to another is
 -- at most the greater of two that lead there. So the nodes fall into classes that are within a
 -- distance of one another, and each level above the nodes joins some of them.
+-- For the law `levels_are_few`, and `Machine::levels`.
 use Rattle.std.proofs.Common.{◌≡◌, ℕ, zero, suc, ◌+◌, ◌<◌, ◌≤◌, max, eqb, leb, ltb, Bool, true, false, ◌&&◌, ◌||◌, not, List, [], ◌∷◌, length, take, get_or, None, refl, sym, ◌∙◌, ap, arith, inl, inr}
 use Rattle.std.specs.Prelude.{filter}
 use Rattle.std.specs.List.{range_with_len, list_all, list_any}

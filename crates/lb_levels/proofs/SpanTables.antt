@@ -1,4 +1,5 @@
 -- The table of spans, a row for each level: its size, and what stands at the place of a level and a CPU.
+-- For `Machine::span`.
 use Rattle.std.proofs.Common.{◌≡◌, ℕ, ◌<◌, List, [], length, Some, sym, ◌∙◌, ap, arith}
 use Rattle.std.specs.List.{range_with_len, slice_get}
 use Rattle.std.proofs.lemmas.List.{length-map, get_or-map}

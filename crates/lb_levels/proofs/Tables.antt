@@ -1,4 +1,5 @@
 -- Tables of distances row by row: a row within the whole table.
+-- For `first_misfit` and `is_bad_row`.
 use Rattle.std.proofs.Common.{◌≡◌, ℕ, ◌+◌, ◌<◌, Bool, true, List, [], ◌∷◌, length, take, refl, sym, arith, inl, inr}
 use Rattle.std.specs.List.{range_with_len, list_any}
 use Rattle.std.proofs.lemmas.Bool.{cases_lt, le-ltb, le-leb}

@@ -1,4 +1,5 @@
 -- An attempt of a lane: what its look, its pull and its landing leave of the course, and that a further look may be drawn.
+-- For `attempt`.
 use Rattle.std.proofs.Common.{ℕ, ◌≡◌, ◌<◌, true, false, List, Option, Some, length, refl, sym, ◌∙◌, ap, subst}
 use base.Stored.{Coded}
 use Rattle.logbook.specs.Pages.{Book}

@@ -1,4 +1,5 @@
--- The close of a position whose looks have ended.
+-- Where the looks of a position have ended, its `close` may be drawn, and the position is done.
+-- For `pass`.
 use Rattle.std.proofs.Common.{ℕ, ◌≡◌, ◌<◌, true, false, List, Option, Some, length, refl, sym, ◌∙◌, ap, subst, inl, inr}
 use Rattle.std.specs.Prelude.{unwrap_or}
 use base.Stored.{Coded}

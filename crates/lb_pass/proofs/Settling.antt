@@ -1,4 +1,5 @@
 -- Some attempts of a lane, one after the other, and what ends them.
+-- For `attempt`, `pass` and `settle`.
 use Rattle.std.proofs.Common.{ℕ, suc, ◌≡◌, ◌<◌, Bool, true, false, List, [], Some, Result, Ok, Err, OnErr, length, ◌⊎◌, refl, sym, ◌∙◌, ap, subst, arith, inl, inr}
 use Rattle.std.specs.Prelude.{MatchBool}
 use Rattle.std.proofs.lemmas.Bool.{false_from_ne_true}

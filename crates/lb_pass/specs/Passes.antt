@@ -1,6 +1,7 @@
 -- A pass: what a lane draws at one position of its open turn. Each attempt is a look that decides to pull, the `out` of the
 -- tasks at the source, and their landing; then no further look is due, or a last one moves nothing, and the position is
 -- closed.
+-- Cited by the contracts of `pass`, `pull`, `attempt` and others; also by `lb_service`.
 use Rattle.std.specs.Prelude.{ℕ, ◌≡◌, ◌<◌, ◌⊎◌, suc, zero, true, false, Some, List, length}
 use base.Stored.{Coded}
 use Rattle.atomic_table.specs.Seated.{TableId}

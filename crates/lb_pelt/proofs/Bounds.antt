@@ -1,4 +1,5 @@
 -- A sum with what a stretch of time adds to it stays below its bound.
+-- For `advance`.
 use Rattle.std.proofs.Common.{◌≡◌, ℕ, ◌+◌, ◌-◌, ◌*◌, ◌/◌, ◌%◌, ◌<◌, ◌≤◌, eqb, arith, inl, inr}
 use Rattle.std.proofs.lemmas.Bool.{cases_eq, eq-eqb, ne_eqb, cond-true, cond-false}
 use Rattle.lb_pelt.specs.Decay.{decayed}

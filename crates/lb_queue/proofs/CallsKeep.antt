@@ -1,4 +1,5 @@
 -- Each call keeps the tasks of a queue sound.
+-- For the lemmas of `Reached`, and so for the laws `clock_rises`, `sound` and others.
 use Rattle.std.proofs.Common.{◌≡◌, ℕ, ℤ, zero, suc, ◌<◌, ◌≤◌, max, true, cond, ◌==◌, eqb, List, [], ◌∷◌, ◌++◌, length, map, get_or, take, drop, Option, Some, None, refl, sym, ◌∙◌, ap, arith, subst, add-one, take_all}
 use Rattle.std.specs.Prelude.{All, IsSomeAnd}
 use Rattle.std.specs.List.{list_all}

@@ -1,5 +1,6 @@
 -- Sums over a list out of which one element is taken, and how long a list of distinct numbers can be. For
 -- callers too.
+-- For `TaskLists::sums`; cited by `lb_ready` and `lb_state` too.
 use Rattle.std.proofs.Common.{◌≡◌, ℕ, zero, suc, ◌+◌, ◌≤◌, Bool, true, false, not, cond, ◌==◌, eqb, List, [], ◌∷◌, length, map, reverse, find, Some, refl, sym, ◌∙◌, ap, arith, inl, inr}
 use Rattle.std.specs.Prelude.{sum_by}
 use Rattle.std.proofs.lemmas.Bool.{cases_Bool, cond-true, cond-false}

@@ -1,5 +1,7 @@
 -- How often a number stands in a list, through the functions on lists, and what a search finds: a
 -- library for the proofs of `lb_core` and of other crates that count the ids of tasks.
+-- For the lemmas of `Allowed`, `Counting` and other files, and so for the laws `next_stops`, `pulls_follow_picks` and
+-- others; cited by `lb_core`, `lb_due` and `lb_ready` too.
 use Rattle.std.proofs.Common.{◌≡◌, ℕ, ◌+◌, ◌≤◌, Bool, true, false, not, cond, ◌==◌, if◌then◌else◌, eqb, List, [], ◌∷◌, ◌++◌, map, reverse, filter, find, Some, None, refl, sym, ◌∙◌, ap, arith, zero-add, subst}
 use Rattle.std.proofs.lemmas.Bool.{eq-eqb, cond-true, cond_both}
 use Rattle.std.proofs.lemmas.Bool.Decides.{nat_tests}

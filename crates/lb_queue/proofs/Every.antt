@@ -1,4 +1,6 @@
 -- Tests that every element of a list passes. For callers too.
+-- For the lemmas of `Allowed`, `Leasts` and other files, and so for the laws `next_stops`, `pulls_follow_picks` and
+-- others; cited by `lb_ready` and `lb_state` too.
 use Rattle.std.proofs.Common.{◌≡◌, Bool, true, false, cond, List, [], ◌∷◌, ◌++◌, map, reverse, filter, find, Option, Some, refl, ◌∙◌, ap, subst}
 use Rattle.std.specs.List.{list_all}
 use Rattle.std.proofs.lemmas.Bool.{and_parts, and_from}

@@ -1,4 +1,5 @@
 -- The ids in the lists of a queue, through the steps that join, take out, pick and rotate tasks.
+-- For `stop_of`.
 use Rattle.std.proofs.Common.{◌≡◌, ℕ, ◌+◌, ◌≤◌, Bool, true, false, not, cond, ◌==◌, eqb, ltb, List, [], ◌∷◌, length, reverse, Option, Some, None, refl, sym, ◌∙◌, arith, zero-add}
 use Rattle.std.proofs.lemmas.Bool.Decides.{nat_tests}
 use Rattle.lb_queue.specs.declared.record.TaskRecord.{TaskRecord}

@@ -1,4 +1,5 @@
 -- What the lists of a queue keep with their rooms, as a task is taken out or comes in.
+-- For `TaskLists::add_gone`, `TaskLists::next_stop`, `TaskLists::add_asleep` and others.
 use Rattle.std.proofs.Common.{◌≡◌, ℕ, suc, ◌^◌, ◌+◌, ◌-◌, ◌<◌, ◌≤◌, Bool, true, false, not, cond, ◌==◌, List, [], ◌∷◌, ◌++◌, length, map, filter, reverse, Option, Some, None, refl, sym, arith}
 use Rattle.std.specs.Prelude.{IfSome, IfNone}
 use Rattle.lb_base.specs.Mask.{has}

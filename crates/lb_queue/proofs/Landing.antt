@@ -1,4 +1,5 @@
--- Tasks that land one after the other.
+-- The tasks of a hand land one after the other: each joins the front of the awake tasks.
+-- For `TaskLists::land` and `Queue::land`.
 use Rattle.std.proofs.Common.{◌≡◌, ℕ, suc, ◌+◌, ◌-◌, ◌<◌, ◌≤◌, true, false, cond, ◌==◌, eqb, List, [], ◌∷◌, length, get_or, remove, None, max, inl, inr, refl, sym, ◌∙◌, ap, arith, subst}
 use Rattle.std.specs.Prelude.{All}
 use Rattle.std.specs.List.{list_all}

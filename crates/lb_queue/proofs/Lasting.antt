@@ -1,4 +1,5 @@
 -- What holds of each task of a queue, and is not ended by time or by leaving, holds after each call.
+-- For the law `tests_last`.
 use Rattle.std.proofs.Common.{◌≡◌, ℕ, ℤ, nat_lt, Bool, true, false, not, cond, ◌==◌, List, [], ◌∷◌, length, map, reverse, find, Option, Some, None, is_some, refl, subst}
 use Rattle.std.specs.Prelude.{All, IfSome}
 use Rattle.std.specs.List.{list_all, cons_option}

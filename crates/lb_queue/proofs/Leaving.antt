@@ -1,4 +1,5 @@
--- Tasks that leave a queue, and tasks that land.
+-- Tasks that leave a queue by a wake or a stop may run where they go; and tasks that land.
+-- For `Queue::take_stop` and `Queue::leave`.
 use Rattle.std.proofs.Common.{◌≡◌, ℕ, zero, suc, ◌+◌, Bool, true, false, cond, max, [], ◌∷◌, ◌++◌, find, Option, Some, None, refl, sym, ◌∙◌, subst}
 use Rattle.std.specs.List.{range_with_len}
 use Rattle.lb_base.specs.declared.mask.Mask.{Mask}

@@ -1,4 +1,5 @@
 -- When a mask has no CPU past the machine.
+-- For `is_bad`; cited by `lb_tests` too.
 use Rattle.std.proofs.Common.{◌≡◌, ℕ, ◌^◌, ◌<◌, nat_lt, Bool, true, false, not, cond, ◌&&◌, ◌||◌, List, [], ◌∷◌, filter, Some, None, refl, sym, ◌∙◌, ap, arith, inl, inr}
 use Rattle.std.specs.Prelude.{IsTrue, is_none, is_some, Option}
 use Rattle.std.specs.List.{list_all, range_with_len}

@@ -1,5 +1,6 @@
 -- The positions of a turn, by kind, and what holds of a turn that has opened. For callers too: positions
 -- stand below the counters.
+-- For `Queue::turn`, `Queue::close_look`, `Queue::opens` and others; cited by `lb_core` too.
 use Rattle.std.proofs.Common.{◌≡◌, ℕ, suc, zero, ◌+◌, ◌*◌, ◌/◌, ◌<◌, ◌≤◌, nat_lt, ltb, ◌==◌, Bool, true, false, not, cond, ◌&&◌, List, [], ◌∷◌, length, map, drop, get_or, max, is_some, Option, Some, None, MatchOption, refl, sym, ◌∙◌, ap, arith, inl, inr}
 use Rattle.std.specs.Prelude.{if◌then◌else◌}
 use Rattle.std.proofs.lemmas.Bool.{cases_Bool, and_parts, ltb-true, eqb-true}

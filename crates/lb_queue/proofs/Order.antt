@@ -1,5 +1,6 @@
 -- Awake tasks in an order that is given by ids, and two parts of a list that stand the other way
 -- round.
+-- For `set_order` and `TaskLists::set_order`.
 use Rattle.std.proofs.Common.{◌≡◌, ℕ, zero, suc, ◌+◌, ◌-◌, ◌<◌, ◌≤◌, ltb, Bool, true, not, cond, ◌==◌, eqb, List, [], ◌∷◌, ◌++◌, length, reverse, filter_map, get_or, take, drop, position, slice_get, Option, Some, None, unwrap_or, refl, sym, ◌∙◌, ap, arith, subst, inl, inr}
 use Rattle.std.specs.Prelude.{All, option_and_then}
 use Rattle.std.specs.List.{position_or_len, cons_option}

@@ -1,4 +1,6 @@
 -- What each call can come to: to show something of the state that it leaves, show it of these few.
+-- For the lemmas of `Allowed`, `CallsKeep` and other files, and so for the laws `next_stops`, `pulls_follow_picks`
+-- and others.
 use Rattle.std.proofs.Common.{◌≡◌, ℕ, ℤ, Bool, true, false, max, List, [], ◌∷◌, Option, Some, None, refl}
 use Rattle.lb_base.specs.declared.mask.Mask.{Mask}
 use Rattle.lb_active.specs.Choice.{pick_of}

@@ -1,4 +1,5 @@
 -- The ids that a pull picks and those that it leaves, among the ids of the awake tasks.
+-- For `Queue::take`.
 use Rattle.std.proofs.Common.{◌≡◌, ℕ, zero, suc, ◌+◌, ◌-◌, ◌<◌, ◌≤◌, Bool, true, false, not, cond, ◌==◌, eqb, List, [], ◌∷◌, ◌++◌, length, map, reverse, filter, filter_map, get_or, take, drop, Option, Some, None, refl, sym, ◌∙◌, ap, arith, subst, inl, inr, drop-cons, add-one}
 use Rattle.std.specs.Prelude.{All, IsSomeAnd}
 use Rattle.std.specs.List.{range_with_len, cons_option}

@@ -1,4 +1,5 @@
 -- A pull: what it says, what it leaves and what comes into the hand.
+-- For `Queue::take`.
 use Rattle.std.proofs.Common.{◌≡◌, ℕ, ◌≤◌, max, List, ◌++◌, map, Some, refl, sym, ◌∙◌, ap, subst}
 use Rattle.lb_base.specs.declared.view.TaskView.{TaskView}
 use Rattle.lb_detach.specs.declared.Env.{Env}

@@ -1,4 +1,5 @@
--- The task that a push takes.
+-- The task that a push takes: the one nearest the back that may run at the destination.
+-- For `Queue::take_push` and `TaskLists::take_pushed`.
 use Rattle.std.proofs.Common.{◌≡◌, ℕ, ◌≤◌, max, Bool, true, false, cond, ◌==◌, eqb, List, [], ◌∷◌, ◌++◌, map, filter, Option, Some, None, is_some, refl, sym, ◌∙◌, ap, arith, subst, inl, inr, ◌⊎◌}
 use Rattle.std.specs.Prelude.{IfSome, option_map}
 use Rattle.std.specs.List.{last_or}

@@ -1,4 +1,5 @@
 -- What holds of a queue, whatever calls were made on it.
+-- For the laws `clock_rises` and `sound`.
 use Rattle.std.proofs.Common.{◌≡◌, ℕ, ◌+◌, ◌≤◌, max, Bool, true, false, cond, ◌||◌, ◌==◌, List, [], ◌∷◌, map, find, Option, Some, None, is_some, refl, arith, subst}
 use Rattle.std.specs.Prelude.{IfSome}
 use Rattle.std.proofs.lemmas.Bool.{eqb-true}

@@ -1,4 +1,5 @@
 -- What a command answers, by the tests that a queue makes.
+-- For `Queue::renice`, `Queue::set_mask`, `Queue::declare` and others.
 use Rattle.std.proofs.Common.{◌≡◌, ℕ, ℤ, ◌-◌, ◌==◌, ◌||◌, map, find, List, [], ◌∷◌, ◌++◌, Bool, true, false, Option, Some, None, is_some, is_none, max, cond, refl, sym, ◌∙◌, ap, arith}
 use Rattle.lb_base.specs.declared.mask.Mask.{Mask}
 use Rattle.lb_queue.specs.declared.record.TaskRecord.{TaskRecord}

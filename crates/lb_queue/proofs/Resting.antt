@@ -1,4 +1,5 @@
 -- What each call leaves as it is, besides the tasks that it moves.
+-- For the law `calls_keep_rest`.
 use Rattle.std.proofs.Common.{◌≡◌, ℕ, Bool, true, false, List, None, is_some, refl, sym, ◌∙◌}
 use Rattle.lb_base.specs.declared.shape.Kind.{Kind}
 use Rattle.lb_base.specs.declared.shape.Shape.{Shape}

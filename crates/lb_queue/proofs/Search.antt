@@ -1,4 +1,5 @@
 -- One element out of a list in which its number stands once. For callers too.
+-- For `has_task`, `found_task`, `take_task` and others; cited by `lb_engine` and `lb_ready` too.
 use Rattle.std.proofs.Common.{◌≡◌, ℕ, zero, suc, ◌+◌, ◌<◌, ◌≤◌, Bool, true, false, not, cond, ◌==◌, eqb, ltb, List, [], ◌∷◌, length, map, filter, find, position, remove, get_or, slice_get, is_some, Option, Some, None, refl, sym, ◌∙◌, ap, arith, subst, inl, inr, MatchOption}
 use Rattle.std.specs.List.{position_or_len}
 use Rattle.std.proofs.Math.ListN.{set}

@@ -1,4 +1,5 @@
 -- What a queue's tasks keep, as one is taken out, comes in or is changed.
+-- For `TaskLists::renice_awake`, `TaskLists::mask_asleep`, `TaskLists::mask_awake` and others.
 use Rattle.std.proofs.Common.{◌≡◌, ℕ, ℤ, ◌+◌, ◌<◌, ◌≤◌, Bool, true, false, not, cond, ◌==◌, eqb, ◌||◌, List, [], ◌∷◌, ◌++◌, map, reverse, find, Some, None, refl, sym, ◌∙◌, ap, arith, subst, inl, inr}
 use Rattle.std.specs.List.{list_all, list_any}
 use Rattle.std.proofs.lemmas.Bool.{cases_Bool, cond-true, cond-false, eqb-true, eq-eqb, and_parts, and_from}

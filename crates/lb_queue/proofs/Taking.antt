@@ -1,4 +1,5 @@
 -- Tasks that wait leave one after the other, by their ids.
+-- For `load_all` and `load_one`.
 use Rattle.std.proofs.Common.{◌≡◌, ℕ, zero, suc, ◌+◌, ◌<◌, ◌≤◌, Bool, true, false, not, cond, ◌&&◌, ◌==◌, eqb, List, [], ◌∷◌, ◌++◌, length, map, filter, filter_map, get_or, take, Option, Some, None, refl, sym, ◌∙◌, ap, arith, subst, append_assoc, append-nil, take_all}
 use Rattle.std.specs.Prelude.{IsSomeAnd, option_to_list}
 use Rattle.std.specs.List.{cons_option}

@@ -1,4 +1,5 @@
 -- A tick: another task takes the place of the running one, and pending requests become owed.
+-- For `TaskLists::tick` and `rotate`.
 use Rattle.std.proofs.Common.{◌≡◌, ℕ, ◌<◌, ◌≤◌, ltb, Bool, true, false, not, cond, ◌==◌, List, [], ◌∷◌, ◌++◌, length, map, reverse, find, position, remove, get_or, Option, Some, None, refl, sym, ◌∙◌, ap, arith, subst}
 use Rattle.std.specs.List.{list_all}
 use Rattle.std.proofs.lemmas.Bool.{le-ltb, lt-ltb, and_from}

@@ -1,4 +1,5 @@
 -- Lists that are kept from the back to the front. For callers too: a search from either end.
+-- For `has_awake`, `TaskLists::renice_awake`, `TaskLists::mask_awake` and others; cited by `lb_ready` too.
 use Rattle.std.proofs.Common.{◌≡◌, ℕ, ◌≤◌, Bool, true, false, cond, ◌==◌, eqb, ◌||◌, List, [], ◌∷◌, ◌++◌, length, map, reverse, filter, find, Option, Some, None, is_some, refl, sym, ◌∙◌, ap, arith, inl, inr, ◌<◌, get_or, remove, position}
 use Rattle.std.specs.List.{list_any}
 use Rattle.std.proofs.lemmas.Bool.{cases_Bool, cond-true}

@@ -1,4 +1,5 @@
--- Reading pieces one after the other.
+-- A list field is read piece after piece: what the pieces so far and those that are left read as.
+-- For `ids_in`, `figures_in` and `all_masks`.
 use Rattle.std.proofs.Common.{◌≡◌, ℕ, List, [], ◌∷◌, ◌++◌, Option, Some, None, refl, sym, ap, ◌∙◌, append_assoc}
 use Rattle.std.specs.Prelude.{option_and_then}
 use Rattle.std.specs.Option.{option_map}

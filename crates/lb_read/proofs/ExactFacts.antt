@@ -1,4 +1,6 @@
 -- Readers that are put together of exact ones are exact.
+-- For the lemmas of `EntriesExact`, `FieldsExact` and other files, and so for the laws `texts_read_once`,
+-- `headers_read_back` and others.
 use Rattle.std.proofs.Common.{◌≡◌, ℕ, Bool, true, false, ◌&&◌, eqb, inl, inr, List, [], ◌∷◌, ◌++◌, map, Option, Some, None, refl, sym, ap, ◌∙◌, append_assoc}
 use Rattle.std.specs.Prelude.{option_and_then}
 use Rattle.std.specs.Option.{option_map}

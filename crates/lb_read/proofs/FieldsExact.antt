@@ -1,4 +1,6 @@
--- The readers of fields are exact.
+-- The readers of the fields of an entry are exact: a text reads as a value just where it is that value's spelling.
+-- For the lemmas of `Declared`, `HeaderSteps` and other files, and so for the laws `headers_read_back`,
+-- `texts_read_once` and others.
 use Rattle.std.proofs.Common.{◌≡◌, ℕ, zero, suc, ◌<◌, ◌≤◌, ◌^◌, ℤ, pos, negsuc, neg_ℤ, Bool, true, false, ◌&&◌, eqb, leb, cond, List, [], ◌∷◌, ◌++◌, length, map, Option, Some, None, refl, sym, ap, ◌∙◌, inl, inr, ◌⊎◌, arith}
 use Rattle.std.specs.Prelude.{decimal, codes, option_and_then, is_some}
 use Rattle.std.specs.Fmt.{signed_decimal}

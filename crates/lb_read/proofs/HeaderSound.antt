@@ -1,4 +1,6 @@
 -- Lines of a trace that are good and can be repeated are those that a header writes for what was read.
+-- For the lemmas of `Declared`, `HeaderSteps` and other files, and so for the laws `headers_read_back`,
+-- `texts_read_once` and `histories_read_back`.
 use Rattle.std.proofs.Common.{◌≡◌, ℕ, ◌+◌, true, List, [], ◌∷◌, ◌++◌, map, length, drop, Option, Some, None, refl, sym, ap, subst, ◌∙◌, arith, append_assoc}
 use Rattle.std.specs.Prelude.{decimal, codes}
 use Rattle.std.specs.Fmt.{signed_decimal}

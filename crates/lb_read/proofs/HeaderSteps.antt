@@ -1,4 +1,6 @@
 -- What good lines that can be repeated add to what a header writes, line after line.
+-- For the lemmas of `Declared`, `Refusals` and other files, and so for the laws `texts_read_once`,
+-- `headers_read_back` and `histories_read_back`.
 use Rattle.std.proofs.Common.{◌≡◌, ℕ, zero, suc, ◌<◌, ◌≤◌, Bool, true, false, ◌||◌, eqb, List, [], ◌∷◌, ◌++◌, length, drop, Option, Some, None, Result, Ok, Err, refl, sym, ap, subst, ◌∙◌, inl, inr, arith, append_assoc}
 use Rattle.std.specs.Prelude.{codes, is_none, is_some, not, IfSome}
 use Rattle.std.specs.List.{list_all, slice_split}

@@ -1,4 +1,6 @@
 -- The readers of entries, by their kinds, and of whole lines are exact.
+-- For the lemmas of `EntriesExact` and `Exactly`, and so for the laws `lines_read_exactly`, `texts_read_once` and
+-- others.
 use Rattle.std.proofs.Common.{◌≡◌, ℕ, Bool, true, false, ◌&&◌, eqb, cond, List, [], ◌∷◌, ◌++◌, map, length, Option, Some, None, refl, sym, ap, ◌∙◌, arith}
 use Rattle.std.specs.Prelude.{decimal, codes, option_and_then}
 use Rattle.std.specs.Fmt.{signed_decimal}

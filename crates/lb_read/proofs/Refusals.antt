@@ -1,4 +1,5 @@
 -- A text is refused at the line where going over its lines stops.
+-- For the law `texts_read_once`, and `read_history`.
 use Rattle.std.proofs.Common.{◌≡◌, ℕ, suc, ◌+◌, ◌-◌, ◌≤◌, Bool, true, false, ◌&&◌, ◌||◌, eqb, leb, cond, List, [], ◌∷◌, ◌++◌, ◌==◌, length, drop, Option, Some, None, Result, Ok, Err, refl, sym, ap, subst, ◌∙◌, ◌⊎◌, inl, inr, arith, length-append}
 use Rattle.std.specs.Prelude.{codes, is_ok, is_some, not, IfOk, IfErr}
 use Rattle.std.specs.List.{slice_split, All}

@@ -1,4 +1,5 @@
 -- The lines of the header of an accepted text are no longer than the text.
+-- For the law `headers_read_back`.
 use Rattle.std.proofs.Common.{◌≡◌, ℕ, ◌+◌, ◌≤◌, Bool, true, false, not, eqb, cond, List, [], ◌∷◌, ◌++◌, map, length, Option, Some, None, Ok, refl, sym, ap, subst, ◌∙◌, inl, inr, arith}
 use Rattle.std.specs.Prelude.{codes, is_some, unwrap_or, decimal}
 use Rattle.std.specs.Fmt.{signed_decimal}

@@ -1,5 +1,6 @@
 -- The one spelling of a list of CPUs is no longer than any other: each end of a run that is written is
 -- an end of some item of the other.
+-- For the lemmas of `Room`, and so for the law `headers_read_back`.
 use Rattle.std.proofs.Common.{◌≡◌, ℕ, zero, suc, ◌+◌, ◌<◌, ◌≤◌, Bool, true, false, ◌&&◌, ◌||◌, eqb, ltb, leb, cond, List, [], ◌∷◌, ◌++◌, map, length, Option, Some, None, refl, sym, ap, subst, ◌∙◌, inl, inr, arith}
 use Rattle.std.specs.Prelude.{◌⊎◌, decimal, option_and_then}
 use Rattle.std.specs.Option.{option_map}

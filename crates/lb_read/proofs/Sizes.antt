@@ -1,4 +1,5 @@
--- How long the lines of a header are at most.
+-- How long the lines of a header are at most, in bytes.
+-- For the lemmas of `Room` and `Shortest`, and so for the law `headers_read_back`.
 use Rattle.std.proofs.Common.{◌≡◌, ℕ, ℤ, pos, negsuc, suc, ◌+◌, ◌*◌, ◌<◌, ◌≤◌, Bool, true, false, ◌&&◌, eqb, ltb, cond, List, [], ◌∷◌, ◌++◌, map, length, Some, refl, ap, arith}
 use Rattle.std.specs.Prelude.{codes, decimal}
 use Rattle.std.specs.Fmt.{signed_decimal}

@@ -1,4 +1,5 @@
 -- Going over lines from the first place stops at the first bad one.
+-- For the lemmas of `Refusals`, and so for the laws `texts_read_once` and `histories_read_back`.
 use Rattle.std.proofs.Common.{◌≡◌, ℕ, zero, suc, ◌+◌, ◌<◌, Bool, true, false, ◌&&◌, List, [], ◌∷◌, ◌==◌, cond, length, take, drop, Option, Some, None, refl, ap, ◌∙◌, inl, inr, arith}
 use Rattle.std.specs.Prelude.{fold, is_none, not, unwrap_or}
 use Rattle.std.proofs.lemmas.Bool.{cases_Bool, cases_order, both_ways}

@@ -1,4 +1,6 @@
 -- What is read of a text is a header and entries of which the text is the text.
+-- For the lemmas of `Declared`, `Refusals` and `Room`, and so for the laws `texts_read_once`, `headers_read_back` and
+-- `histories_read_back`.
 use Rattle.std.proofs.Common.{◌≡◌, ℕ, ◌+◌, ◌-◌, ◌≤◌, Bool, true, false, ◌&&◌, ◌||◌, eqb, leb, cond, List, [], ◌∷◌, ◌++◌, map, length, take, drop, Option, Some, None, Result, Ok, Err, refl, sym, ap, subst, ◌∙◌, inl, inr, arith, append_assoc}
 use Rattle.std.specs.Prelude.{codes, is_some, not, unwrap_or}
 use Rattle.std.specs.List.{list_all, slice_split, onto_first, join_with_byte, All}

@@ -1,4 +1,5 @@
 -- What the calls of a queue ask holds in every ready machine.
+-- For the law `calls_may_be_made`.
 use Rattle.std.proofs.Common.{arith, ◌≡◌, ℕ, ℤ, pos, negsuc, ◌≤ℤ◌, zero, suc, ◌<◌, ◌≤◌, Bool, true, false, cond, ◌==◌, ◌&&◌, ◌||◌, List, [], ◌∷◌, length, map, find, ltb, get_or, Option, Some, None, is_some, refl, sym, ◌∙◌, ap, subst, slice_get, not, ◌-◌}
 use Rattle.std.specs.Prelude.{IfSome, MatchOption}
 use Rattle.std.proofs.lemmas.Bool.{and_parts, or_parts, eqb-true, eq-eqb, leb-true, not-true, not-false}

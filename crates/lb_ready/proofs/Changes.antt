@@ -1,5 +1,7 @@
 -- What an entry changes in the machine: one course, at most one queue with its figures, and the
 -- published versions.
+-- For the lemmas of `Figures`, `Keeping` and other files, and so for the laws `calls_may_be_made`, `ready` and
+-- others.
 use Rattle.std.proofs.Common.{arith, ◌≡◌, ℕ, ◌+◌, ◌-◌, ◌<◌, ◌≤◌, Bool, true, false, cond, ◌==◌, if◌then◌else◌, List, [], ◌∷◌, ◌++◌, length, set, Option, Some, refl, sym, ◌∙◌, ap, inl, inr, length-set, get_or-set_same, get_or-set_other, length-append, get_or}
 use Rattle.std.proofs.lemmas.Bool.{cases_eq, eq-eqb, ne_eqb, cases_lt}
 use Rattle.std.proofs.lemmas.List.{get_or_past}

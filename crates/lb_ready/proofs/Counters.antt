@@ -1,4 +1,5 @@
 -- The counters of a queue stay in range: those that a turn finds, and those that a close leaves.
+-- For the lemmas of `Keeping` and `Ranges`, and so for the laws `calls_may_be_made`, `ready` and others.
 use Rattle.std.proofs.Common.{arith, ◌≡◌, ℕ, suc, ◌+◌, ◌<◌, ◌≤◌, Bool, true, false, cond, ◌==◌, List, [], ◌∷◌, length, map, Option, Some, None, refl, sym, ltb, zero, ◌*◌, ◌-◌, ◌^◌, ◌||◌, set, inl, inr, get_or-set_same, get_or-set_other, length-set, unwrap_or, subst}
 use Rattle.std.specs.Prelude.{◌⊎◌}
 use Rattle.std.proofs.lemmas.Bool.{ltb-true, cases_eq, cases_lt}

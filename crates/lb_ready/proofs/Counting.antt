@@ -1,5 +1,7 @@
 -- How many numbers below a bound pass a test: more pass a wider test; and what a search over a range
 -- finds.
+-- For the lemmas of `Courses`, `Decisions` and other files, and so for the laws `lanes_suit`, `entries_fit` and
+-- others.
 use Rattle.std.proofs.Common.{◌/◌, ◌^◌, arith, ◌≡◌, ℕ, zero, suc, ◌+◌, ◌-◌, ◌<◌, ◌≤◌, Bool, true, false, not, cond, ◌≢◌, ◌==◌, ◌&&◌, ◌||◌, find, Some, refl, sym, ◌∙◌, ap, subst, sum_by, ltb, inl, inr}
 use Rattle.std.specs.List.{range_with_len}
 use Rattle.std.specs.Int.{bit_at}

@@ -1,5 +1,7 @@
 -- What a course becomes: to show something of the course after an entry, show it of the few courses
 -- that each kind of entry can leave.
+-- For the lemmas of `Fitting`, `Keeping` and other files, and so for the laws `calls_may_be_made`, `ready` and
+-- others.
 use Rattle.std.proofs.Common.{length, ltb, ◌&&◌, ◌<◌, set, ◌≡◌, ℕ, Bool, true, false, cond, Option, Some, None, refl}
 use Rattle.std.proofs.lemmas.Bool.{and_parts, ltb-true}
 use Rattle.lb_base.specs.declared.shape.Kind.{Kind}

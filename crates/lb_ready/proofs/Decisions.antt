@@ -1,5 +1,6 @@
 -- What a decision pulls: from a CPU that is not excluded, is of a group after the local one and has tasks
 -- by its figure, and an amount that is in range where the statistics of the groups are.
+-- For the lemmas of `Keeping`, `Ranges` and `Work`, and so for the laws `calls_may_be_made`, `ready` and others.
 use Rattle.std.proofs.Common.{arith, ◌≡◌, ℕ, ◌<◌, Bool, true, false, cond, ◌==◌, List, length, Option, Some, None, refl, sym, subst, ltb, ◌+◌, ◌-◌, ◌*◌, ◌/◌, ◌^◌, ◌≤◌, not, ◌&&◌, min, max, inl, inr}
 use Rattle.std.proofs.lemmas.Bool.{and_parts, cases_lt}
 use Rattle.std.specs.Prelude.{All}

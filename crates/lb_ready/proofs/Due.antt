@@ -1,5 +1,7 @@
 -- When an entry that a lane draws keeps every rule: each rule is asked in the form of the lane's course. What
 -- a lane's next entry has to be, so that it may be added; and tasks that leave, by whatever form.
+-- For the lemmas of `Calls`, `Drawing` and other files, and so for the laws `calls_may_be_made`, `next_entries` and
+-- others.
 use Rattle.std.proofs.Common.{cond, ◌≡◌, ℕ, ◌<◌, Bool, true, false, not, ◌==◌, ◌&&◌, ◌||◌, List, [], ◌∷◌, length, map, get_or, Option, Some, None, refl, sym, ◌∙◌, ltb, arith, is_some}
 use Rattle.std.specs.List.{list_any}
 use Rattle.std.proofs.lemmas.Bool.{and_from, or_parts, eq-eqb, lt-ltb}

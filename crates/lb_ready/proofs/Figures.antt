@@ -1,6 +1,8 @@
 -- Figures. A CPU past the machine has none, is no source and is not tickless. Each figure is small: a
 -- queue has at most 4,096 tasks of each kind, and what each says is bounded; so over groups without a
 -- CPU in common the sums are small too.
+-- For the lemmas of `Calls`, `Fitting` and `Keeping`, and so for the laws `calls_may_be_made`, `ready` and others;
+-- cited by `lb_service` too.
 use Rattle.std.proofs.Common.{arith, ◌≡◌, ℕ, ◌<◌, ◌≤◌, Bool, true, false, cond, ◌==◌, ◌&&◌, List, [], ◌∷◌, length, find, get_or, Some, refl, sym, ◌∙◌, ap, ltb, inl, inr, zero, suc, ◌+◌, ◌*◌, ◌^◌, ◌||◌, ◌++◌, filter, sum_by, subst, set, get_or-set_same, get_or-set_other}
 use Rattle.std.proofs.lemmas.Bool.{and_parts, eqb-true, ltb-true, cases_lt, cases_eq, le-ltb}
 use Rattle.std.proofs.lemmas.List.FromFn.{get_or-map-range_with_len}

@@ -1,5 +1,6 @@
 -- What a course keeps, by kind of entry: it fits the machine, and no excluded CPU is of the local group.
 -- At each position none is excluded at first, and then the source of a pull, which is of a later group.
+-- For the lemmas of `Calls`, `Keeping` and `Ranges`, and so for the laws `calls_may_be_made`, `ready` and others.
 use Rattle.std.proofs.Common.{◌^◌, ◌≤◌, ◌+◌, cond, arith, ◌≡◌, ℕ, ◌<◌, Bool, true, false, ◌==◌, [], length, Option, Some, None, refl, subst, zero, suc, ◌||◌, List, ◌∷◌, get_or, ◌∙◌, ltb}
 use Rattle.std.proofs.lemmas.Bool.{and_parts, eqb-true}
 use Rattle.std.specs.List.{list_all}

@@ -1,5 +1,6 @@
 -- In each form but rest the lane has a serial entry that may be added. A row is answered by the queue that
 -- knows its task: where no task is in a hand, there is one.
+-- For the lemmas of `Calls` and `Running`, and so for the laws `calls_may_be_made`, `serial_runs` and others.
 use Rattle.std.proofs.Common.{cond, ◌≡◌, ℕ, ◌<◌, Bool, true, false, not, ◌==◌, ◌&&◌, ◌||◌, List, [], ◌∷◌, length, map, Option, Some, None, refl, sym, ◌∙◌, ltb, subst, arith, ◌≤◌, max, is_some, is_none, ap, ◌+◌, ◌-◌, find, inl, inr}
 use Rattle.std.specs.List.{list_any}
 use Rattle.std.specs.Prelude.{unwrap_or}

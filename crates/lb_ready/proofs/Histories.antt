@@ -1,5 +1,6 @@
 -- The histories of an accepted trace: they have as many rows as the trace, end, and what each entry says is
 -- in range.
+-- For the laws `entries_fit` and `histories_end`.
 use Rattle.std.proofs.Common.{arith, ◌≡◌, ℕ, suc, ◌≤◌, Bool, true, false, cond, ◌==◌, List, [], ◌∷◌, length, refl, sym, ◌∙◌, ap, inl, inr, ◌+◌, ◌*◌, ◌<◌, ◌++◌, map, replicate, get_or, subst}
 use Rattle.std.specs.List.{list_all, range_with_len}
 use Rattle.std.proofs.lemmas.Bool.{and_from, and_parts, eq-eqb, eqb-true, ne_eqb, cases_eq}

@@ -1,5 +1,6 @@
 -- The opening machine of an accepted header is ready, and every entry that may be added, and is in range,
 -- keeps the machine ready.
+-- For the laws `calls_may_be_made` and `ready`.
 use Rattle.std.proofs.Common.{◌≤◌, map, arith, ◌≡◌, ℕ, ◌+◌, ◌<◌, Bool, true, false, cond, ◌==◌, List, [], ◌∷◌, length, replicate, get_or, None, refl, ap, inl, inr, ◌∙◌, not, Option, Some, sym, subst, ltb, ◌++◌}
 use Rattle.std.proofs.lemmas.List.{get_or-replicate, length-replicate, get_or_past}
 use Rattle.std.specs.List.{list_all, range_with_len}

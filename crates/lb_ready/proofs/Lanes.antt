@@ -1,5 +1,6 @@
 -- What every lane keeps whatever its form, from entry to entry along the legal front that led there: a number
 -- for each CPU, a position that a mask has room for, and masks that part the CPUs.
+-- For the law `lanes_suit`.
 use Rattle.std.proofs.Common.{arith, ◌≡◌, ℕ, ◌+◌, ◌<◌, inl, inr, false, List, [], ◌∷◌, length, set, Option, Some, None, refl, sym, ◌∙◌, ap, subst, length-set, get_or-set_same, get_or-set_other}
 use Rattle.std.specs.Prelude.{IfSome}
 use Rattle.std.proofs.lemmas.Bool.{or_parts, not-false, cases_eq}

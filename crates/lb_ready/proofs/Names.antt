@@ -1,4 +1,5 @@
 -- What a lane has named was published: versions and figures.
+-- For the lemmas of `Keeping` and `Ranges`, and so for the laws `calls_may_be_made`, `ready` and others.
 use Rattle.std.proofs.Common.{◌≡◌, ℕ, Bool, true, false, List, Option, Some, None, refl, arith, ◌+◌, ◌-◌, ◌≤◌, ◌==◌, [], ◌∷◌, length, set, sym, ◌∙◌, ap, subst, ltb, inl, inr}
 use Rattle.std.specs.List.{list_any}
 use Rattle.std.proofs.lemmas.Bool.{or_parts, cases_lt, eqb-true, eq-eqb, not-false, lt-ltb}

@@ -1,4 +1,5 @@
 -- A stop request is owed only while the lane that ticked the queue's CPU serves the tick.
+-- For the lemmas of `Keeping`, and so for the laws `calls_may_be_made`, `ready` and others.
 use Rattle.std.proofs.Common.{◌≡◌, ◌⊎◌, ◌+◌, ℕ, Bool, true, false, not, cond, ◌&&◌, Option, Some, None, is_some, refl, sym, ◌∙◌, ap, subst, inl, inr}
 use Rattle.std.proofs.lemmas.Bool.{and_parts, eqb-true, not-false, cases_eq}
 use Rattle.lb_base.specs.declared.mask.Mask.{Mask}

@@ -1,4 +1,5 @@
 -- The queue that an entry leaves is still that of its CPU, and nobody is sent past the machine.
+-- For the lemmas of `Figures` and `Keeping`, and so for the laws `calls_may_be_made`, `ready` and others.
 use Rattle.std.proofs.Common.{◌+◌, ◌*◌, arith, ◌≡◌, ℕ, ◌<◌, Bool, true, false, cond, ◌==◌, Option, Some, None, unwrap_or, refl, ap, ◌∙◌}
 use Rattle.std.specs.List.{list_all}
 use Rattle.std.proofs.lemmas.Bool.{and_parts, and_from, or_parts, not-false, lt-ltb, ltb-true, le-leb, leb-true}

@@ -1,5 +1,6 @@
 -- What an entry says that may be added to a ready machine is in the ranges of its text. The figures that
 -- it names are of rising CPUs, and there is one at least.
+-- For the laws `entries_fit` and `ready`.
 use Rattle.std.proofs.Common.{arith, ◌≡◌, ℕ, zero, suc, ◌+◌, ◌<◌, ◌≤◌, Bool, true, false, ltb, List, [], ◌∷◌, map, filter, Option, Some, None, refl, sym, ◌∙◌, ap, ◌-◌, ◌^◌, cond, not, ◌==◌, ◌&&◌, ◌||◌, length, get_or, subst}
 use Rattle.std.specs.List.{range_with_len, list_any, list_all}
 use Rattle.std.proofs.lemmas.Bool.{and_from, and_parts, or_parts, lt-ltb, le-leb, eqb-true, eq-eqb, ltb-true, not-false}

@@ -1,5 +1,7 @@
 -- Stop requests: which steps of a queue ask a task to leave, and which serve a request; and that
 -- where a task is asked, one is next.
+-- For the lemmas of `Calls`, `Figures` and other files, and so for the laws `calls_may_be_made`, `entries_fall` and
+-- others.
 use Rattle.std.proofs.Common.{arith, ◌≡◌, ◌≢◌, ℕ, ◌+◌, ◌≤◌, Bool, true, false, not, cond, ◌==◌, ◌&&◌, ◌||◌, List, [], ◌∷◌, find, Option, Some, None, is_some, refl, sym, ◌∙◌, ap}
 use Rattle.std.specs.List.{list_all, list_any}
 use Rattle.std.proofs.lemmas.Bool.{and_parts, and_from, eqb-true, eq-eqb, ne_eqb, not-false}

@@ -1,6 +1,7 @@
 -- A serial run is never stuck: a lane that serves a row goes on, and where all lanes rest a row is taken
 -- up, or the history is closed. So every accepted trace has a serial history: the entries that are due are
 -- drawn until none is left.
+-- For the law `serial_runs`.
 use Rattle.std.proofs.Common.{cond, arith, ◌≡◌, ℕ, suc, ◌+◌, ◌<◌, Bool, true, false, List, [], ◌∷◌, length, Option, Some, None, is_some, is_none, refl, sym, ◌∙◌, ap, subst, ltb, inl, inr, ◌⊎◌, zero, not, ◌==◌, ◌++◌, get_or, replicate, set, add-one, length-set, get_or-set_same, get_or-set_other}
 use Rattle.std.specs.List.{list_all}
 use Rattle.std.specs.Prelude.{unwrap_or}

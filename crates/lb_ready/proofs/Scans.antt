@@ -1,4 +1,5 @@
 -- A scan that is due is over a published version: it follows the end of a turn, which took that version up.
+-- For the lemmas of `Keeping`, and so for the laws `calls_may_be_made`, `ready` and others.
 use Rattle.std.proofs.Common.{arith, ◌≡◌, ℕ, ◌+◌, ◌-◌, ◌<◌, true, List, [], ◌∷◌, length, get_or, Option, Some, None, refl, sym, ◌∙◌}
 use Rattle.std.proofs.lemmas.List.{get_or_append_left}
 use Rattle.lb_base.specs.declared.mask.Mask.{Mask}

@@ -1,5 +1,7 @@
 -- What the rule `stage` says of an entry that keeps it: its lane and its CPU are declared, it is its owner's,
 -- and the form of its lane's course draws its kind. For callers too.
+-- For the lemmas of `Calls` and `Drawing`, and so for the laws `calls_may_be_made`, `next_entries` and others; cited
+-- by `lb_judge` too.
 use Rattle.std.proofs.Common.{◌≡◌, ℕ, ◌<◌, true, false, not, length, ltb}
 use Rattle.std.proofs.lemmas.Bool.{and_parts, or_parts, ltb-true, not-false}
 use Rattle.lb_core.specs.declared.entry.Entry.{Entry}

@@ -1,5 +1,6 @@
 -- The steps of a queue in the machine, as calls of it: each answer to a command, each landing, and each
 -- way in which tasks leave. So a test of tasks that lasts is kept, and so is what is not of tasks.
+-- For the lemmas of `Calls`, `Counters` and other files, and so for the laws `calls_may_be_made`, `ready` and others.
 use Rattle.std.proofs.Common.{◌≡◌, ◌⊎◌, ℕ, Bool, true, false, List, Option, Some, None, refl, subst, inl, inr, ℤ, is_some, ◌||◌}
 use Rattle.std.specs.List.{list_all}
 use Rattle.std.specs.Prelude.{IfSome}

@@ -1,5 +1,6 @@
 -- Every entry lowers the number of entries that are left: one that moves no task lowers what its course
 -- can still draw, by what the course itself says; one that moves tasks lowers that or the requests.
+-- For the law `entries_fall`.
 use Rattle.std.proofs.Common.{arith, ◌≡◌, ℕ, ◌+◌, ◌*◌, ◌<◌, ◌≤◌, Bool, true, false, not, cond, ◌==◌, ◌&&◌, length, Option, Some, None, refl, sym, ◌∙◌, ltb, ◌⊎◌, inl, inr, ◌||◌, List, is_some, ap, sum_by}
 use Rattle.std.proofs.lemmas.Bool.{and_parts, and_from, or_parts, ltb-true, lt-ltb, le-ltb, not-true, eqb-true, eq-eqb, not-false}
 use Rattle.std.proofs.lemmas.List.Sums.{sum_by-set}

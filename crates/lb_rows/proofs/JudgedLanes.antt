@@ -1,4 +1,5 @@
--- The histories of this name are judged by computing the machine.
+-- Each worked history of `specs/Lanes` is legal, or breaks the rule that is said: by computing the machine.
+-- For `commands_round_a_hand`, `command_finds_a_hand`, `second_turn_is_shut` and others.
 use Rattle.std.specs.Prelude.{◌≡◌, None, refl}
 use Rattle.lb_base.specs.Mask.{has, members_below, members, first_cpus, only, both, either, without}
 use Rattle.lb_base.specs.Sets.{least, least_above, is_below, are_apart, mask_where}

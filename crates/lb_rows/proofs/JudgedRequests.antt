@@ -1,4 +1,5 @@
--- The histories of this name are judged by computing the machine.
+-- Each worked history of `specs/Requests` is legal, or breaks the rule that is said: by computing the machine.
+-- For `stop_is_served_at_the_tick`, `stop_is_dropped`, `stop_is_served_at_the_end` and others.
 use Rattle.std.specs.Prelude.{◌≡◌, None, refl}
 use Rattle.lb_base.specs.Mask.{has, members_below, members, first_cpus, only, both, either, without}
 use Rattle.lb_base.specs.Sets.{least, least_above, is_below, are_apart, mask_where}

@@ -1,6 +1,7 @@
 -- Which lane draws the next entry: between two rows it takes up the row that is next; in the service of a
 -- row it is of the lane that serves it; and from the last row on it is of lane 0. So each draw leads from
 -- where the run stands to where it stands then.
+-- For `serial` and `Run::serve`.
 use Rattle.std.proofs.Common.{◌≡◌, ℕ, suc, ◌+◌, ◌-◌, ◌<◌, Bool, true, false, Option, Some, None, List, [], ◌∷◌, ◌++◌, length, drop, slice_get, refl, sym, ◌∙◌, ap, subst, inl, inr, arith, add-one, drop-cons, get_or-set_other, length-set, length-append}
 use Rattle.std.specs.Prelude.{option_to_list}
 use Rattle.std.proofs.lemmas.Bool.{cases_eq}

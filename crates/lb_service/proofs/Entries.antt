@@ -1,4 +1,5 @@
 -- The entries of a service: what each leaves of its lane, and what the lane's course still asks for.
+-- For `serve_scan`, `serve_kick`, `open_turn` and others.
 use Rattle.std.proofs.Common.{ℕ, ◌≡◌, ◌+◌, ◌<◌, Bool, true, false, not, ◌==◌, cond, List, [], Option, Some, None, length, map, unwrap_or, if◌then◌else◌, refl, sym, ap, subst, ◌∙◌, arith, All, inl, inr}
 use Rattle.std.proofs.lemmas.Bool.{and_parts, eqb-true}
 use Rattle.std.proofs.lemmas.List.{length-map}

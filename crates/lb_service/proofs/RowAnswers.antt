@@ -1,4 +1,5 @@
 -- The answer to a row: the lane has taken up one row more, and goes on with what follows from it.
+-- For `answer_row`.
 use Rattle.std.proofs.Common.{ℕ, ◌≡◌, ◌+◌, ◌<◌, Bool, true, false, ◌==◌, List, [], Option, Some, None, unwrap_or, length, if◌then◌else◌, refl, sym, ap, subst, ◌∙◌, inl, inr}
 use Rattle.std.proofs.lemmas.Bool.{eqb-true}
 use base.Stored.{Coded}

@@ -1,4 +1,5 @@
 -- A turn of a service: what is known of it once it has opened, or was shut; and after each of its positions.
+-- For `open_turn` and `pass_position`.
 use Rattle.std.proofs.Common.{ℕ, ◌≡◌, ◌+◌, ◌<◌, Bool, true, false, not, ◌==◌, cond, List, Option, Some, None, MatchOption, length, map, All, [], ◌⊎◌, if◌then◌else◌, refl, sym, ap, subst, ◌∙◌, arith, inl, inr}
 use Rattle.std.proofs.lemmas.Bool.{and_parts, eqb-true}
 use Rattle.std.proofs.lemmas.List.{length-map}

@@ -1,6 +1,7 @@
 -- What the step of an `out` asks, where it may be added to a ready machine: it is the one that is due, and goes
 -- to a CPU of the machine with tasks that are declared, and few. The machine after it is ready too, and has them
 -- in the hand of a lane in flight.
+-- For the lemmas of `Taking`, and so for the law `steps_may_be_taken`.
 use Rattle.std.proofs.Common.{arith, ◌≡◌, ℕ, ◌+◌, ◌<◌, ◌≤◌, false, List, length, Option, Some, None, refl, sym, ◌∙◌, ap, subst, get_or-set_same}
 use Rattle.std.specs.Prelude.{All}
 use Rattle.std.proofs.lemmas.Bool.{or_parts, eqb-true, not-false}

@@ -1,4 +1,5 @@
 -- The serial entry of a lane says what is in range, where the row that is given is an accepted one.
+-- For `State::draw`.
 use Rattle.std.proofs.Common.{◌≡◌, ℕ, ◌+◌, ◌<◌, true, List, Option, Some, None, refl, sym, subst, Bor}
 use Rattle.std.specs.Prelude.{IfSome, option_copied, option_to_list}
 use Rattle.std.specs.List.{list_all}

@@ -1,5 +1,6 @@
 -- The hands of a ready machine can land: each goes to a CPU of the machine, where its landings are booked, and
 -- no task stands twice, in a hand or on a queue.
+-- For the law `hands_may_land`.
 use Rattle.std.proofs.Common.{arith, ◌≡◌, ℕ, zero, suc, ◌+◌, ◌<◌, ◌≤◌, Bool, true, false, cond, List, [], ◌∷◌, length, Option, Some, None, refl, ◌∙◌, ap}
 use Rattle.std.specs.Prelude.{IfSome, ◌==◌}
 use Rattle.std.proofs.lemmas.Bool.{and_parts, eqb-true}

@@ -1,5 +1,6 @@
 -- What the step of an entry of a lane or the publisher asks, where it may be added to a ready machine: the row
 -- names what is declared, the version and the figures were published, the masks part the CPUs.
+-- For the lemmas of `Taking`, and so for the law `steps_may_be_taken`.
 use Rattle.std.proofs.Common.{arith, ◌≡◌, ℕ, zero, suc, ◌-◌, ◌<◌, ◌≤◌, max, Bool, true, false, List, [], ◌∷◌, length, map, ltb, get_or, Option, Some, refl, ◌∙◌, ap}
 use Rattle.std.specs.Prelude.{All}
 use Rattle.std.specs.List.{list_all, list_any}

@@ -1,5 +1,6 @@
 -- What the step of an entry of a queue asks, where it may be added to a ready machine: the place of the task
 -- that is answered for, the turn that is open, the tasks that land.
+-- For the lemmas of `Departures` and `Taking`, and so for the law `steps_may_be_taken`.
 use Rattle.std.proofs.Common.{arith, ◌≡◌, ℕ, zero, suc, ◌<◌, ◌≤◌, Bool, true, false, cond, List, [], ◌∷◌, length, ltb, get_or, Option, Some, None, is_some, is_none, refl, sym, ◌∙◌, subst, not}
 use Rattle.std.specs.Prelude.{All, IsSome}
 use Rattle.std.proofs.lemmas.Bool.{and_parts, ltb-true, eqb-true, eq-eqb, not-false}

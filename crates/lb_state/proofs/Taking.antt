@@ -1,4 +1,5 @@
 -- An entry that may be added to a ready machine meets what its step asks of the engine.
+-- For the law `steps_may_be_taken`.
 use Rattle.std.proofs.Common.{arith, ◌≡◌, ℕ, ◌<◌, true, false, length, refl}
 use Rattle.lb_domain.specs.Laws.{LieInside}
 use Rattle.lb_queue.specs.Queue.{QueueState}

@@ -1,4 +1,5 @@
 -- The flag of the position below, as one bit of a figure's flags.
+-- For `marked`.
 use Rattle.std.proofs.Common.{◌≡◌, ℕ, ◌+◌, ◌-◌, ◌/◌, ◌^◌, ◌<◌, false, eqb, refl, arith, bit_and}
 use Rattle.std.specs.Int.{bit_at}
 use Rattle.std.proofs.lemmas.Bool.{lt-ltb}

@@ -1,4 +1,5 @@
 -- What is counted over a list of CPUs: nothing over none, and at one more CPU its own part more.
+-- For `sums_of`.
 use Rattle.std.proofs.Common.{◌≡◌, ℕ, ◌+◌, ◌≤◌, Bool, true, false, ◌||◌, cond, List, [], ◌∷◌, ◌++◌, refl, sym, ◌∙◌, ap, arith}
 use Rattle.std.specs.Prelude.{sum_by, count_by}
 use Rattle.std.specs.List.{list_any}

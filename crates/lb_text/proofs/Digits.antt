@@ -1,5 +1,6 @@
 -- What decimal spellings have in common with one another: a spelling cut at the end spells the number
 -- cut at the end, and a number spells its own front.
+-- For `number_within`; cited by `lb_generator` and `lb_read` too.
 use Rattle.std.proofs.Common.{◌≡◌, ℕ, zero, suc, ◌+◌, ◌*◌, ◌/◌, ◌%◌, ◌^◌, ◌<◌, ◌≤◌, Bool, true, false, not, ◌&&◌, ◌||◌, cond, List, [], ◌∷◌, ◌++◌, length, get_or, Some, None, refl, sym, ap, ◌∙◌, inl, inr, arith, append_assoc, length-append}
 use Rattle.std.specs.Prelude.{decimal, nat_le, slice_index, ◌==◌}
 use Rattle.std.specs.Str.{all_ascii_digits}

@@ -1,4 +1,5 @@
 -- The items of lists: which texts begin one.
+-- For `item_of`; cited by `lb_read` too.
 use Rattle.std.proofs.Common.{◌≡◌, ℕ, ◌+◌, ◌-◌, ◌<◌, ◌≤◌, ◌^◌, Bool, true, false, eqb, List, [], ◌∷◌, ◌++◌, length, take, Option, Some, None, refl, sym, ap, subst, ◌∙◌, inl, inr, arith, length-append}
 use Rattle.std.specs.Prelude.{decimal, is_some, option_and_then}
 use Rattle.std.specs.Option.{option_map}

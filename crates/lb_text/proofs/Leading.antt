@@ -1,5 +1,6 @@
 -- Which numbers begin with the digits of another: those that are that number once some of their last
 -- digits are cut off.
+-- For `with_leading_digit` and `leads`.
 use Rattle.std.proofs.Common.{◌&&◌, not, leb, eqb, cond, false, MatchOption, ◌%◌, length-append, ◌≡◌, ℕ, ◌+◌, ◌-◌, ◌*◌, ◌/◌, ◌^◌, ◌<◌, ◌≤◌, Bool, true, max, List, [], ◌∷◌, ◌++◌, length, get_or, Option, Some, None, refl, sym, ap, ◌∙◌, inl, inr, arith, below_more, subst}
 use Rattle.std.specs.Prelude.{decimal, is_some}
 use Rattle.std.proofs.Math.Nat.{div-div-eq-div-mul, div-mul-le_self, div-eq_of_lt-le, div-lt_iff_lt-mul, one-le-pow, div-one}

@@ -1,4 +1,5 @@
 -- Which texts begin a nice value.
+-- For `nice_of`; cited by `lb_generator` and `lb_read` too.
 use Rattle.std.proofs.Common.{◌≡◌, ℕ, zero, suc, ◌+◌, true, false, eqb, List, [], ◌∷◌, ◌++◌, take, Option, Some, None, refl, sym, ap, subst, ◌∙◌, arith, ℤ, pos, neg_ℤ}
 use Rattle.std.specs.Prelude.{is_some, decimal}
 use Rattle.std.specs.Option.{option_map}

@@ -1,5 +1,6 @@
 -- The first bad byte of a piece is that of the whole text, as many bytes further as stand before the
 -- piece.
+-- For the lemmas of `Items`, `NiceFacts` and `Taken`, and so for the laws `writes_runs`, `reads_back` and others.
 use Rattle.std.proofs.Common.{◌≡◌, ℕ, ◌+◌, ◌-◌, ◌<◌, ◌≤◌, Bool, true, false, List, [], ◌∷◌, ◌++◌, length, take, drop, refl, sym, ap, subst, ◌∙◌, inl, inr, arith, rules, length-append}
 use Rattle.std.proofs.lemmas.Bool.{cases_lt, both_ways}
 use Rattle.std.proofs.lemmas.List.{take-append-drop, take-append-le, same_lists, places}

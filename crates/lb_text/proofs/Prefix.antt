@@ -1,4 +1,5 @@
 -- Texts that begin accepted ones, and what is known of a number of which a front was read.
+-- For `number_within`.
 use Rattle.std.proofs.Common.{◌≡◌, ℕ, ◌+◌, ◌-◌, ◌<◌, ◌≤◌, ◌^◌, Bool, true, List, [], ◌∷◌, ◌++◌, length, get_or, take, drop, Option, Some, None, refl, sym, ap, subst, ◌∙◌, arith, below_more}
 use Rattle.std.specs.Prelude.{decimal, is_some}
 use Rattle.std.proofs.lemmas.List.{append_assoc, take-append-drop, take_more, take_all}

@@ -1,4 +1,6 @@
 -- Why what is written is read back. What reads lists of CPUs cites `lists_fit`.
+-- For the laws `spells_decimal`, `writes_runs`, `lists_fit` and `reads_back`; cited by `lb_generator`, `lb_read` and
+-- `lb_trace` too.
 use Rattle.std.proofs.Common.{◌≡◌, ℕ, zero, suc, ◌+◌, ◌-◌, ◌<◌, ◌≤◌, ◌^◌, Bool, true, false, ◌&&◌, ◌||◌, eqb, leb, cond, Option, None, add-one, List, [], ◌∷◌, length, map, Some, refl, sym, ap, subst, ◌∙◌, inl, inr, ◌⊎◌, arith, length-append}
 use Rattle.std.specs.Prelude.{decimal, is_some}
 use Rattle.std.specs.Option.{option_map}

@@ -1,4 +1,5 @@
 -- A list's items: the pieces of its text between the marks, and the text that they make.
+-- For `list_of`.
 use Rattle.std.proofs.Common.{◌≡◌, ℕ, ◌+◌, ◌<◌, ◌≤◌, Bool, true, false, ◌&&◌, ◌||◌, eqb, ltb, List, [], ◌∷◌, ◌++◌, length, take, Option, Some, None, refl, sym, ap, subst, ◌∙◌, inl, inr, arith, length-append}
 use Rattle.std.specs.Prelude.{is_some, option_and_then, ◌^◌}
 use Rattle.std.specs.Option.{option_map}

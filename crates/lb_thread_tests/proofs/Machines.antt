@@ -1,4 +1,5 @@
 -- The rows of two lanes that have one each.
+-- For the test `two_lanes_draw_each_ticket_once`.
 use Rattle.std.proofs.Common.{ℕ, ◌≡◌, ◌≤◌, ◌<◌, List, [], ◌∷◌, length, map, get_or, refl, sym, subst, ap, ◌∙◌, arith}
 use Rattle.std.specs.List.{range_with_len}
 use Rattle.lb_trace.specs.declared.trace.Row.{Row}

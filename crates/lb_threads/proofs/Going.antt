@@ -1,4 +1,5 @@
 -- A lane that goes through the rows of the trace, and serves its own.
+-- For `serve_rows`.
 use Rattle.std.proofs.Common.{ℕ, zero, suc, ◌≡◌, ◌<◌, ◌==◌, Bool, true, false, cond, List, [], ◌∷◌, Some, length, filter, take, slice_get, get_or, sym, ap, refl, ◌∙◌, arith}
 use Rattle.std.proofs.lemmas.Bool.{false≢true}
 use Rattle.lb_trace.specs.declared.trace.Row.{Row}

@@ -1,4 +1,5 @@
 -- What holds of each lane with its number: counted along the list, or asked at a place.
+-- For `history_of` and `run_blank`.
 use Rattle.std.proofs.Common.{ℕ, ◌≡◌, ◌+◌, ◌<◌, zero, suc, List, [], ◌∷◌, ◌++◌, Some, map, take, drop, length, slice_get, get_or, All, refl, sym, ap, subst, ◌∙◌, arith}
 use Rattle.std.proofs.lemmas.Option.{none-some, same_Some, slice_get-get_or, slice_get_within}
 use Rattle.std.proofs.lemmas.List.{take_all, take-append-le}

@@ -1,5 +1,6 @@
 -- How the lanes of a machine begin and end: before its first row a lane is at rest and has the trace's rows of its number,
 -- and once it has done them it is at rest again and has taken up all of them.
+-- Cited by the contracts of `history_of`, `serve_lanes`, `serve_rows` and others.
 use Rattle.std.specs.Prelude.{ℕ, ◌≡◌, Some, false, List, length, slice_get}
 use Rattle.lb_trace.specs.declared.trace.Row.{Row}
 use Rattle.lb_core.specs.declared.course.Form.TheVariants.{Rest}

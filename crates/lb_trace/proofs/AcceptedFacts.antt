@@ -1,5 +1,6 @@
 -- An accepted trace keeps to all that `IsTrace` says: what was read of its lines is sound, and there
 -- was a line `lanes`.
+-- For the law `accepted`; cited by `lb_read` too.
 use Rattle.std.proofs.Common.{◌≡◌, ℕ, ◌-◌, ◌<◌, ◌≤◌, ◌^◌, true, false, not, nat_le, nat_lt, ◌==◌, cond, List, [], ◌∷◌, length, Option, Some, None, IfSome, Ok, Err, refl, sym, ap, subst, ◌∙◌, arith, inl, inr}
 use Rattle.std.specs.Prelude.{Result, is_some, is_none, unwrap_or}
 use Rattle.std.specs.List.{list_all}

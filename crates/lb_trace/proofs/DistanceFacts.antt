@@ -1,4 +1,5 @@
 -- A table of distances with a row more: the ranges of its entries, and the tests of its last row.
+-- For `Reading::dist_line` and `is_bad_distance`.
 use Rattle.std.proofs.Common.{◌≡◌, ℕ, zero, suc, ◌-◌, ◌<◌, leb, Bool, true, ◌&&◌, List, [], ◌∷◌, ◌++◌, length, map, drop, length-append, inl, inr, refl, sym, ap, ◌∙◌, arith}
 use Rattle.std.specs.List.{range_with_len, list_any, list_all}
 use Rattle.std.specs.Str.Parse.{digits_value}

@@ -1,4 +1,5 @@
 -- A refusal names the first bad line and its first code, and an accepted text has no bad line.
+-- For the law `first_bad`.
 use Rattle.std.proofs.Common.{◌≡◌, ℕ, ◌<◌, true, false, List, length, Ok, Err, refl, sym, ap, subst, ◌∙◌, arith, inl, inr}
 use Rattle.std.specs.Prelude.{Result, is_ok}
 use Rattle.std.proofs.lemmas.Bool.{cases_lt, cases_order, both_ways}

@@ -1,4 +1,5 @@
 -- Reading line after line stops at the first bad one.
+-- For `lines_from`; cited by `lb_read` too.
 use Rattle.std.proofs.Common.{◌≡◌, ℕ, zero, suc, ◌+◌, ◌<◌, Bool, true, false, List, [], ◌∷◌, ◌++◌, ◌==◌, cond, length, take, drop, Option, Some, None, Ok, Err, refl, sym, ap, subst, ◌∙◌, arith}
 use Rattle.std.specs.Prelude.{Result, fold}
 use Rattle.lb_fields.specs.Pieces.{pieces}

@@ -1,4 +1,6 @@
--- The first of several tests that holds, and its code.
+-- Of the tests of a line in their order, the first that holds gives the code of the refusal.
+-- For the lemmas of `AcceptedFacts`, `FirstBadLaws` and other files, and so for the laws `accepted` and `first_bad`;
+-- cited by `lb_read` too.
 use Rattle.std.proofs.Common.{◌≡◌, true, false, [], ◌∷◌, ◌++◌, Ok, Err, refl, sym, ap, ◌∙◌}
 use Rattle.lb_trace.specs.declared.trace.Code.{Code}
 use Rattle.lb_trace.specs.Tests.{Tests, unless_bad}

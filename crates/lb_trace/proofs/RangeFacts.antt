@@ -1,5 +1,6 @@
 -- The ranges of what was read are within those that a machine is read in and a task is declared with.
 -- What runs an accepted trace cites `nice_range`.
+-- For `is_nested` and `Header::machine`; cited by `lb_act` too.
 use Rattle.std.proofs.Common.{◌≡◌, ℕ, ℤ, pos, negsuc, ◌≤◌, ◌≤ℤ◌, Bool, true, List, [], ◌∷◌, refl, arith}
 use Rattle.std.specs.Prelude.{nat_lt, nat_le}
 use Rattle.std.specs.List.{list_all}

@@ -1,5 +1,6 @@
 -- What was read stays sound with one of the other lines of the header: partition masks, the number of
 -- lanes, or a task.
+-- For the lemmas of `SoundFacts` and `SoundRows`, and so for the law `accepted`.
 use Rattle.std.proofs.Common.{◌≡◌, ℕ, ◌+◌, ◌<◌, ◌≤◌, ◌^◌, true, false, not, List, length, Option, Some, None, refl, ap, arith}
 use Rattle.std.specs.Prelude.{is_some, is_none}
 use Rattle.std.proofs.lemmas.Bool.{and_parts, and_from, or_parts, lt-ltb, le-leb, ltb-true, leb-true, eqb-true, not-false, both_ways, not_from_false}

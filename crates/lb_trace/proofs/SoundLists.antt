@@ -1,5 +1,7 @@
 -- Lists that are empty, and lists that grow at their end: what each of their items keeps to, and how
 -- each stands behind those before it.
+-- For the lemmas of `AcceptedFacts`, `SoundFacts` and other files, and so for the laws `accepted` and `first_bad`;
+-- cited by `lb_read` too.
 use Rattle.std.proofs.Common.{◌≡◌, ℕ, ◌<◌, Bool, true, false, List, [], ◌∷◌, ◌++◌, length, take, get_or, Option, Some, None, IfSome, refl, sym, ap, subst, ◌∙◌, arith, inl, inr}
 use Rattle.std.specs.Prelude.{is_some}
 use Rattle.std.specs.List.{list_all}

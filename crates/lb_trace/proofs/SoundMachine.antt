@@ -1,4 +1,5 @@
 -- What was read stays sound with a line of the machine: a CPU, or a node's distances.
+-- For the lemmas of `AcceptedFacts` and `SoundFacts`, and so for the law `accepted`.
 use Rattle.std.proofs.Common.{◌≡◌, ℕ, ◌+◌, ◌<◌, ◌≤◌, Bool, true, false, ◌&&◌, not, nat_lt, List, [], ◌∷◌, ◌++◌, length, arith}
 use Rattle.std.specs.Prelude.{is_some}
 use Rattle.std.proofs.lemmas.Bool.{and_parts, and_from, or_parts, lt-ltb, ltb-true, eqb-true, eqb-false, eq-eqb, not-true, not-false}

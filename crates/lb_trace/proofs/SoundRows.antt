@@ -1,4 +1,5 @@
--- What was read stays sound with a row.
+-- What was read of a trace keeps its limits (`IsSound`) as one good line of a row is added.
+-- For the lemmas of `SoundFacts`, and so for the law `accepted`.
 use Rattle.std.proofs.Common.{◌≡◌, ℕ, ◌≤◌, Bool, true, false, ◌||◌, not, List, length, refl, arith}
 use Rattle.std.proofs.lemmas.Bool.{and_from, or_parts, leb-true, leb-false, le-leb, not-false, both_ways}
 use Rattle.std.proofs.lemmas.List.{length_push}

@@ -1,4 +1,5 @@
 -- The ranges of what the fields of a good line say.
+-- For the lemmas of `SoundFacts`, `SoundHeader` and other files, and so for the law `accepted`.
 use Rattle.std.proofs.Common.{◌≡◌, ℕ, zero, suc, ℤ, pos, neg_ℤ, ◌+◌, ◌-◌, ◌≤◌, Bool, true, false, ◌&&◌, nat_le, ◌==◌, cond, List, [], ◌∷◌, length, drop, map, Option, Some, None, IfSome, refl, ◌∙◌, arith, length-drop}
 use Rattle.std.specs.Prelude.{is_none, option_and_then}
 use Rattle.std.specs.List.{list_all}

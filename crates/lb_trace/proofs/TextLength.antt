@@ -1,4 +1,5 @@
 -- The length of a text: past the limit it is refused as a whole, and no line is longer than its text.
+-- For the lemmas of `AcceptedFacts` and `FirstBadLaws`, and so for the laws `accepted` and `first_bad`.
 use Rattle.std.proofs.Common.{◌≡◌, ℕ, ◌+◌, ◌<◌, ◌≤◌, true, nat_le, ◌==◌, List, [], ◌∷◌, length, Ok, Err, refl, arith, inl, inr}
 use Rattle.std.specs.Prelude.{Result}
 use Rattle.std.specs.List.{list_all, onto_first}

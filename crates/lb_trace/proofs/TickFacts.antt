@@ -1,4 +1,5 @@
--- The lanes that tick, with a row more.
+-- Which lane ticked each CPU, with one row more: as the reader keeps it, and as the list of rows says it.
+-- For `Reading::tick_line`, `Reading::row_line`, `Reading::line_of` and `none_ticked`.
 use Rattle.std.proofs.Common.{◌≡◌, ℕ, ◌<◌, ◌==◌, Bool, true, false, not, ◌&&◌, ◌||◌, List, [], ◌∷◌, ◌++◌, length, length-set, Option, Some, None, OnOk, Ok, Err, inl, inr, refl, sym, ap, subst, ◌∙◌, arith}
 use Rattle.std.specs.Prelude.{Result}
 use Rattle.std.specs.List.{slice_index_or, slice_set, list_any}

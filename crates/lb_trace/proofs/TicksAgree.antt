@@ -1,4 +1,5 @@
 -- Rows that tick one CPU are of one lane, and stay so with a row more.
+-- For the lemmas of `SoundRows`, and so for the law `accepted`.
 use Rattle.std.proofs.Common.{◌≡◌, ℕ, Bool, true, false, ◌&&◌, ◌||◌, not, ◌==◌, List, [], ◌∷◌, ◌++◌, refl, sym, inl, inr}
 use Rattle.std.specs.List.{list_all, list_any}
 use Rattle.std.proofs.lemmas.Bool.{and_parts, and_from, and_cases, or_parts, or_right, eqb-true, eqb-false, eq-eqb, ne_eqb, not-false}
