@@ -78,7 +78,7 @@ pub(crate) fn serve_scan<N: Names + Versions, R: Wait>(
     Ok(())
 }
 
-/// ScannedAreDeclared the CPU that the scan found.
+/// Kicks the CPU that the scan found.
 pub(crate) fn serve_kick<N: Names + Versions, R: Wait>(
     rt: &R,
     alloc: Global,
