@@ -3,6 +3,10 @@
 
 ghost use Rattle.std.specs.Prelude.{◌≡◌, ◌⊎◌, IfErr};
 
+#[cfg(test)]
+mod bytewise;
+#[cfg(test)]
+mod failing;
 mod laws;
 mod once;
 mod reading;
