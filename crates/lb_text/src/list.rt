@@ -26,7 +26,8 @@ fn run_of(first: u32, last: u32) -> Mask
 fn dash_of(item: &[u8]) -> Option<usize>
     ensures { MatchOption result
         (All (λ b. (b == MINUS) ≡ false) item.now)
-        (λ i. (i < length item.now) × All (λ b. (b == MINUS) ≡ false) (take i item.now) × (item.now ≡ take i item.now ++ MINUS ∷ drop (i + 1) item.now)) }
+        (λ i. (i < length item.now) × All (λ b. (b == MINUS) ≡ false) (take i item.now)
+        × (item.now ≡ take i item.now ++ MINUS ∷ drop (i + 1) item.now)) }
 {
     item.iter().position(|b| *b == MINUS)
 }
