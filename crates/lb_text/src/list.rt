@@ -1,4 +1,4 @@
-//! Reading a list of CPUs.
+//! A list of CPUs is read, such as `0-2;5`, or its first bad byte is named (docs/rules/history-text.md).
 ghost use Rattle.std.specs.Prelude.{◌≡◌, ℕ, false, ◌∷◌, ◌++◌, ◌<◌, ◌≤◌, ◌+◌, ◌==◌, ◌&&◌, All, IfOk, IfErr, MatchOption, Some, None, length, nat_le, take, drop};
 ghost use Rattle.lb_base.specs.Mask.{has};
 ghost use Rattle.lb_text.specs.Lists.{item_of, is_item, list_of, is_list};
