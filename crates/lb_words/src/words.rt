@@ -28,6 +28,7 @@ fn is_special(word: &str) -> bool
     }
 }
 
+// Whether one of the words is such a word.
 fn has_special(words: &[String]) -> bool
     ensures { result ≡ list_any is_special (map string_bytes words.now) }
 {
