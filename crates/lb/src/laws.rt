@@ -1,4 +1,4 @@
-//! What the headline rests on.
+//! The law on which the headline rests: what holds of each history of a trace that was read.
 ghost use Rattle.lb.specs.Headline.{HistoriesAreSound};
 
 use lb_core::laws::{permitted, placed, replies};

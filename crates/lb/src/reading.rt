@@ -1,4 +1,4 @@
-//! The input of a work.
+//! The input of what the words of the command line ask for: the whole source up to a limit, or nothing.
 ghost use Rattle.std.specs.Prelude.{◌≡◌, ◌≤◌, length, true, false, None, IfSome, IfOk, IfErr};
 ghost use Rattle.lb.specs.Invocation.{stream_of};
 ghost use Rattle.lb.specs.Works.{reads, limit, OfInput, WasRead, Fails};

@@ -45,6 +45,7 @@ fn summary_of(alloc: Global, trace: &Trace) -> Result<Vec<u8>, NoMemory>
     requires { IsTrace trace.now }
     ensures { IfOk result (λ text. IsSummary trace.now text.items) }
 {
+    // what the entries of a history of an accepted trace say is in range,
     entries_fit();
     // and there are not too many of them
     histories_end();

@@ -1,4 +1,4 @@
-//! What is said of a history.
+//! What is said of a history that was read: legal, or the ticket and the rule of its first fault.
 use lb_core::Rule;
 
 /// What is said of a history that was read from a text (docs/rules/legality.md).

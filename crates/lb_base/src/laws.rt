@@ -13,6 +13,8 @@ pub fn mask_of_a_test()
 
 /// The first of the greatest is found wherever candidates are ranked, and there is only one.
 pub fn first_of_the_greatest()
-    ensures found { (p : ℕ → Bool) → (above : ℕ → ℕ → Bool) → (n : ℕ) → IsRanking above → Picks p above n (first_greatest p above n) }
-    ensures unique { (p : ℕ → Bool) → (above : ℕ → ℕ → Bool) → (n : ℕ) → (o : Option ℕ) → Picks p above n o → o ≡ first_greatest p above n }
+    ensures found { (p : ℕ → Bool) → (above : ℕ → ℕ → Bool) → (n : ℕ) → IsRanking above
+        → Picks p above n (first_greatest p above n) }
+    ensures unique { (p : ℕ → Bool) → (above : ℕ → ℕ → Bool) → (n : ℕ) → (o : Option ℕ) → Picks p above n o
+        → o ≡ first_greatest p above n }
 {}

@@ -1,4 +1,4 @@
-//! The reader of one lane.
+//! The reader of one lane: it looks at the last figure of any CPU, and never goes back (docs/rules/threads.md).
 ghost use Rattle.std.specs.Prelude.{◌≡◌, ◌<◌, length};
 ghost use mathlib.Core.List.{IsPrefix};
 ghost use Rattle.lb_board.specs.Board.{Ends, IsOfBoard, see, seen_at};

@@ -1,4 +1,4 @@
-//! The draw of one entry.
+//! One entry of a queue is drawn: it gets its ticket, joins the list, and the new figure is published.
 ghost use Rattle.std.specs.Prelude.{◌≡◌, ◌<◌, ◌≤◌, ◌+◌, ◌^◌, ◌++◌, ◌∷◌, [], length, map, IfSome};
 ghost use mathlib.Core.List.{IsPrefix};
 ghost use Rattle.lb_ticket.specs.Seats.{KeepsList};

@@ -1,4 +1,4 @@
-//! The take of a pull.
+//! The take of a pull: the entry `out pull` at the source, whose tasks come into the hand of the lane.
 ghost use Rattle.std.specs.Prelude.{◌≡◌, ◌≤◌, [], Some, true, IfOk, OnOk, OnErr};
 ghost use Rattle.lb_queue.specs.Hands.{taken_by};
 ghost use Rattle.lb_queue.specs.Tasks.{ids};

@@ -35,7 +35,8 @@ breaks m e rule = breaks_here rule (sight m e) e || breaks_elsewhere rule m e
 -- the rules in the order in which they are asked; `ticket` is asked of a written ticket alone
 abbrev pub rules_in_order : List Rule
 rules_in_order =
-    Prev ∷ Stage ∷ RowRule ∷ PlaceRule ∷ ReplyRule ∷ Version ∷ Figure ∷ DecisionRule ∷ Pick ∷ Flight ∷ CountersRule ∷ Owed ∷ EndRule ∷ []
+    Prev ∷ Stage ∷ RowRule ∷ PlaceRule ∷ ReplyRule ∷ Version ∷ Figure ∷ DecisionRule ∷ Pick ∷ Flight
+    ∷ CountersRule ∷ Owed ∷ EndRule ∷ []
 
 -- the first rule that an entry at the next ticket breaks
 unfoldable pub first_broken : MachineState → Entry → Option Rule

@@ -1,4 +1,4 @@
-//! Where a task stands.
+//! Where a task stands in the machine: awake, asleep or gone at a queue, or in the hand of a lane.
 
 /// Where a declared task is (docs/rules/lanes.md).
 #[derive(Clone, Copy, Debug, PartialEq, Eq)]

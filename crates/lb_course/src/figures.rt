@@ -1,4 +1,4 @@
-//! Figures by CPU.
+//! Figures that were read, as a table with a place for each CPU, and the tickless CPUs that they show.
 ghost use Rattle.std.specs.Prelude.{◌≡◌, ◌==◌, find};
 ghost use Rattle.lb_base.specs.Figures.{no_fig};
 ghost use Rattle.lb_core.specs.Sight.{fig_or_none, by_cpu, tickless_in};

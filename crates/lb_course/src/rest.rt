@@ -1,4 +1,4 @@
-//! What a course forgets.
+//! What a course forgets: its hand, the looks at a position, and its row as the lane comes to rest.
 ghost use Rattle.std.specs.Prelude.{◌≡◌};
 ghost use Rattle.lb_core.specs.CourseAfter.{lets_go, begins_anew, comes_to_rest};
 

@@ -1,4 +1,4 @@
-//! The take of a pull.
+//! The take of a pull: the lock of the source is held, and the `out pull` that the last look asks for is drawn.
 ghost use Rattle.std.specs.Prelude.{◌≡◌, ◌≤◌, ◌<◌, [], Some, true, IfOk, OnErr, length};
 ghost use Rattle.lb_cell.specs.Draws.{IsDueAt};
 ghost use Rattle.lb_core.specs.declared.course.Form.TheVariants as form;

@@ -1,4 +1,4 @@
-//! A turn of a CPU begins.
+//! A turn of a CPU begins: a version is chosen, and its `use` and the answer to it are drawn under the lock.
 ghost use Rattle.std.specs.Prelude.{◌≡◌, ◌<◌, true, IfOk, OnErr, length};
 ghost use Rattle.std.specs.Sync.Mutex.{mutex_guard_value};
 ghost use Rattle.lb_cpu.specs.Turns.{BeganAt, BeganThere, LooksOn};

@@ -1,4 +1,4 @@
-//! The entry that comes next.
+//! The serial entry that a lane draws next, by the form of its course (docs/rules/lanes.md).
 ghost use Rattle.std.specs.Prelude.{◌≡◌, ◌<◌, IfOk, IfSome, Option, false, true, length};
 ghost use Rattle.std.specs.Option.{option_map};
 ghost use Rattle.lb_core.specs.declared.course.Form.TheVariants as form;

@@ -1,4 +1,4 @@
-//! What a row may name.
+//! Whether a row names only tasks, CPUs and masks that the header declares, as the rule `row` asks.
 ghost use Rattle.std.specs.Prelude.{◌≡◌, ◌≤◌, ◌+◌, false};
 ghost use Rattle.std.specs.List.{list_all};
 ghost use Rattle.lb_base.specs.declared.mask.TheConstants.{MAX_CPUS};

@@ -54,6 +54,7 @@ pub fn unpublished_figure()
     ensures others { MeetsOthers early_look_history.header early_look_lists × LeavesAtRest early_look_lists }
     ensures breaks { first_fault early_look_history.header (merged early_look_lists) ≡ fault_at 5 Figure }
 {
+    // the worked history of this name, whole, breaks the rule there
     faults::unpublished_figure();
 }
 
@@ -67,6 +68,7 @@ pub fn closing_before_all_rest()
         × CarriesFigures early_closing_history.header (by_owner early_closing_history) }
     ensures breaks { first_fault early_closing_history.header (merged (by_owner early_closing_history)) ≡ fault_at 6 Stage }
 {
+    // the worked history of this name, whole, breaks the rule there
     lanes::closing_before_all_rest();
 }
 

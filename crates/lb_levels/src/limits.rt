@@ -1,4 +1,4 @@
-//! The largest machine.
+//! The largest machine: its nodes, their distances, and its levels (docs/rules/domains.md).
 
 /// Nodes are numbered below this.
 pub const MAX_NODES: u32 = 16;

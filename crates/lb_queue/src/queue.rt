@@ -1,4 +1,5 @@
-//! The run queue.
+//! The run queue of a CPU: what it holds, how it is made, and what of it can be read (docs/rules/queue.md). Its calls
+//! stand in `queue/`.
 ghost use Rattle.std.specs.Prelude.{◌≡◌, ◌==◌, ◌+◌, ◌-◌, ◌^◌, length, true, ◌<◌, ◌≤◌, ◌≤ℤ◌, ℕ, negsuc, pos, false, None, max, IfOk, OnOk, OnErr, if◌then◌else◌};
 ghost use Rattle.lb_queue.specs.Queue.{average_with};
 

@@ -1,4 +1,4 @@
-//! The entry of a line.
+//! The line of an entry is read: ticket, owner, lane, previous ticket and what the entry says.
 ghost use Rattle.std.specs.Prelude.{◌≡◌, IfOk, MatchOption, Some, None};
 ghost use Rattle.lb_read.specs.Entries.{origin_head, line_in};
 

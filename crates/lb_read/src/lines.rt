@@ -1,4 +1,4 @@
-//! Lines of a text.
+//! The first line of a text, and what a line of a header of a history repeats of a trace.
 ghost use Rattle.std.specs.Prelude.{◌≡◌, true, false, [], ◌∷◌, ◌==◌, ◌<◌, length, take, drop, codes, MatchOption};
 ghost use Rattle.std.specs.List.{slice_split};
 ghost use Rattle.std.specs.Str.{bytes_eq};

@@ -1,4 +1,4 @@
-//! Reading a whole text.
+//! A whole text is read as a history, or its first bad line is named.
 ghost use Rattle.std.specs.Prelude.{◌≤◌, ◌+◌, ◌<◌, ◌^◌, length, IfOk, IfErr};
 ghost use Rattle.lb_read.specs.Texts.{lines_of, entries_in, read_from, read_of, Gives};
 ghost use Rattle.lb_read.specs.Whole.{ReadsAs};

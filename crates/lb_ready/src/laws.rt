@@ -122,6 +122,7 @@ pub fn entries_fit()
     ensures histories { EntriesFit }
     ensures entries { EntryFits }
 {
+    // every reachable machine is ready
     ready();
     // a look is over the figures of a parted span
     calls_may_be_made();

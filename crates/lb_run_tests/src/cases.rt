@@ -76,6 +76,7 @@ fn run_text<R: Abort + Threads + Wait + Sync>(
 
 // Whether the text of a history is read back, and judged to be legal.
 fn is_legal(alloc: Global, text: &[u8]) -> bool {
+    // what a text reads as meets what `check` asks for
     texts_may_be_judged();
     match read_history(alloc, text) {
         Ok(read) => matches!(check(alloc, &read), Ok(Verdict::Legal)),

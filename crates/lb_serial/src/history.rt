@@ -1,4 +1,4 @@
-//! The serial run.
+//! The serial run: row after row, each served to its end (docs/rules/lanes.md), and the history that it makes.
 ghost use Rattle.std.specs.Prelude.{IfOk};
 ghost use Rattle.lb_trace.specs.Accepted.{IsTrace};
 ghost use Rattle.lb_core.specs.Serial.{IsSerialHistory};

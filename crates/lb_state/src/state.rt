@@ -62,7 +62,9 @@ impl State {
         ensures broken { IfOk result (λ rule. IfSome rule (λ _. self.new ≡ self.old)) }
         ensures refused { OnErr result (self.new ≡ self.old) }
     {
+        // an entry that may be added keeps the machine ready,
         ready();
+        // and meets what its step asks of the engine
         steps_may_be_taken();
         let broken = first_broken(self.alloc, &self.engine, entry)?;
         if broken.is_none() {
@@ -90,8 +92,11 @@ impl State {
         ensures none { IfOk result (λ drawn. drawn ≡ None → self.new ≡ self.old) }
         ensures refused { OnErr result (self.new ≡ self.old) }
     {
+        // an entry that may be added keeps the machine ready,
         ready();
+        // says what is in range,
         entries_fit();
+        // and meets what its step asks of the engine
         steps_may_be_taken();
         if self.engine.ticket() >= MAX_TICKET {
             return Err(NoMemory);

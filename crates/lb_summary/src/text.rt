@@ -1,4 +1,4 @@
-//! The text of a summary.
+//! The text of a summary: its eight lines (docs/rules/generator.md).
 ghost use Rattle.std.specs.Prelude.{◌≡◌, ◌++◌, ◌^◌, ◌<◌, length, true, IfOk, OnOk};
 ghost use Rattle.lb_trace.specs.Accepted.{IsHeader};
 ghost use Rattle.lb_core.specs.Legal.{IsLegalFront};

@@ -1,4 +1,4 @@
-//! Reading a list of CPUs.
+//! A list of CPUs is read, such as `0-2;5`, or its first bad byte is named (docs/rules/history-text.md).
 ghost use Rattle.std.specs.Prelude.{◌≡◌, ℕ, false, ◌∷◌, ◌++◌, ◌<◌, ◌≤◌, ◌+◌, ◌==◌, ◌&&◌, All, IfOk, IfErr, MatchOption, Some, None, length, nat_le, take, drop};
 ghost use Rattle.lb_base.specs.Mask.{has};
 ghost use Rattle.lb_text.specs.Lists.{item_of, is_item, list_of, is_list};
@@ -26,7 +26,8 @@ fn run_of(first: u32, last: u32) -> Mask
 fn dash_of(item: &[u8]) -> Option<usize>
     ensures { MatchOption result
         (All (λ b. (b == MINUS) ≡ false) item.now)
-        (λ i. (i < length item.now) × All (λ b. (b == MINUS) ≡ false) (take i item.now) × (item.now ≡ take i item.now ++ MINUS ∷ drop (i + 1) item.now)) }
+        (λ i. (i < length item.now) × All (λ b. (b == MINUS) ≡ false) (take i item.now)
+        × (item.now ≡ take i item.now ++ MINUS ∷ drop (i + 1) item.now)) }
 {
     item.iter().position(|b| *b == MINUS)
 }

@@ -125,6 +125,7 @@ fn two_lanes<N: Names + Versions + Send + Sync, R: Abort + Threads + Wait + Sync
 fn blank_of<R: Abort + Wait>(rt: &R, alloc: Global, text: &[u8]) -> (Trace, Blank)
     ensures { IsNamed result.0 result.1 }
 {
+    // a trace that was read keeps to the limits that a machine is made within
     accepted();
     let Ok(trace) = Trace::read(alloc, text) else {
         panic!(rt; "no trace")

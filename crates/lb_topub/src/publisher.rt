@@ -1,4 +1,4 @@
-//! The publisher of versions.
+//! The publisher of versions: it adds the next topology, and shows it to lookers (docs/rules/threads.md).
 ghost use Rattle.std.specs.Prelude.{◌≡◌, ◌<◌, ◌≤◌, [], ◌∷◌, length, replicate, IfOk, OnErr};
 ghost use Rattle.lb_topub.specs.Versions.{add_version};
 

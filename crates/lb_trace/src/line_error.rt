@@ -1,4 +1,4 @@
-//! Why a line is refused.
+//! Why a line of a trace is refused: it is bad, with a code, or there is no memory for it.
 ghost use Rattle.std.specs.Prelude.{◌≡◌};
 ghost use Rattle.lb_trace.specs.declared.line_error.LineError.TheVariants.{Bad as bad, NoMemory as no_memory};
 

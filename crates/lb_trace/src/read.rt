@@ -1,4 +1,4 @@
-//! Reading a whole text.
+//! A whole text is read as a trace, or its first bad line is named with its code (docs/rules/trace.md).
 ghost use Rattle.std.specs.Prelude.{◌≤◌, [], length, IfOk, ◌≡◌};
 ghost use Rattle.lb_fields.specs.Pieces.{pieces};
 ghost use Rattle.lb_trace.specs.Grammar.{lines_from, nothing_read, trace_of, reading_of, Gives};

@@ -1,4 +1,4 @@
-//! For which work words ask.
+//! What the words of the command line ask for, or that they are no command.
 ghost use Rattle.std.specs.Prelude.{◌≡◌, ◌≤◌, IfOk, IfSome, MatchOption, Some, None, map, string_bytes};
 ghost use Rattle.std.specs.List.{list_any};
 ghost use Rattle.clap.specs.Words.{subcommand_rows_of, rows_of, found_of};
@@ -28,6 +28,7 @@ fn is_special(word: &str) -> bool
     }
 }
 
+// Whether one of the words is such a word.
 fn has_special(words: &[String]) -> bool
     ensures { result ≡ list_any is_special (map string_bytes words.now) }
 {

@@ -1,4 +1,4 @@
-//! How a position ends.
+//! How a position of a turn ends: its outcome (docs/rules/counters.md), and the word for it in a `close`.
 ghost use Rattle.std.specs.Prelude.{◌≡◌};
 ghost use Rattle.lb_queue.specs.Turns.{counters_at, tries_of};
 ghost use Rattle.lb_core.specs.Course.{
