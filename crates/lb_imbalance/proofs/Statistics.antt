@@ -1,14 +1,13 @@
--- The statistics of the groups: one group more at its place, and the ranges of their numbers. For callers
--- too: these ranges.
--- For `decide` and `stats_of_groups`; cited by `lb_ready` too.
-use Rattle.std.proofs.Common.{◌≡◌, ℕ, ◌+◌, ◌*◌, ◌/◌, ◌^◌, ◌<◌, ◌≤◌, true, List, [], ◌∷◌, ◌++◌, length, take, get_or, refl, sym, ◌∙◌, ap, arith, inl, inr}
-use Rattle.std.specs.Prelude.{All, map, sum_by, slice_set}
+-- The statistics of the groups: how many they are, and the ranges of their numbers. For callers too: these
+-- ranges.
+-- For `decide`; cited by `lb_ready` too.
+use Rattle.std.proofs.Common.{◌≡◌, ℕ, ◌+◌, ◌*◌, ◌/◌, ◌^◌, ◌<◌, ◌≤◌, true, List, [], ◌∷◌, length, get_or, refl, sym, ◌∙◌, ap, arith, inl, inr}
+use Rattle.std.specs.Prelude.{All, map, sum_by}
 use Rattle.std.proofs.Math.Nat.{div-le_of_le-mul, mul-le-mul_left}
 use Rattle.std.proofs.lemmas.Bool.{cases_eq, eq-eqb, ne_eqb}
-use Rattle.std.proofs.lemmas.List.{map-append, length-map}
+use Rattle.std.proofs.lemmas.List.{length-map}
 use Rattle.std.proofs.lemmas.List.Elements.{All-map, All-weaker, All-from_get_or}
 use Rattle.std.proofs.lemmas.List.Sums.{sum_by-le, sum_by-cons, count_by-le-length}
-use Rattle.std.proofs.lemmas.Grind.{take_at_read, take-set_at}
 use Rattle.lb_base.specs.declared.mask.Mask.{Mask}
 use Rattle.lb_base.specs.declared.figure.Fig.{Fig}
 use Rattle.lb_base.specs.declared.group.Stats.{Stats}
@@ -20,27 +19,6 @@ use Rattle.lb_stats.specs.Statistics.{stats_of, is_idle, idle_count, average_of,
 use Rattle.lb_imbalance.specs.Conditions.{IsInRange}
 use Rattle.lb_imbalance.specs.Levels.{percent_of}
 use Rattle.lb_imbalance.specs.Decision.{all_stats}
-
-pub all_stats_none : (shape : Shape) (figs : List Fig) (excluded : Mask) → all_stats shape [] figs excluded ≡ []
-unfolding all_stats
-all_stats_none shape figs excluded = refl
-
--- one group more, written at its place
-pub all_stats_more : (shape : Shape) (figs : List Fig) (excluded : Mask) (groups : List Mask) (all : List Stats)
-    (i : ℕ) (g w : Mask) (s : Stats) →
-    i < length groups → i < length all → g ≡ get_or groups i g → w ≡ without g excluded
-    → s ≡ stats_of figs w shape.position (percent_of shape.name) →
-    take i all ≡ all_stats shape (take i groups) figs excluded →
-    take (i + 1) (slice_set all i s) ≡ all_stats shape (take (i + 1) groups) figs excluded
-unfolding all_stats
-all_stats_more shape figs excluded groups all i g w s lt fits r e q h =
-    let left : take (i + 1) (slice_set all i s) ≡ take i all ++ s ∷ [] = take-set_at all i (i + 1) s refl fits in
-    let right : take (i + 1) groups ≡ take i groups ++ g ∷ [] =
-    (take_at_read groups i g lt).1 ∙ ap (λ (x : Mask). take i groups ++ x ∷ []) (sym r) in
-    let F : Mask → Stats = λ g. stats_of figs (without g excluded) shape.position (percent_of shape.name) in
-    let last : s ≡ F g = q ∙ ap (λ (x : Mask). stats_of figs x shape.position (percent_of shape.name)) e in
-    left ∙ ap (λ (x : List Stats). x ++ s ∷ []) h ∙ ap (λ (x : Stats). map F (take i groups) ++ x ∷ []) last
-    ∙ sym (ap (map F) right ∙ map-append F (take i groups) (g ∷ []))
 
 pub length-all_stats : (shape : Shape) (groups : List Mask) (figs : List Fig) (excluded : Mask)
     → length (all_stats shape groups figs excluded) ≡ length groups

@@ -12,7 +12,7 @@ use crate::imbalance::{Imbalance, imbalance_between};
 use crate::levels::percent;
 use lb_base::{Fig, GroupType, Kind, MAX_CPUS, Mask, MoveKind, Shape, Stats};
 use lb_busiest::{busiest, source};
-use lb_stats::group_stats;
+use lb_stats::stats_row;
 
 /// What a CPU does about one of its domains.
 #[derive(Clone, Copy, Debug, PartialEq, Eq)]
@@ -73,6 +73,7 @@ pub fn decide(
 }
 
 // The statistics of the groups without the excluded CPUs, in the first places.
+#[tactic(auto, unfolding(crate::specs::Decision::all_stats))]
 fn stats_of_groups(
     shape: &Shape,
     groups: &[Mask],
@@ -95,10 +96,14 @@ fn stats_of_groups(
         avg: 0,
         group: GroupType::HasSpare,
     }; MAX_CPUS as usize];
-    for i in 0..groups.len() {
-        let group = groups[i].without(excluded);
-        all[i] = group_stats(figs, group, shape.position, percent(shape.name));
-    }
+    stats_row(
+        figs,
+        groups,
+        excluded,
+        shape.position,
+        percent(shape.name),
+        &mut all,
+    );
     all
 }
 

@@ -1,13 +1,14 @@
 -- Decayed sums: of two sums, and of a sum and a smaller one.
 -- For `share_of`.
-use Rattle.std.proofs.Common.{◌≡◌, ℕ, ◌+◌, ◌*◌, ◌/◌, ◌%◌, ◌^◌, ◌<◌, ◌≤◌, Bool, true, eqb, ltb, leb, ◌&&◌, ◌||◌, refl, arith, inl, inr}
+use Rattle.std.proofs.Common.{◌≡◌, ℕ, ◌+◌, ◌*◌, ◌/◌, ◌%◌, ◌^◌, ◌<◌, ◌≤◌, Bool, true, eqb, ltb, leb, ◌&&◌, ◌||◌, refl, ◌∙◌, arith, inl, inr}
 use Rattle.std.specs.List.{list_all}
 use Rattle.std.proofs.Math.Nat.{mul-le-mul_left, mul-le-mul_right, div-mul-le_self, div-le_of_le-mul, div-le_self}
-use Rattle.std.proofs.lemmas.Bool.{cases_lt, ltb-true, lt-ltb, le-ltb, leb-true, agree_below, agree_below_at, cond-true, cond-false, and_parts, or_cases, eqb-true}
+use Rattle.std.proofs.lemmas.Bool.{cases_lt, ltb-true, lt-ltb, le-ltb, leb-true, agree_below, agree_below_at, cond-true, cond-false, cases_eq, eq-eqb, ne_eqb, and_parts, or_cases, eqb-true}
 use Rattle.std.proofs.lemmas.Nat.{pow_pos, le-div}
 use Rattle.std.proofs.lemmas.List.Sums.{AllPass-from_list_all}
 use Rattle.std.proofs.lemmas.List.Elements.{All-get_or}
 use Rattle.lb_pelt.specs.Decay.{decayed, inverse_at, inverses}
+use Rattle.lb_pelt.specs.Signal.{kept}
 
 -- ---- one quotient
 div_sum : (a b m : ℕ) → 0 < m → a / m + b / m ≤ (a + b) / m
@@ -77,6 +78,13 @@ decayed_le v n =
             (omega (arith, inverse_small (n % 32) (omega arith))),
       )
     ]
+
+-- nothing stays nothing
+pub kept_nothing : (p v : ℕ) → v ≡ 0 → kept p v ≡ 0
+kept_nothing p v e = rw e (elim (cases_eq p 0) [
+  | inl z ↦ cond-true (eqb p 0) 0 _ (eq-eqb p 0 z)
+  | inr n ↦ cond-false (eqb p 0) 0 _ (ne_eqb p 0 n) ∙ omega (arith, decayed_le 0 p)
+])
 
 pub decayed_sum : (a b n : ℕ) → decayed a n + decayed b n ≤ decayed (a + b) n
 decayed_sum a b n =

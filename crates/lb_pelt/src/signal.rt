@@ -1,5 +1,5 @@
 //! The load signals of a task: their sums, how they advance, their values (docs/rules/signals.md).
-ghost use Rattle.std.specs.Prelude.{◌≡◌, ◌≤◌, ◌<◌, ◌^◌};
+ghost use Rattle.std.specs.Prelude.{◌≡◌, ◌==◌, ◌&&◌, ◌≤◌, ◌<◌, ◌^◌, ℕ};
 ghost use Rattle.lb_pelt.specs.Signal.{kept, contribution, awake_share, running_share, zero_signal, advanced, signal_value, IsBounded, IsWithin};
 
 use crate::decaying::decay;
@@ -63,6 +63,13 @@ impl Signal {
             util_sum: 0,
         }
     }
+
+    // Whether nothing is left of the time in which the task was awake.
+    fn is_nothing(&self) -> bool
+        ensures { result ≡ (self.now.load_sum == 0 && self.now.runnable_sum == 0 && self.now.util_sum == 0) }
+    {
+        self.load_sum == 0 && self.runnable_sum == 0 && self.util_sum == 0
+    }
 }
 
 /// What a signal says at one moment (docs/rules/signals.md).
@@ -91,9 +98,8 @@ pub fn advance(s: &Signal, run: Run, now: u64) -> Signal
     let part = u64::from(s.part);
     let reached = part + units;
     let periods = reached / 1024;
-    let share = share_of(part, units);
-    let awake = when_awake(run, share);
-    let running = when_running(run, share);
+    let awake = when_awake(run, part, units);
+    let running = when_running(run, awake);
     Signal {
         stamp: s.stamp + 1024 * units,
         part: (reached % 1024) as u32,
@@ -103,10 +109,14 @@ pub fn advance(s: &Signal, run: Run, now: u64) -> Signal
     }
 }
 
-// What a sum keeps over some periods.
+// What a sum keeps over some periods. Of nothing nothing is left.
+#[tactic(auto, using(crate::proofs::Decays::kept_nothing))]
 fn keep(v: u64, periods: u64) -> u64
     ensures { result ≡ kept periods v }
 {
+    if v == 0 {
+        return 0;
+    }
     if periods == 0 { v } else { decay(v, periods) }
 }
 
@@ -126,23 +136,27 @@ fn share_of(part: u64, units: u64) -> u64
     }
 }
 
-fn when_awake(run: Run, share: u64) -> u64
-    ensures value { result ≡ awake_share run share }
-    ensures at_most { result ≤ share }
+// What they add to the time in which a task was awake. Where it slept, nothing is computed.
+fn when_awake(run: Run, part: u64, units: u64) -> u64
+    requires part_in { part < 1024 }
+    requires units_in { units < 2 ^ 54 }
+    ensures value { result ≡ awake_share run (contribution part units) }
+    ensures at_most { result ≤ contribution part units }
 {
     match run {
         Run::Asleep => 0,
-        Run::Waiting | Run::Running => share,
+        Run::Waiting | Run::Running => share_of(part, units),
     }
 }
 
-fn when_running(run: Run, share: u64) -> u64
-    ensures value { result ≡ running_share run share }
-    ensures at_most { result ≤ share }
+// What they add to the time in which it ran, of which it was awake.
+fn when_running(run: Run, awake: u64) -> u64
+    ensures value { (share : ℕ) → awake ≡ awake_share run share → result ≡ running_share run share }
+    ensures at_most { result ≤ awake }
 {
     match run {
         Run::Asleep | Run::Waiting => 0,
-        Run::Running => share,
+        Run::Running => awake,
     }
 }
 
@@ -155,6 +169,13 @@ pub fn value_at(s: &Signal, run: Run, weight: u64, now: u64) -> Value
     ensures bounds { IsWithin weight result }
 {
     let at = advance(s, run, now);
+    if at.is_nothing() {
+        return Value {
+            load: 0,
+            runnable: 0,
+            util: 0,
+        };
+    }
     let divider = 46718 + u64::from(at.part);
     Value {
         load: weight * at.load_sum / divider,

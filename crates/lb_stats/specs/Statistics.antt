@@ -2,13 +2,13 @@
 -- are idle, its load per capacity, and its type.
 -- Cited by the contracts of `group_stats`, `Sums::add`, `marked` and others; also by `lb_imbalance`,
 -- `lb_journal_rows` and `lb_rows`.
-use Rattle.std.specs.Prelude.{ℕ, ◌+◌, ◌-◌, ◌*◌, ◌/◌, ◌<◌, ◌^◌, ◌==◌, nat_lt, Bool, ◌&&◌, if◌then◌else◌, List, length, count_by}
+use Rattle.std.specs.Prelude.{ℕ, ◌+◌, ◌-◌, ◌*◌, ◌/◌, ◌<◌, ◌^◌, ◌==◌, nat_lt, Bool, ◌&&◌, if◌then◌else◌, List, length, map, count_by}
 use Rattle.std.specs.Int.{bit_at}
 use Rattle.std.specs.List.{list_any}
 use Rattle.lb_base.specs.declared.mask.Mask.{Mask}
 use Rattle.lb_base.specs.declared.figure.Fig.{Fig}
 use Rattle.lb_base.specs.declared.group.Stats.{Stats}
-use Rattle.lb_base.specs.Mask.{members}
+use Rattle.lb_base.specs.Mask.{members, without}
 use Rattle.lb_base.specs.Figures.{fig_at, total}
 use Rattle.lb_stats.specs.Types.{type_of}
 
@@ -52,6 +52,10 @@ stats_of figs group position pct =
       avg = average_of load cap;
       group = type_of nr weight cap util runnable (any_marked position figs group) pct;
     }
+
+-- the statistics of the groups of a domain, without the excluded CPUs
+abbrev pub stats_of_groups : List Fig → List Mask → Mask → ℕ → ℕ → List Stats
+stats_of_groups figs groups excluded position pct = map (λ g. stats_of figs (without g excluded) position pct) groups
 
 -- the sums over the CPUs of a group stay below 2^40
 pub record HasSmallSums (figs : List Fig) (group : Mask) : Type 0 where

@@ -4,5 +4,5 @@
 mod statistics;
 mod types;
 
-pub use statistics::group_stats;
+pub use statistics::{group_stats, stats_row};
 pub use types::classify;

@@ -1,7 +1,8 @@
 //! The statistics of a group, from the figures of its CPUs (docs/rules/decision.md).
-ghost use Rattle.std.specs.Prelude.{◌≡◌, ◌+◌, ◌<◌, ◌^◌, ◌||◌, if◌then◌else◌};
+ghost use Rattle.std.specs.Prelude.{◌≡◌, ◌+◌, ◌<◌, ◌≤◌, ◌^◌, ◌||◌, if◌then◌else◌, length, take, drop, All};
+ghost use Rattle.lb_base.specs.Mask.{without};
 ghost use Rattle.lb_base.specs.Figures.{AllHaveFigures, total};
-ghost use Rattle.lb_stats.specs.Statistics.{average_of, stats_of, any_marked, idle_count, is_idle, is_marked, HasSmallSums};
+ghost use Rattle.lb_stats.specs.Statistics.{average_of, stats_of, stats_of_groups, any_marked, idle_count, is_idle, is_marked, HasSmallSums};
 
 use crate::types::classify;
 use lb_base::{Fig, MAX_CPUS, Mask, Stats};
@@ -35,6 +36,29 @@ pub fn group_stats(figs: &[Fig], group: Mask, position: u32, pct: u64) -> Stats
             sums.marked,
             pct,
         ),
+    }
+}
+
+/// Sets the first places of `row` to the statistics of the groups, in their order, in a domain at
+/// `position` whose imbalance percentage is `pct` (docs/rules/decision.md). The `excluded` CPUs count
+/// nowhere. The other places stay as they are, and no memory is taken.
+pub fn stats_row(
+    figs: &[Fig],
+    groups: &[Mask],
+    excluded: Mask,
+    position: u32,
+    pct: u64,
+    row: &mut [Stats],
+)
+    requires figures { All (λ g. AllHaveFigures figs.now (without g excluded)) groups.now }
+    requires sums { All (λ g. HasSmallSums figs.now (without g excluded)) groups.now }
+    requires places { length groups.now ≤ length row.old }
+    ensures groups { take (length groups.now) row.new ≡ stats_of_groups figs.now groups.now excluded position pct }
+    ensures rest { drop (length groups.now) row.new ≡ drop (length groups.now) row.old }
+{
+    for i in 0..groups.len() {
+        let group = groups[i].without(excluded);
+        row[i] = group_stats(figs, group, position, pct);
     }
 }
 
