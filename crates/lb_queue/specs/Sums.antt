@@ -1,9 +1,13 @@
 -- Sums of what the signals of some tasks say, and how great they can be: no value is above the
 -- greatest weight, or above 1,025.
 -- Cited by the contracts of `Awake::value`, `awake_sums`, `asleep_sums` and `Task::value`.
-use Rattle.std.specs.Prelude.{◌≡◌, ℕ, ◌*◌, ◌≤◌, List, length, sum_by}
+use Rattle.std.specs.Prelude.{◌≡◌, ℕ, ◌+◌, ◌*◌, ◌≤◌, List, length, sum_by}
 use Rattle.lb_pelt.specs.declared.signal.Value.{Value}
 use Rattle.lb_queue.specs.declared.sums.Sums.{Sums}
+use Rattle.lb_queue.specs.declared.sums.KeptSums.{KeptSums}
+use Rattle.lb_queue.specs.declared.record.TaskRecord.{TaskRecord}
+use Rattle.lb_queue.specs.declared.awake.Awake.{Awake}
+use Rattle.lb_queue.specs.Figures.{awake_value, asleep_value}
 
 -- the greatest weight
 abbrev pub max_weight : ℕ
@@ -16,3 +20,9 @@ pub record AreSums {X : Type 0} (f : X → Value) (xs : List X) (s : Sums) : Typ
   pub load_small : s.load ≤ max_weight * length xs
   pub util_small : s.util ≤ 1025 * length xs
   pub runnable_small : s.runnable ≤ 1025 * length xs
+
+-- what a figure sums up of the awake and the sleeping tasks, at the moment that is told
+pub record AreSumsOf (awake : List Awake) (asleep : List TaskRecord) (k : KeptSums) : Type 0 where
+  pub load : k.sums.load ≡ sum_by (λ a. (awake_value k.at a).load) awake + sum_by (λ t. (asleep_value k.at t).load) asleep
+  pub util : k.sums.util ≡ sum_by (λ a. (awake_value k.at a).util) awake + sum_by (λ t. (asleep_value k.at t).util) asleep
+  pub runnable : k.sums.runnable ≡ sum_by (λ a. (awake_value k.at a).runnable) awake

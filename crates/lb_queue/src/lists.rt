@@ -2,6 +2,7 @@
 ghost use Rattle.std.specs.Prelude.{◌≡◌, ◌==◌, ◌+◌, ◌-◌, ◌^◌, ◌<◌, ◌≤◌, ◌++◌, [], ◌∷◌, ℕ, is_some, true, length, reverse, IfSome, IfNone, OnOk, OnErr, MatchOption, position, not, Some, slice_get, map, negsuc, pos, ◌≤ℤ◌, false, if◌then◌else◌, sum_by, vec_len, vec_capacity};
 ghost use Rattle.std.specs.List.{list_any, list_all};
 ghost use Rattle.lb_queue.specs.Figures.{awake_value, asleep_value};
+ghost use Rattle.lb_queue.specs.Sums.{AreSumsOf};
 ghost use Rattle.lb_active.specs.Choice.{pick_of};
 ghost use Rattle.lb_queue.specs.Hands.{all_joined, awake_named, in_order, stop_goes};
 ghost use Rattle.lb_queue.specs.Pulls.{IsTurned};
@@ -22,7 +23,7 @@ use crate::by_id::{
 };
 use crate::record::TaskRecord;
 use crate::stops::next_stop;
-use crate::sums::{Sums, asleep_sums, awake_sums};
+use crate::sums::{KeptSums, Sums, asleep_sums, awake_sums};
 use crate::task::Task;
 use crate::views::{fill_views, set_order};
 use lb_active::active_pick;
@@ -173,6 +174,35 @@ impl TaskLists {
             load: awake.load + asleep.load,
             util: awake.util + asleep.util,
             runnable: awake.runnable,
+        }
+    }
+
+    // The same, with the moment.
+    pub(crate) fn summed(&self, now: u64) -> KeptSums
+        ensures at { result.at ≡ now }
+        ensures sums { AreSumsOf self.now.awake self.now.asleep result }
+    {
+        KeptSums {
+            at: now,
+            sums: self.sums(now),
+        }
+    }
+
+    // The sums that are kept, where they are of that moment, and else those of that moment.
+    pub(crate) fn renewed(&self, kept: Option<KeptSums>, now: u64) -> KeptSums
+        requires { IfSome kept (AreSumsOf self.now.awake self.now.asleep) }
+        ensures at { result.at ≡ now }
+        ensures sums { AreSumsOf self.now.awake self.now.asleep result }
+    {
+        match kept {
+            None => self.summed(now),
+            Some(kept) => {
+                if kept.at == now {
+                    kept
+                } else {
+                    self.summed(now)
+                }
+            }
         }
     }
 

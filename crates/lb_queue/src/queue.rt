@@ -5,6 +5,7 @@ ghost use Rattle.lb_queue.specs.Queue.{average_with};
 
 use crate::answers::{OpenTurn, Reply};
 use crate::lists::TaskLists;
+use crate::sums::KeptSums;
 use crate::task::Task;
 use lb_active::stop_target;
 use lb_base::{MAX_CPUS, Mask, NoMemory};
@@ -37,6 +38,8 @@ pub struct Queue {
     cpu: u32,
     cpus: u32,
     lists: TaskLists,
+    // the sums that the figure shows, where they were taken since a task changed
+    kept: Option<KeptSums>,
     active: Option<u32>,
     tickless: bool,
     kicked: bool,
@@ -79,7 +82,7 @@ impl Model for Queue {
       booked = q.lists.booked;
     } };
 
-    ghost invariant = { λ q. IsInside q.cpu q.cpus q.lists q.counted q.counters.items (vec_capacity q.counters) q.open_turn };
+    ghost invariant = { λ q. IsInside q.cpu q.cpus q.lists q.counted q.counters.items (vec_capacity q.counters) q.open_turn q.kept };
 }
 
 // The average idle time as a task comes, where nobody was awake or somebody was.
@@ -119,6 +122,7 @@ impl Queue {
             cpu,
             cpus,
             lists: TaskLists::new(alloc, cpu),
+            kept: None,
             active: None,
             tickless: false,
             kicked: false,
@@ -145,6 +149,7 @@ impl Queue {
         ensures refused { OnErr result (self.new ≡ self.old) }
     {
         self.lists.make_room(1)?;
+        self.kept = None;
         self.lists.add_asleep(Task::new(id, nice, mask));
         Ok(())
     }
@@ -248,6 +253,7 @@ impl Drop for Queue {
             cpu: _,
             cpus: _,
             lists,
+            kept: _,
             active: _,
             tickless: _,
             kicked: _,

@@ -16,6 +16,13 @@ pub(crate) struct Sums {
     pub(crate) runnable: u64,
 }
 
+// The sums over the tasks of a queue at a moment, and that moment.
+#[derive(Clone, Copy, Drop)]
+pub(crate) struct KeptSums {
+    pub(crate) at: u64,
+    pub(crate) sums: Sums,
+}
+
 impl Sums {
     fn none() -> Sums
         ensures { result ≡ record { load = 0; util = 0; runnable = 0 } }

@@ -44,6 +44,7 @@ impl Queue {
                 self.tickless = false;
                 self.lists
                     .join(task.advanced(Run::Asleep, self.clock), self.clock);
+                self.kept = Some(self.lists.summed(self.clock));
                 Reply::Done
             }
             None => self.refuse_wake(at, id),
@@ -62,6 +63,7 @@ impl Queue {
                 self.lists.add_asleep(task);
                 self.clock = clock;
                 self.idle_since = idle_from(self.lists.is_idle(), clock, self.idle_since);
+                self.kept = Some(self.lists.summed(self.clock));
                 Reply::Done
             }
             None => self.refuse_sleep(at, id),
@@ -80,6 +82,7 @@ impl Queue {
                 self.lists.add_gone(task);
                 self.clock = clock;
                 self.idle_since = idle_from(self.lists.is_idle(), clock, self.idle_since);
+                self.kept = Some(self.lists.summed(self.clock));
                 Reply::Done
             }
             None => self.exit_asleep(at, id),
@@ -113,11 +116,13 @@ impl Queue {
         if self.lists.is_awake(id) {
             self.clock = self.clock.max(at);
             self.lists.renice_awake(id, nice);
+            self.kept = Some(self.lists.summed(self.clock));
             return Reply::Done;
         }
         if self.lists.is_asleep(id) {
             self.clock = self.clock.max(at);
             self.lists.renice_asleep(id, nice);
+            self.kept = Some(self.lists.summed(self.clock));
             return Reply::Done;
         }
         self.refuse(at, id)
@@ -134,6 +139,7 @@ impl Queue {
             return Reply::BadMask;
         }
         self.lists.mask_awake(id, mask);
+        self.kept = Some(self.lists.summed(self.clock));
         Reply::Done
     }
 
@@ -149,6 +155,7 @@ impl Queue {
             return Reply::BadMask;
         }
         self.lists.mask_asleep(id, mask);
+        self.kept = Some(self.lists.summed(self.clock));
         Reply::Done
     }
 
@@ -200,6 +207,7 @@ impl Queue {
             Some(task) => {
                 self.lists.add_gone(task);
                 self.clock = self.clock.max(at);
+                self.kept = Some(self.lists.summed(self.clock));
                 Reply::Done
             }
             None => self.refuse(at, id),

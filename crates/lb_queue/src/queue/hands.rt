@@ -31,6 +31,7 @@ impl Queue {
         if let Some(task) = self.lists.take_asleep(id) {
             hand.load(self.cpu, self.clock, task.advanced(Run::Asleep, self.clock));
         }
+        self.kept = Some(self.lists.summed(self.clock));
     }
 
     /// A task whose pending stop request goes to the hand's destination leaves in the hand, which has
@@ -46,6 +47,7 @@ impl Queue {
         if let Some(task) = self.lists.take_awake(id, self.clock) {
             hand.load(self.cpu, self.clock, task);
         }
+        self.kept = Some(self.lists.summed(self.clock));
     }
 
     /// A pending active request goes to the hand's destination: the task nearest the back whose mask
@@ -62,6 +64,7 @@ impl Queue {
     {
         self.clock = self.clock.max(at);
         self.active = None;
+        self.kept = None;
         match self.lists.take_pushed(hand.to(), self.clock) {
             Some(task) => {
                 hand.load(self.cpu, self.clock, task);
@@ -98,6 +101,7 @@ impl Queue {
         self.lists.examine(self.clock, env, picked);
         load_all(&mut self.lists, &picked.ids, self.cpu, self.clock, hand);
         self.lists.set_order(&picked.order);
+        self.kept = Some(self.lists.summed(self.clock));
         Taken {
             some_pinned: picked.some_pinned,
             all_pinned: picked.all_pinned,
@@ -132,6 +136,7 @@ impl Queue {
         self.idle_since = None;
         self.tickless = false;
         self.lists.land(tasks, self.clock);
+        self.kept = Some(self.lists.summed(self.clock));
     }
 }
 

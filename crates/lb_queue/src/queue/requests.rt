@@ -20,6 +20,7 @@ impl Queue {
         self.clock = self.clock.max(at);
         self.tickless = self.tickless || (self.lists.is_idle() && self.active.is_none());
         self.lists.tick(self.clock);
+        self.kept = Some(self.lists.summed(self.clock));
     }
 
     /// The pending stop request of the task with the least id, of the owed requests only if asked.
@@ -38,6 +39,7 @@ impl Queue {
         ensures booked { self.new.booked ≡ self.old.booked }
     {
         self.clock = self.clock.max(at);
+        self.kept = Some(self.lists.renewed(self.kept, self.clock));
         match self.active {
             Some(_) => AskReply::Old,
             None => {
@@ -54,6 +56,7 @@ impl Queue {
         ensures booked { self.new.booked ≡ self.old.booked }
     {
         self.clock = self.clock.max(at);
+        self.kept = Some(self.lists.renewed(self.kept, self.clock));
         if self.kicked {
             return AskReply::Old;
         }

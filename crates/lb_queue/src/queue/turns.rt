@@ -87,6 +87,7 @@ impl Queue {
         }
         let positions = self.positions(at, kind, version, shapes);
         self.clock = self.clock.max(at);
+        self.kept = Some(self.lists.renewed(self.kept, self.clock));
         let now = self.clock / NANOSECONDS_PER_MILLISECOND;
         find_counters(
             &mut self.counters,
@@ -114,6 +115,7 @@ impl Queue {
         ensures booked { self.new.booked ≡ self.old.booked }
     {
         self.clock = self.clock.max(at);
+        self.kept = Some(self.lists.renewed(self.kept, self.clock));
         let now = self.clock / NANOSECONDS_PER_MILLISECOND;
         if let Some(turn) = self.open_turn {
             close(&mut self.counters, shape, turn.kind, outcome, imb, now);
@@ -127,6 +129,7 @@ impl Queue {
         ensures booked { self.new.booked ≡ self.old.booked }
     {
         self.clock = self.clock.max(at);
+        self.kept = Some(self.lists.renewed(self.kept, self.clock));
         self.open_turn = None;
     }
 

@@ -19,7 +19,7 @@ impl Queue {
     pub fn figure(&self, n: u64, ticket: u64) -> Fig
         ensures { result ≡ figure self.now.state n ticket }
     {
-        let sums = self.lists.sums(self.clock);
+        let sums = self.lists.renewed(self.kept, self.clock).sums;
         Fig {
             n,
             ticket,

@@ -7,11 +7,8 @@ use Rattle.lb_queue.proofs.queue.Queue.figure.Goals as goal
 
 pub returns : goal.returns
 unfolding figure
-returns c = rw (
-  c.from.ensures,
-  c.awake_len.ensures,
-  c.sums-sums.ensures.load,
-  c.sums-sums.ensures.util,
-  c.sums-sums.ensures.runnable,
-  c.flags.ensures,
-) (rw (← c.self.view_is) refl)
+returns c =
+    let load = rw c.renewed.ensures.at at c.renewed.ensures.sums.load in
+    let util = rw c.renewed.ensures.at at c.renewed.ensures.sums.util in
+    let runnable = rw c.renewed.ensures.at at c.renewed.ensures.sums.runnable in
+    rw (c.from.ensures, c.awake_len.ensures, load, util, runnable, c.flags.ensures) (rw (← c.self.view_is) refl)

@@ -35,6 +35,7 @@ invariant_of-self-2 c =
         λ p h. rw found (positions_within q c.args.at c.args.kind c.args.version c.args.shapes.now p fit
             (rw positions at h)),
       );
+      sums = c.renewed.ensures.sums;
     }
 
 pub returns-clause-step : goal.returns-clause-step
