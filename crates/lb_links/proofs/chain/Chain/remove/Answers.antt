@@ -1,0 +1,23 @@
+use Rattle.std.proofs.Common.{rules, ◌≡◌, [], ◌∷◌, ◌+◌, ◌-◌, ◌<◌, ◌≤◌, Some, None, IsSome, OnOk, ℕ, ◌*◌, length, ◌/◌, ◌%◌, Bool, true, false, nat_eq, nat_lt, List, ◌++◌, slice_index_or, slice_set, bit_and, bit_or, Fits, w8, w32, w64, Bor, MutBor}
+use Rattle.lb_links.specs.Lists.{value_of, without, with_value, fronted, last_id, id_before, Lacks, AreDistinct}
+use Rattle.lb_links.proofs.chain.Chain.remove.Goals as goal
+
+-- src/chain.rt:88:13
+pub remove-value-requires : goal.remove-value-requires
+remove-value-requires g c = ?
+
+-- src/chain.rt:77:5
+pub invariant_of-self : goal.invariant_of-self
+invariant_of-self g c = ?
+
+-- src/chain.rt:77:5
+pub returns-clause-value : goal.returns-clause-value
+returns-clause-value g c = ?
+
+-- src/chain.rt:77:5
+pub returns-clause-list : goal.returns-clause-list
+returns-clause-list g c = ?
+
+-- src/chain.rt:77:5
+pub returns-clause-distinct : goal.returns-clause-distinct
+returns-clause-distinct g c = ?
