@@ -151,7 +151,7 @@ module _ {X : Type 0} where
       let right = linked_right s None xs ((key, x) ∷ ys) None h.linked in
       let made = sym none ∙ right.0 in let z : ⊥ = cc in z
 
-  node_stored : (o : Option (Node X)) (x : X) → value_in o ≡ Some x → (n : Node X) × (o ≡ Some n) × (n.value ≡ x)
+  pub node_stored : (o : Option (Node X)) (x : X) → value_in o ≡ Some x → (n : Node X) × (o ≡ Some n) × (n.value ≡ x)
   node_stored None x e = absurd (let z : ⊥ = cc in z)
   node_stored (Some n) x e = (n, refl, (let k : n.value ≡ x = cc in k))
 

@@ -2,12 +2,11 @@
 ghost use Rattle.std.specs.Prelude.{◌≡◌, [], ◌∷◌, ◌+◌, ◌-◌, ◌<◌, ◌≤◌, Some, None, IsSome, OnOk};
 ghost use Rattle.lb_links.specs.Lists.{value_of, without, with_value, fronted, last_id, id_before, Lacks, AreDistinct};
 
-use crate::node::{Ends, Node, lead, unlink};
+use crate::node::{Ends, Node, lead, replace_value, unlink};
 use lb_base::NoMemory;
 use slab::Slab;
 use std::alloc::Global;
 use std::marker::Model;
-use std::mem;
 
 /// A doubly linked list. Contracts see the keys with their values, from front to back, and how many
 /// more values fit.
@@ -106,7 +105,7 @@ impl<X: Drop> Chain<X> {
         ensures list { self.new ≡ record self.old { items = with_value key value self.old.items } }
         ensures distinct { AreDistinct self.old.items }
     {
-        mem::replace(&mut self.nodes[key].value, value)
+        replace_value(&mut self.nodes, key, value)
     }
 
     // The value of a key.

@@ -1,10 +1,12 @@
 //! Nodes in a slab, each with the keys of its neighbours, and how two of them become neighbours.
 ghost use Rattle.std.specs.Prelude.{◌≡◌, ◌≢◌, ℕ, List, ◌∷◌, ◌++◌, Option, Some, None};
-ghost use Rattle.slab.specs.Slab.{get};
+ghost use Rattle.slab.specs.Slab.{get, slab_len, ContainsKey};
 ghost use Rattle.lb_links.specs.Lists.{last_from, Lacks, AreDistinct};
+ghost use Rattle.lb_links.specs.declared.node.Node.{Node};
 ghost use Rattle.lb_links.specs.Chains.{first_of, Linked, Rewrites, Keeps, IsGap, IsChain, stored};
 
 use slab::Slab;
+use std::mem;
 
 /// A value in the list, with the keys of its neighbours: None at an end of the list.
 #[derive(Drop)]
@@ -82,6 +84,18 @@ fn link<X>(nodes: &mut Slab<Node<X>>, ends: &mut Ends, before: Option<usize>, af
 {
     link_after(nodes, ends, before, after);
     link_before(nodes, ends, before, after);
+}
+
+/// Puts another value into the node of a key, and answers the one that was there.
+pub(crate) fn replace_value<X>(nodes: &mut Slab<Node<X>>, key: usize, value: X) -> X
+    requires { ContainsKey nodes.old key }
+    ensures value { stored nodes.old key ≡ Some result }
+    ensures node { (n : Node X) → get nodes.old key ≡ Some n → get nodes.new key ≡ Some (record n { value = value }) }
+    ensures others { (other : ℕ) → other ≢ key → get nodes.new other ≡ get nodes.old other }
+    ensures len { slab_len nodes.new ≡ slab_len nodes.old }
+    ensures capacity { nodes.new.capacity ≡ nodes.old.capacity }
+{
+    mem::replace(&mut nodes[key].value, value)
 }
 
 /// Takes the node of a key out of the list, and leaves it in the slab.

@@ -1,11 +1,10 @@
-use Rattle.std.proofs.Common.{rules, ◌≡◌, [], ◌∷◌, ◌+◌, ◌-◌, ◌<◌, ◌≤◌, Some, None, IsSome, OnOk, ℕ, ◌*◌, length, ◌/◌, ◌%◌, Bool, true, false, nat_eq, nat_lt, List, ◌++◌, slice_index_or, slice_set, bit_and, bit_or, Fits, w8, w32, w64, Bor, MutBor}
-use Rattle.lb_links.specs.Lists.{value_of, without, with_value, fronted, last_id, id_before, Lacks, AreDistinct}
+use Rattle.std.proofs.Common.{ap}
+use Rattle.slab.specs.Slab.{get, slab_len}
+use Rattle.lb_links.proofs.Held.{same_nodes}
 use Rattle.lb_links.proofs.chain.Chain.reserve.Goals as goal
 
--- src/chain.rt:56:9
 pub invariant_of-self : goal.invariant_of-self
-invariant_of-self g c = ?
+invariant_of-self g c = same_nodes c.self.inside.nodes c.reserve.new.self c.self.inside.ends (λ k. ap (λ s. get s k) c.reserve.ensures.rest_kept) (ap slab_len c.reserve.ensures.rest_kept) c.self.invariant
 
--- src/chain.rt:51:5
 pub invariant_of-self-2 : goal.invariant_of-self-2
-invariant_of-self-2 g c = ?
+invariant_of-self-2 g c = same_nodes c.self.inside.nodes c.reserve.new.self c.self.inside.ends (λ k. ap (λ s. get s k) c.reserve.ensures.rest_kept) (ap slab_len c.reserve.ensures.rest_kept) c.self.invariant

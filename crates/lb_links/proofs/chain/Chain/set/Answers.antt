@@ -1,23 +1,39 @@
-use Rattle.std.proofs.Common.{rules, ◌≡◌, [], ◌∷◌, ◌+◌, ◌-◌, ◌<◌, ◌≤◌, Some, None, IsSome, OnOk, ℕ, ◌*◌, length, ◌/◌, ◌%◌, Bool, true, false, nat_eq, nat_lt, List, ◌++◌, slice_index_or, slice_set, bit_and, bit_or, Fits, w8, w32, w64, Bor, MutBor}
-use Rattle.lb_links.specs.Lists.{value_of, without, with_value, fronted, last_id, id_before, Lacks, AreDistinct}
+use Rattle.std.proofs.Common.{◌∷◌, ◌++◌, ap, subst, sym, ◌∙◌}
+use Rattle.lb_links.specs.Lists.{AreDistinct}
+use Rattle.lb_links.specs.Chains.{value_in}
+use Rattle.lb_links.proofs.Held.{held_items, found_at, contains_found, found_is, found_set, found_count, found_with, listed, room_same}
 use Rattle.lb_links.proofs.chain.Chain.set.Goals as goal
 
--- src/chain.rt:109:27
-pub index_mut-requires : goal.index_mut-requires
-index_mut-requires g c = ?
+pub replace_value-requires : goal.replace_value-requires
+replace_value-requires g c =
+    let found = found_at c.self.inside.nodes c.self.inside.ends c.args.key c.args.self.now.items c.self.invariant (ap (λ v. v.items) c.self.view_is) c.requires in
+    contains_found _ _ _ _ found
 
--- src/chain.rt:103:5
 pub invariant_of-self : goal.invariant_of-self
-invariant_of-self g c = ?
+invariant_of-self g c =
+    let found = found_at c.self.inside.nodes c.self.inside.ends c.args.key c.args.self.now.items c.self.invariant (ap (λ v. v.items) c.self.view_is) c.requires in
+    let put = c.replace_value.ensures in
+    record {
+      cells = found.left ++ (c.args.key, c.args.value) ∷ found.right;
+      chain = found_set c.self.inside.nodes c.replace_value.new.nodes c.self.inside.ends c.args.key c.args.value _ found put.node put.others;
+      count = put.len ∙ found_count _ _ _ c.args.value _ found;
+    }
 
--- src/chain.rt:103:5
 pub returns-clause-value : goal.returns-clause-value
-returns-clause-value g c = ?
+returns-clause-value g c =
+    let found = found_at c.self.inside.nodes c.self.inside.ends c.args.key c.args.self.now.items c.self.invariant (ap (λ v. v.items) c.self.view_is) c.requires in
+    found_is _ _ _ _ found ∙ sym (ap value_in found.node) ∙ c.replace_value.ensures.value
 
--- src/chain.rt:103:5
 pub returns-clause-list : goal.returns-clause-list
-returns-clause-list g c = ?
+returns-clause-list g c =
+    let found = found_at c.self.inside.nodes c.self.inside.ends c.args.key c.args.self.now.items c.self.invariant (ap (λ v. v.items) c.self.view_is) c.requires in
+    let put = c.replace_value.ensures in
+    listed c.replace_value.new.nodes c.self.inside.ends (found.left ++ (c.args.key, c.args.value) ∷ found.right) _ _
+    (found_set c.self.inside.nodes c.replace_value.new.nodes c.self.inside.ends c.args.key c.args.value _ found put.node put.others)
+    (put.len ∙ found_count _ _ _ c.args.value _ found) (found_with _ _ _ c.args.value _ found)
+    (room_same _ _ _ _ _ put.capacity put.len (ap (λ v. v.spare) c.self.view_is))
 
--- src/chain.rt:103:5
 pub returns-clause-distinct : goal.returns-clause-distinct
-returns-clause-distinct g c = ?
+returns-clause-distinct g c =
+    let in_nodes = held_items c.self.inside.nodes c.self.inside.ends c.self.invariant in
+    subst AreDistinct (sym in_nodes ∙ ap (λ v. v.items) c.self.view_is) c.self.invariant.chain.distinct
