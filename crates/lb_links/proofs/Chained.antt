@@ -54,11 +54,11 @@ module _ {X : Type 0} where
       (others n.0 lacks.0 ∙ h.0, at_others s s2 key others (Some n.0) rest after lacks.1 h.1)
 
   -- ---- the last node gets another neighbour
-  last_differs : (id key : ℕ) (m : ℕ × X) (rest : List (ℕ × X)) → last_from (Some m.0) rest ≡ Some key → Lacks id (m ∷ rest) → id ≢ key
+  pub last_differs : (id key : ℕ) (m : ℕ × X) (rest : List (ℕ × X)) → last_from (Some m.0) rest ≡ Some key → Lacks id (m ∷ rest) → id ≢ key
   last_differs id key m [] e lacks = λ same. lacks.0 (let k : m.0 ≡ key = cc in k ∙ sym same)
   last_differs id key m (k ∷ rest) e lacks = last_differs id key k rest e lacks.1
 
-  some_last : (k : ℕ) (rest : List (ℕ × X)) → None ≡ last_from (Some k) rest → ⊥
+  pub some_last : (k : ℕ) (rest : List (ℕ × X)) → None ≡ last_from (Some k) rest → ⊥
   some_last k [] e = let z : ⊥ = cc in z
   some_last k (n ∷ rest) e = some_last n.0 rest e
 

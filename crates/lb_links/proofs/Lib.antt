@@ -1,3 +1,5 @@
 mod Splits
 mod Chained
 mod Held
+mod Rising
+mod Named
