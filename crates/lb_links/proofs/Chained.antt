@@ -1,11 +1,11 @@
 -- Nodes that are linked, as the links change.
-use Rattle.std.proofs.Common.{◌≡◌, ◌≢◌, ℕ, zero, suc, List, [], ◌∷◌, ◌++◌, length, Option, Some, None, refl, sym, ap, ◌∙◌, subst}
-use Rattle.slab.specs.Slab.{Slab, get, slab_len}
+use Rattle.std.proofs.Common.{◌≡◌, ◌≢◌, ℕ, List, [], ◌∷◌, ◌++◌, length, Option, Some, None, refl, sym, ap, ◌∙◌, subst}
+use Rattle.slab.specs.Slab.{Slab, get}
 use Rattle.lb_links.specs.declared.node.Node.{Node}
 use Rattle.lb_links.specs.declared.node.Ends.{Ends}
 use Rattle.lb_links.specs.Lists.{Lacks, AreDistinct, last_from}
 use Rattle.lb_links.specs.Chains.{first_of, Linked, walk, walked, stored, value_in, Rewrites, IsGap, IsChain}
-use Rattle.lb_links.proofs.Splits.{distinct_left, distinct_right, distinct_closed, middle_lacks_left}
+use Rattle.lb_links.proofs.Splits.{distinct_closed, middle_lacks_left}
 
 module _ {X : Type 0} where
   pub first_append : (xs ys : List (ℕ × X)) (after : Option ℕ) → first_of (xs ++ ys) after ≡ first_of xs (first_of ys after)

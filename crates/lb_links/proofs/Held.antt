@@ -1,12 +1,12 @@
 -- Slabs whose nodes are those of one list, and a key that is found in it.
-use Rattle.std.proofs.Common.{◌≡◌, ◌≢◌, ℕ, suc, ◌+◌, ◌-◌, ◌≤◌, List, [], ◌∷◌, ◌++◌, length, Option, Some, None, IsSome, refl, sym, ap, ◌∙◌, subst, arith, add-one, length-append}
+use Rattle.std.proofs.Common.{◌≡◌, ◌≢◌, ℕ, suc, ◌+◌, ◌-◌, ◌≤◌, List, [], ◌∷◌, ◌++◌, length, Option, Some, None, IsSome, refl, sym, ap, ◌∙◌, subst, arith}
 use Rattle.slab.specs.Slab.{Slab, get, slab_len, ContainsKey, Updates, with_value as put}
 use Rattle.lb_base.specs.Room.{WithRoom}
 use Rattle.lb_links.specs.declared.node.Node.{Node}
 use Rattle.lb_links.specs.declared.node.Ends.{Ends}
 use Rattle.lb_links.specs.Lists.{value_of, Lacks, AreDistinct, last_from, id_before, without, fronted, with_value}
 use Rattle.lb_links.specs.Chains.{first_of, Linked, walk, stored, value_in, IsChain, IsHeld}
-use Rattle.lb_links.proofs.Splits.{Cut, distinct_replaced, cut_at, some_is, middle_lacks_right, lacks_both, value_at, before_at, without_at, fronted_at, with_value_at}
+use Rattle.lb_links.proofs.Splits.{distinct_replaced, cut_at, some_is, middle_lacks_right, value_at, before_at, without_at, fronted_at, with_value_at}
 use Rattle.lb_links.proofs.Chained.{first_append, last_append, node_stored, walk_is, elsewhere, at_others, linked_left, linked_right, linked_join}
 
 pub room_less : (room room2 len len2 spare : ℕ) → room2 ≡ room → len2 ≡ len + 1 → room - len ≡ spare → room2 - len2 ≡ spare - 1

@@ -1,11 +1,11 @@
 -- The list by ids, over the list by the keys of its nodes: both are cut at the same place.
-use Rattle.std.proofs.Common.{◌≡◌, ◌≢◌, ◌==◌, ℕ, eqb, List, [], ◌∷◌, ◌++◌, Option, Some, None, IsSome, if◌then◌else◌, refl, sym, ap, ◌∙◌, subst, inl, inr, arith}
+use Rattle.std.proofs.Common.{◌≡◌, ℕ, eqb, List, [], ◌∷◌, ◌++◌, Some, None, IsSome, if◌then◌else◌, refl, sym, ap, ◌∙◌, subst, inl, inr, arith}
 use Rattle.std.proofs.lemmas.Bool.{cases_eq, cond-true, cond-false, eq-eqb, ne_eqb}
 use Rattle.std.proofs.lemmas.Bool.Decides.{nat_tests}
 use Rattle.std.proofs.lemmas.List.{map-append}
-use Rattle.lb_links.specs.Lists.{value_of, Lacks, AreDistinct, without, fronted, with_value, last_from, last_id, id_before}
+use Rattle.lb_links.specs.Lists.{value_of, Lacks, AreDistinct, without, fronted, with_value, last_from, id_before}
 use Rattle.lb_links.specs.Inside.{named, keyed}
-use Rattle.lb_links.proofs.Splits.{distinct_left, distinct_closed, distinct_fronted, distinct_replaced, middle_lacks_left, middle_lacks_right, none_where_lacking, value_at, value_right, without_at, fronted_at, with_value_at, before_at, before_lacking}
+use Rattle.lb_links.proofs.Splits.{distinct_left, distinct_closed, distinct_fronted, distinct_replaced, middle_lacks_left, middle_lacks_right, none_where_lacking, value_at, without_at, fronted_at, with_value_at, before_at}
 use Rattle.lb_links.proofs.Chained.{some_last, last_differs}
 
 module _ {X : Type 0} where

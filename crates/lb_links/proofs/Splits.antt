@@ -1,11 +1,15 @@
 -- A list of values with ids, cut at one of them, and what each edit makes of it there.
-use Rattle.std.proofs.Common.{◌≡◌, ◌≢◌, ◌==◌, ℕ, Bool, true, false, not, cond, eqb, List, [], ◌∷◌, ◌++◌, map, filter, Option, Some, None, IsSome, refl, sym, ap, ◌∙◌, subst, inl, inr}
+use Rattle.std.proofs.Common.{◌≡◌, ◌==◌, ℕ, eqb, List, [], ◌∷◌, ◌++◌, filter, Option, Some, None, IsSome, refl, sym, ap, ◌∙◌, inl, inr}
 use Rattle.std.proofs.lemmas.Bool.{false≢true, cases_eq, cond-true, cond-false, eq-eqb, ne_eqb}
 use Rattle.lb_links.specs.Lists.{value_of, Lacks, AreDistinct, without, fronted, with_value, last_from, before_from}
 
 pub some_is : {X : Type 0} (o : Option X) → IsSome o → (x : X) × (o ≡ Some x)
 some_is None h = absurd (false≢true h)
 some_is (Some x) h = (x, refl)
+
+pub not_none : {X : Type 0} (o : Option X) → IsSome o → o ≡ None → ⊥
+not_none None h e = false≢true h
+not_none (Some x) h e = let z : ⊥ = cc in z
 
 -- an id that is cut out, with its value, and what stands before and after it
 pub record Cut {X : Type 0} (id : ℕ) (x : X) (nodes : List (ℕ × X)) : Type 0 where

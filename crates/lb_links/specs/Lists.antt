@@ -1,6 +1,6 @@
 -- A list of values, each beside its id, from front to back: what stands there, and what each call
 -- leaves of it. No id stands in it twice.
-use Rattle.std.specs.Prelude.{◌≡◌, ◌≢◌, ◌==◌, ℕ, not, List, [], ◌∷◌, ◌++◌, filter, map, Option, Some, None, if◌then◌else◌}
+use Rattle.std.specs.Prelude.{◌≢◌, ◌==◌, ℕ, not, List, [], ◌∷◌, ◌++◌, filter, map, Option, Some, None, if◌then◌else◌}
 
 module _ {X : Type 0} where
   -- the value of an id

@@ -1,5 +1,5 @@
 use Rattle.std.proofs.Common.{sym, ◌∙◌}
-use Rattle.lb_links.proofs.Chained.{right_at_node, right_at_end}
+use Rattle.lb_links.proofs.Chained.{right_at_node}
 use Rattle.lb_links.proofs.node.link_before.Goals as goal
 
 pub returns-in-Some-clause-right : goal.returns-in-Some-clause-right

@@ -1,5 +1,5 @@
 use Rattle.std.proofs.Common.{◌≡◌, ◌∙◌, ap, sym, Some, refl}
-use Rattle.lb_links.specs.Lists.{value_of, last_id}
+use Rattle.lb_links.specs.Lists.{last_id}
 use Rattle.lb_links.proofs.Named.{last_none, last_found}
 use Rattle.lb_links.proofs.links.Links.back.Goals as goal
 

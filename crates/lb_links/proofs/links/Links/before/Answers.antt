@@ -1,5 +1,5 @@
 use Rattle.std.proofs.Common.{◌≡◌, ◌∙◌, ap, sym, Some, refl}
-use Rattle.lb_links.specs.Lists.{value_of, id_before}
+use Rattle.lb_links.specs.Lists.{id_before}
 use Rattle.lb_links.specs.Inside.{named}
 use Rattle.lb_links.proofs.Splits.{before_lacking, lacking_where_none}
 use Rattle.lb_links.proofs.Named.{placed, key_there, no_value, last_before, found_before, none_before, name_before}

@@ -1,4 +1,4 @@
-use Rattle.std.proofs.Common.{◌∙◌, ap, sym, Some}
+use Rattle.std.proofs.Common.{◌≡◌, ◌∙◌, ap, sym, Some}
 use Rattle.std.specs.Option.{option_copied}
 use Rattle.lb_links.specs.Lists.{value_of}
 use Rattle.lb_links.proofs.Named.{placed, by_id, by_key, key_there, no_value}

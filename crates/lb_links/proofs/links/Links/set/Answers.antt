@@ -1,6 +1,7 @@
 use Rattle.std.proofs.Common.{◌≡◌, ◌∙◌, ap, subst, sym, arith, Some}
 use Rattle.lb_links.specs.Lists.{value_of, with_value, AreDistinct}
 use Rattle.lb_links.specs.Inside.{named, keyed}
+use Rattle.lb_links.proofs.Splits.{not_none}
 use Rattle.lb_links.proofs.Named.{placed, by_id, by_key, key_there, no_value, keys_with, names_with, distinct_with}
 use Rattle.lb_links.proofs.links.Links.set.Goals as goal
 
@@ -23,8 +24,7 @@ invariant_of-self g c =
 pub unreachable-requires : goal.unreachable-requires
 unreachable-requires g c =
     let none = sym (ap (λ v. value_of c.args.id v.items) c.self.view_is) ∙ no_value c.args.id c.self.inside.chain.items (sym (c.self.invariant.found c.args.id) ∙ sym c.in-None.ensures) in
-    let there = c.requires in
-    cc
+    not_none (value_of c.args.id c.args.self.now.items) c.requires none
 
 pub returns-clause-value : goal.returns-clause-value
 returns-clause-value g c =

@@ -1,6 +1,7 @@
-use Rattle.std.proofs.Common.{◌≡◌, ◌∙◌, ap, subst, sym, arith}
+use Rattle.std.proofs.Common.{◌∙◌, ap, subst, sym, arith}
 use Rattle.lb_links.specs.Lists.{value_of, fronted, AreDistinct}
 use Rattle.lb_links.specs.Inside.{named, keyed}
+use Rattle.lb_links.proofs.Splits.{not_none}
 use Rattle.lb_links.proofs.Named.{placed, key_there, no_value, keys_fronted, names_fronted, distinct_first}
 use Rattle.lb_links.proofs.links.Links.to_front.Goals as goal
 
@@ -29,5 +30,4 @@ returns-in-Some-clause-list g c =
 pub returns-in_default-clause-list : goal.returns-in_default-clause-list
 returns-in_default-clause-list g c =
     let none = sym (ap (λ v. value_of c.args.id v.items) c.self.view_is) ∙ no_value c.args.id c.self.inside.chain.items (sym (c.self.invariant.found c.args.id) ∙ sym c.find.ensures ∙ c.in_default.is) in
-    let there = c.requires in
-    absurd (let z : ⊥ = cc in z)
+    absurd (not_none (value_of c.args.id c.args.self.now.items) c.requires none)

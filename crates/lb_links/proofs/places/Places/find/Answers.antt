@@ -1,4 +1,4 @@
-use Rattle.std.proofs.Common.{◌∙◌, ap, subst, sym, arith, Some}
+use Rattle.std.proofs.Common.{◌∙◌, ap, subst, sym, Some}
 use Rattle.std.proofs.lemmas.List.{get_or_default}
 use Rattle.lb_links.specs.Lists.{value_of}
 use Rattle.lb_links.specs.Places.{IsAt, IsGapFor}

@@ -1,4 +1,4 @@
-use Rattle.std.proofs.Common.{◌≡◌, ◌∙◌, ap, subst, sym, Some, if◌then◌else◌, eqb}
+use Rattle.std.proofs.Common.{◌∙◌, ap, subst, sym, Some, if◌then◌else◌, eqb}
 use Rattle.lb_links.specs.Lists.{value_of}
 use Rattle.lb_links.specs.Places.{IsAt, IsGapFor, IsRising}
 use Rattle.lb_links.proofs.Rising.{value_at_place, values_inserted, rising_inserted}

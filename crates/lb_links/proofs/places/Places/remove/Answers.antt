@@ -1,7 +1,7 @@
-use Rattle.std.proofs.Common.{◌≡◌, ◌∙◌, ap, subst, sym, Some, None, if◌then◌else◌, eqb}
+use Rattle.std.proofs.Common.{◌∙◌, ap, subst, sym, Some, None, if◌then◌else◌, eqb}
 use Rattle.std.proofs.lemmas.List.{get_or_default}
 use Rattle.lb_links.specs.Lists.{value_of}
-use Rattle.lb_links.specs.Places.{IsAt, IsGapFor, IsRising}
+use Rattle.lb_links.specs.Places.{IsAt, IsGapFor}
 use Rattle.lb_links.proofs.Rising.{value_at_place, value_in_gap, values_removed, values_kept}
 use Rattle.lb_links.proofs.places.Places.remove.Goals as goal
 
