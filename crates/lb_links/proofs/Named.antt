@@ -10,7 +10,8 @@ use Rattle.lb_links.proofs.Chained.{some_last, last_differs}
 
 module _ {X : Type 0} where
   -- what is found after one id left
-  pub value_without : (id : ℕ) (x : X) (xs ys : List (ℕ × X)) → Lacks id xs → Lacks id ys → (other : ℕ) → value_of other (xs ++ ys) ≡ (if eqb id other then None else value_of other (xs ++ (id, x) ∷ ys))
+  pub value_without : (id : ℕ) (x : X) (xs ys : List (ℕ × X)) → Lacks id xs → Lacks id ys → (other : ℕ)
+      → value_of other (xs ++ ys) ≡ (if eqb id other then None else value_of other (xs ++ (id, x) ∷ ys))
   value_without id x [] ys h k other = elim (cases_eq id other) [
     | inl same ↦
         let none : value_of other ys ≡ None = subst (λ (n : ℕ). value_of n ys ≡ None) same (none_where_lacking id ys k) in
@@ -20,7 +21,8 @@ module _ {X : Type 0} where
   value_without id x (n ∷ xs) ys h k other = grind (arith, nat_tests, h.0, value_without id x xs ys h.1 k other)
 
   -- and after one came first
-  pub value_fronted : (id : ℕ) (x : X) (xs ys : List (ℕ × X)) → Lacks id xs → (other : ℕ) → value_of other ((id, x) ∷ (xs ++ ys)) ≡ value_of other (xs ++ (id, x) ∷ ys)
+  pub value_fronted : (id : ℕ) (x : X) (xs ys : List (ℕ × X)) → Lacks id xs → (other : ℕ)
+      → value_of other ((id, x) ∷ (xs ++ ys)) ≡ value_of other (xs ++ (id, x) ∷ ys)
   value_fronted id x [] ys h other = refl
   value_fronted id x (n ∷ xs) ys h other = grind (arith, nat_tests, h.0, value_fronted id x xs ys h.1 other)
 
@@ -28,17 +30,20 @@ module _ {X : Type 0} where
   value_left id x [] ys e = absurd (let z : ⊥ = cc in z)
   value_left id x (n ∷ xs) ys e = elim (cases_eq n.0 id) [
     | inl same ↦ rw (eq-eqb n.0 id same) (sym (cond-true (eqb n.0 id) (Some n.1) (value_of id xs) (eq-eqb n.0 id same)) ∙ e)
-    | inr differs ↦ rw (ne_eqb n.0 id differs) (value_left id x xs ys (sym (cond-false (eqb n.0 id) (Some n.1) (value_of id xs) (ne_eqb n.0 id differs)) ∙ e))
+    | inr differs ↦ rw (ne_eqb n.0 id differs)
+        (value_left id x xs ys (sym (cond-false (eqb n.0 id) (Some n.1) (value_of id xs) (ne_eqb n.0 id differs)) ∙ e))
   ]
 
 module _ {T : Type 0} where
-  named_cut : (key id : ℕ) (v : T) (xs ys : List (ℕ × (ℕ × T))) → named (xs ++ (key, (id, v)) ∷ ys) ≡ named xs ++ (id, v) ∷ named ys
+  named_cut : (key id : ℕ) (v : T) (xs ys : List (ℕ × (ℕ × T)))
+      → named (xs ++ (key, (id, v)) ∷ ys) ≡ named xs ++ (id, v) ∷ named ys
   named_cut key id v xs ys = map-append (λ c. c.1) xs ((key, (id, v)) ∷ ys)
 
   named_append : (xs ys : List (ℕ × (ℕ × T))) → named (xs ++ ys) ≡ named xs ++ named ys
   named_append xs ys = map-append (λ c. c.1) xs ys
 
-  keyed_cut : (key id : ℕ) (v : T) (xs ys : List (ℕ × (ℕ × T))) → keyed (xs ++ (key, (id, v)) ∷ ys) ≡ keyed xs ++ (id, key) ∷ keyed ys
+  keyed_cut : (key id : ℕ) (v : T) (xs ys : List (ℕ × (ℕ × T)))
+      → keyed (xs ++ (key, (id, v)) ∷ ys) ≡ keyed xs ++ (id, key) ∷ keyed ys
   keyed_cut key id v xs ys = map-append (λ c. (c.1.0, c.0)) xs ((key, (id, v)) ∷ ys)
 
   keyed_append : (xs ys : List (ℕ × (ℕ × T))) → keyed (xs ++ ys) ≡ keyed xs ++ keyed ys
@@ -52,15 +57,19 @@ module _ {T : Type 0} where
   pub no_value : (id : ℕ) (cells : List (ℕ × (ℕ × T))) → value_of id (keyed cells) ≡ None → value_of id (named cells) ≡ None
   no_value id [] h = refl
   no_value id (c ∷ cells) h = elim (cases_eq c.1.0 id) [
-    | inl e ↦ absurd (let k = cond-true (eqb c.1.0 id) (Some c.0) (value_of id (keyed cells)) (eq-eqb c.1.0 id e) in let z : ⊥ = cc in z)
-    | inr d ↦ rw (ne_eqb c.1.0 id d) (no_value id cells (sym (cond-false (eqb c.1.0 id) (Some c.0) (value_of id (keyed cells)) (ne_eqb c.1.0 id d)) ∙ h))
+    | inl e ↦ absurd (let k = cond-true (eqb c.1.0 id) (Some c.0) (value_of id (keyed cells)) (eq-eqb c.1.0 id e) in
+        let z : ⊥ = cc in z)
+    | inr d ↦ rw (ne_eqb c.1.0 id d) (no_value id cells
+        (sym (cond-false (eqb c.1.0 id) (Some c.0) (value_of id (keyed cells)) (ne_eqb c.1.0 id d)) ∙ h))
   ]
 
   pub no_key : (id : ℕ) (cells : List (ℕ × (ℕ × T))) → value_of id (named cells) ≡ None → value_of id (keyed cells) ≡ None
   no_key id [] h = refl
   no_key id (c ∷ cells) h = elim (cases_eq c.1.0 id) [
-    | inl e ↦ absurd (let k = cond-true (eqb c.1.0 id) (Some c.1.1) (value_of id (named cells)) (eq-eqb c.1.0 id e) in let z : ⊥ = cc in z)
-    | inr d ↦ rw (ne_eqb c.1.0 id d) (no_key id cells (sym (cond-false (eqb c.1.0 id) (Some c.1.1) (value_of id (named cells)) (ne_eqb c.1.0 id d)) ∙ h))
+    | inl e ↦ absurd (let k = cond-true (eqb c.1.0 id) (Some c.1.1) (value_of id (named cells)) (eq-eqb c.1.0 id e) in
+        let z : ⊥ = cc in z)
+    | inr d ↦ rw (ne_eqb c.1.0 id d) (no_key id cells
+        (sym (cond-false (eqb c.1.0 id) (Some c.1.1) (value_of id (named cells)) (ne_eqb c.1.0 id d)) ∙ h))
   ]
 
   record Parts (id key : ℕ) (cells : List (ℕ × (ℕ × T))) : Type 0 where
@@ -77,7 +86,8 @@ module _ {T : Type 0} where
         let q : c.0 ≡ key = cc in
         record { value = c.1.1; left = []; right = cells; is = λ i. (q i, (e i, c.1.1)) ∷ cells }
     | inr d ↦
-        let later = parts id key cells (sym (cond-false (eqb c.1.0 id) (Some c.0) (value_of id (keyed cells)) (ne_eqb c.1.0 id d)) ∙ h) in
+        let later = parts id key cells (sym
+        (cond-false (eqb c.1.0 id) (Some c.0) (value_of id (keyed cells)) (ne_eqb c.1.0 id d)) ∙ h) in
         record { value = later.value; left = c ∷ later.left; right = later.right; is = ap (λ l. c ∷ l) later.is }
   ]
 
@@ -96,7 +106,8 @@ module _ {T : Type 0} where
     pub id_left : Lacks id (named left)
     pub id_right : Lacks id (named right)
 
-  pub placed : (id key : ℕ) (cells : List (ℕ × (ℕ × T))) → AreDistinct cells → AreDistinct (named cells) → value_of id (keyed cells) ≡ Some key → Placed id key cells
+  pub placed : (id key : ℕ) (cells : List (ℕ × (ℕ × T))) → AreDistinct cells → AreDistinct (named cells)
+      → value_of id (keyed cells) ≡ Some key → Placed id key cells
   placed id key cells distinct names found =
       let p = parts id key cells found in
       let cut = named_cut key id p.value p.left p.right in
@@ -135,7 +146,8 @@ module _ {T : Type 0} where
     cells_fronted = ap (fronted key) p.is ∙ fronted_at key (id, p.value) p.left p.right p.key_left p.key_right
 
     pub cells_with : (w : T) → with_value key (id, w) cells ≡ p.left ++ (key, (id, w)) ∷ p.right
-    cells_with w = ap (with_value key (id, w)) p.is ∙ with_value_at key (id, p.value) (id, w) p.left p.right p.key_left p.key_right
+    cells_with w = ap (with_value key (id, w)) p.is
+        ∙ with_value_at key (id, p.value) (id, w) p.left p.right p.key_left p.key_right
 
     -- and the same of the ids with their values
     pub names_without : named (without key cells) ≡ without id (named cells)
@@ -151,18 +163,22 @@ module _ {T : Type 0} where
         ∙ sym (ap (with_value id w) p.names ∙ with_value_at id p.value w (named p.left) (named p.right) p.id_left p.id_right)
 
     -- and of the ids with their keys
-    pub keys_without : (other : ℕ) → value_of other (keyed (without key cells)) ≡ (if eqb id other then None else value_of other (keyed cells))
+    pub keys_without : (other : ℕ) → value_of other (keyed (without key cells))
+        ≡ (if eqb id other then None else value_of other (keyed cells))
     keys_without other = ap (λ l. value_of other (keyed l)) cells_without ∙ ap (value_of other) (keyed_append p.left p.right)
-        ∙ value_without id key (keyed p.left) (keyed p.right) (lacks_keyed id p.left p.id_left) (lacks_keyed id p.right p.id_right) other
+        ∙ value_without id key (keyed p.left) (keyed p.right) (lacks_keyed id p.left p.id_left)
+        (lacks_keyed id p.right p.id_right) other
         ∙ ap (λ l. if eqb id other then None else value_of other l) (sym p.keys)
 
     pub keys_fronted : (other : ℕ) → value_of other (keyed (fronted key cells)) ≡ value_of other (keyed cells)
-    keys_fronted other = ap (λ l. value_of other (keyed l)) cells_fronted ∙ ap (λ l. value_of other ((id, key) ∷ l)) (keyed_append p.left p.right)
+    keys_fronted other = ap (λ l. value_of other (keyed l)) cells_fronted
+        ∙ ap (λ l. value_of other ((id, key) ∷ l)) (keyed_append p.left p.right)
         ∙ value_fronted id key (keyed p.left) (keyed p.right) (lacks_keyed id p.left p.id_left) other
         ∙ ap (value_of other) (sym p.keys)
 
     pub keys_with : (w : T) (other : ℕ) → value_of other (keyed (with_value key (id, w) cells)) ≡ value_of other (keyed cells)
-    keys_with w other = ap (λ l. value_of other (keyed l)) (cells_with w) ∙ ap (value_of other) (keyed_cut key id w p.left p.right ∙ sym p.keys)
+    keys_with w other = ap (λ l. value_of other (keyed l)) (cells_with w)
+        ∙ ap (value_of other) (keyed_cut key id w p.left p.right ∙ sym p.keys)
 
     pub key_before : id_before key cells ≡ last_from None p.left
     key_before = ap (id_before key) p.is ∙ before_at None key (id, p.value) p.left p.right p.key_left
@@ -180,7 +196,8 @@ module _ {T : Type 0} where
     pub found : value_of key cells ≡ Some entry
     pub name : last_from None (named cells) ≡ Some entry.0
 
-  last_later : (key : ℕ) (c : ℕ × (ℕ × T)) (cells : List (ℕ × (ℕ × T))) → AreDistinct (c ∷ cells) → last_from (Some c.0) cells ≡ Some key → Last key (c ∷ cells)
+  last_later : (key : ℕ) (c : ℕ × (ℕ × T)) (cells : List (ℕ × (ℕ × T))) → AreDistinct (c ∷ cells)
+      → last_from (Some c.0) cells ≡ Some key → Last key (c ∷ cells)
   last_later key c [] distinct e =
       let k : c.0 ≡ key = cc in
       record { entry = c.1; found = cond-true (eqb c.0 key) (Some c.1) None (eq-eqb c.0 key k); name = refl }
@@ -188,7 +205,8 @@ module _ {T : Type 0} where
       let later = last_later key d cells distinct.1 e in
       record {
         entry = later.entry;
-        found = cond-false (eqb c.0 key) (Some c.1) (value_of key (d ∷ cells)) (ne_eqb c.0 key (last_differs c.0 key d cells e distinct.0)) ∙ later.found;
+        found = cond-false (eqb c.0 key) (Some c.1) (value_of key (d ∷ cells))
+            (ne_eqb c.0 key (last_differs c.0 key d cells e distinct.0)) ∙ later.found;
         name = later.name;
       }
 
@@ -202,24 +220,32 @@ module _ {T : Type 0} where
   key_there id key (c ∷ cells) h = elim (cases_eq c.0 key) [
     | inl same ↦ rw (eq-eqb c.0 key same) refl
     | inr differs ↦ elim (cases_eq c.1.0 id) [
-      | inl e ↦ absurd (differs (let k = cond-true (eqb c.1.0 id) (Some c.0) (value_of id (keyed cells)) (eq-eqb c.1.0 id e) in let q : c.0 ≡ key = cc in q))
-      | inr d ↦ rw (ne_eqb c.0 key differs) (key_there id key cells (sym (cond-false (eqb c.1.0 id) (Some c.0) (value_of id (keyed cells)) (ne_eqb c.1.0 id d)) ∙ h))
+      | inl e ↦ absurd (differs (let k = cond-true (eqb c.1.0 id) (Some c.0) (value_of id (keyed cells))
+          (eq-eqb c.1.0 id e) in let q : c.0 ≡ key = cc in q))
+      | inr d ↦ rw (ne_eqb c.0 key differs)
+          (key_there id key cells (sym (cond-false (eqb c.1.0 id) (Some c.0) (value_of id (keyed cells))
+          (ne_eqb c.1.0 id d)) ∙ h))
     ]
   ]
 
   module _ (id key : ℕ) (cells : List (ℕ × (ℕ × T))) (p : Placed id key cells) where
     pub distinct_without : AreDistinct (named (without key cells))
-    distinct_without = subst AreDistinct (sym (ap named (cells_without id key cells p) ∙ named_append p.left p.right)) (distinct_closed (named p.left) (named p.right) (id, p.value) p.names_distinct)
+    distinct_without = subst AreDistinct (sym (ap named (cells_without id key cells p) ∙ named_append p.left p.right))
+        (distinct_closed (named p.left) (named p.right) (id, p.value) p.names_distinct)
 
     pub distinct_first : AreDistinct (named (fronted key cells))
-    distinct_first = subst AreDistinct (sym (ap named (cells_fronted id key cells p) ∙ ap (λ l. (id, p.value) ∷ l) (named_append p.left p.right))) (distinct_fronted (named p.left) (named p.right) (id, p.value) p.names_distinct)
+    distinct_first = subst AreDistinct (sym (ap named (cells_fronted id key cells p)
+        ∙ ap (λ l. (id, p.value) ∷ l) (named_append p.left p.right)))
+        (distinct_fronted (named p.left) (named p.right) (id, p.value) p.names_distinct)
 
     pub distinct_with : (w : T) → AreDistinct (named (with_value key (id, w) cells))
-    distinct_with w = subst AreDistinct (sym (ap named (cells_with id key cells p w) ∙ named_cut key id w p.left p.right)) (distinct_replaced (named p.left) (named p.right) id p.value w p.names_distinct)
+    distinct_with w = subst AreDistinct (sym (ap named (cells_with id key cells p w) ∙ named_cut key id w p.left p.right))
+        (distinct_replaced (named p.left) (named p.right) id p.value w p.names_distinct)
 
     -- the key before a key, and the id beside it
     pub last_before : (other : ℕ) → id_before key cells ≡ Some other → Last other p.left
-    last_before other e = last_found other p.left (distinct_left p.left ((key, (id, p.value)) ∷ p.right) p.distinct) (sym (key_before id key cells p) ∙ e)
+    last_before other e = last_found other p.left (distinct_left p.left ((key, (id, p.value)) ∷ p.right) p.distinct)
+        (sym (key_before id key cells p) ∙ e)
 
     pub found_before : (other : ℕ) (l : Last other p.left) → value_of other cells ≡ Some l.entry
     found_before other l = ap (value_of other) p.is ∙ value_left other l.entry p.left ((key, (id, p.value)) ∷ p.right) l.found

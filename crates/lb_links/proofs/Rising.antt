@@ -29,14 +29,19 @@ value_absent (x ∷ l) k none = grind (arith, nat_tests, none 0 (omega arith), v
 value_present : (l : List (ℕ × ℕ)) (k i : ℕ) → IsAt l k i → NoneBefore l k i → value_of k l ≡ Some (get_or l i (0, 0)).1
 value_present [] k i here none = absurd (omega (arith, here.in_range))
 value_present (x ∷ l) k zero here none = grind (arith, nat_tests, here.is)
-value_present (x ∷ l) k (suc i) here none = grind (arith, nat_tests, none 0 (omega arith), value_present l k i (is_at_tail x l k i here) (none_before_tail x l k i none))
+value_present (x ∷ l) k (suc i) here none =
+    grind (arith, nat_tests, none 0 (omega arith), value_present l k i (is_at_tail x l k i here) (none_before_tail x l k i none))
 
-value_inserted : (l : List (ℕ × ℕ)) (k v i : ℕ) → NoneBefore l k i → (q : ℕ) → value_of q (insert l i (k, v)) ≡ (if eqb k q then Some v else value_of q l)
+value_inserted : (l : List (ℕ × ℕ)) (k v i : ℕ) → NoneBefore l k i → (q : ℕ)
+    → value_of q (insert l i (k, v)) ≡ (if eqb k q then Some v else value_of q l)
 value_inserted l k v zero none q = refl
 value_inserted [] k v (suc i) none q = refl
-value_inserted (x ∷ l) k v (suc i) none q = grind (arith, nat_tests, none 0 (omega arith), value_inserted l k v i (none_before_tail x l k i none) q)
+value_inserted (x ∷ l) k v (suc i) none q =
+    grind (arith, nat_tests, none 0 (omega arith), value_inserted l k v i (none_before_tail x l k i none) q)
 
-value_removed : (l : List (ℕ × ℕ)) (k i : ℕ) → IsAt l k i → NoneBefore l k i → ((j : ℕ) → i < j → j < length l → id_at l j ≢ k) → (q : ℕ) → value_of q (remove l i) ≡ (if eqb k q then None else value_of q l)
+value_removed : (l : List (ℕ × ℕ)) (k i : ℕ) → IsAt l k i → NoneBefore l k i
+    → ((j : ℕ) → i < j → j < length l → id_at l j ≢ k) → (q : ℕ)
+    → value_of q (remove l i) ≡ (if eqb k q then None else value_of q l)
 value_removed [] k i here none later q = absurd (omega (arith, here.in_range))
 value_removed (x ∷ l) k zero here none later q = elim (cases_eq k q) [
   | inl same ↦
@@ -45,7 +50,14 @@ value_removed (x ∷ l) k zero here none later q = elim (cases_eq k q) [
       grind (arith, nat_tests, here.is)
   | inr other ↦ grind (arith, nat_tests, here.is)
 ]
-value_removed (x ∷ l) k (suc i) here none later q = grind (arith, nat_tests, none 0 (omega arith), value_removed l k i (is_at_tail x l k i here) (none_before_tail x l k i none) (λ j above within. later (suc j) (omega arith) (omega arith)) q)
+value_removed (x ∷ l) k (suc i) here none later q =
+    grind (
+      arith,
+      nat_tests,
+      none 0 (omega arith),
+      value_removed l k i (is_at_tail x l k i here)
+          (none_before_tail x l k i none) (λ j above within. later (suc j) (omega arith) (omega arith)) q,
+    )
 
 module _ (l : List (ℕ × ℕ)) (rising : IsRising l) (k : ℕ) where
   -- the comparisons with k rise along the list, as a binary search asks
@@ -55,8 +67,12 @@ module _ (l : List (ℕ × ℕ)) (rising : IsRising l) (k : ℕ) where
       grind (arith, nat_tests))
 
   -- a binary search ends at the id, or at the gap for it
-  pub searched : (r : Result ℕ ℕ) → IsSearchInRange r (length l) → IsBinarySearchResult (λ pair. nat_cmp pair.0 k) l r → record { found : IfOk r (IsAt l k); absent : IfErr r (IsGapFor l k) }
-  searched (Ok at) in_range equal = record { found = record { in_range = in_range; is = ranked _ k _ (sym (equal (0, 0))) }; absent = tt }
+  pub searched : (r : Result ℕ ℕ) → IsSearchInRange r (length l) → IsBinarySearchResult (λ pair. nat_cmp pair.0 k) l r
+      → record { found : IfOk r (IsAt l k); absent : IfErr r (IsGapFor l k) }
+  searched (Ok at) in_range equal = record {
+    found = record { in_range = in_range; is = ranked _ k _ (sym (equal (0, 0))) };
+    absent = tt;
+  }
   searched (Err at) in_range parted = record {
     found = tt;
     absent = record {
@@ -76,7 +92,8 @@ module _ (l : List (ℕ × ℕ)) (rising : IsRising l) (k at : ℕ) (here : IsAt
 
   -- without its pair it is gone, and no other
   pub values_removed : (q : ℕ) → value_of q (remove l at) ≡ (if eqb k q then None else value_of q l)
-  values_removed = value_removed l k at here none_before (λ j above within same. omega (arith, rising at j above within, here.is))
+  values_removed = value_removed l k at here none_before
+      (λ j above within same. omega (arith, rising at j above within, here.is))
 
 module _ (l : List (ℕ × ℕ)) (k at : ℕ) (gap : IsGapFor l k at) where
   -- an id that has a gap is not found
@@ -102,7 +119,25 @@ module _ (l : List (ℕ × ℕ)) (k at : ℕ) (gap : IsGapFor l k at) where
       let new = insert l at (k, v) in
       let first = λ (x : ℕ × ℕ). x.0 in
       let length_new = length-insert l at (k, v) gap.in_range in
-      let below : (i : ℕ) → i < at → id_at new i ≡ id_at l i = λ i before. ap first (get_or-insert_below l at (k, v) (0, 0) i before gap.in_range) in
-      let here : (i : ℕ) → i ≡ at → id_at new i ≡ k = λ i same. rw same (ap first (get_or-insert_at l at (k, v) (0, 0) gap.in_range)) in
-      let above : (i : ℕ) → at < i → id_at new i ≡ id_at l (i - 1) = λ i after. subst (λ q. id_at new q ≡ id_at l (i - 1)) {x = i - 1 + 1} (omega arith) (ap first (get_or-insert_above l at (k, v) (0, 0) (i - 1) (omega arith) gap.in_range)) in
-      grind (arith, below i, here i, above i, below j, here j, above j, rising i j, rising i (j - 1), rising (i - 1) (j - 1), gap.lesser_before i, gap.greater_after (j - 1))
+      let below : (i : ℕ) → i < at → id_at new i ≡ id_at l i =
+      λ i before. ap first (get_or-insert_below l at (k, v) (0, 0) i before gap.in_range) in
+      let here : (i : ℕ) → i ≡ at → id_at new i ≡ k =
+      λ i same. rw same (ap first (get_or-insert_at l at (k, v) (0, 0) gap.in_range)) in
+      let above : (i : ℕ) → at < i → id_at new i ≡ id_at l (i - 1) =
+      λ i after. subst (λ q. id_at new q ≡ id_at l (i - 1)) {x = i - 1 + 1} (omega arith)
+      (ap first (get_or-insert_above l at (k, v) (0, 0) (i - 1) (omega arith) gap.in_range)) in
+      grind (
+        arith,
+        below i,
+        here i,
+        above i,
+        below j,
+        here j,
+        above j,
+        rising i j,
+        rising i (j - 1),
+        rising (i - 1)
+            (j - 1),
+        gap.lesser_before i,
+        gap.greater_after (j - 1),
+      )

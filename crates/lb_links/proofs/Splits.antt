@@ -63,11 +63,13 @@ module _ {X : Type 0} where
   )
 
   -- another value at one place keeps the ids
-  pub lacks_replaced : (id : ℕ) (xs ys : List (ℕ × X)) (k : ℕ) (x w : X) → Lacks id (xs ++ (k, x) ∷ ys) → Lacks id (xs ++ (k, w) ∷ ys)
+  pub lacks_replaced : (id : ℕ) (xs ys : List (ℕ × X)) (k : ℕ) (x w : X) → Lacks id (xs ++ (k, x) ∷ ys)
+      → Lacks id (xs ++ (k, w) ∷ ys)
   lacks_replaced id [] ys k x w h = h
   lacks_replaced id (m ∷ xs) ys k x w h = (h.0, lacks_replaced id xs ys k x w h.1)
 
-  pub distinct_replaced : (xs ys : List (ℕ × X)) (k : ℕ) (x w : X) → AreDistinct (xs ++ (k, x) ∷ ys) → AreDistinct (xs ++ (k, w) ∷ ys)
+  pub distinct_replaced : (xs ys : List (ℕ × X)) (k : ℕ) (x w : X) → AreDistinct (xs ++ (k, x) ∷ ys)
+      → AreDistinct (xs ++ (k, w) ∷ ys)
   distinct_replaced [] ys k x w h = h
   distinct_replaced (m ∷ xs) ys k x w h = (lacks_replaced m.0 xs ys k x w h.0, distinct_replaced xs ys k x w h.1)
 
@@ -125,21 +127,26 @@ module _ {X : Type 0} where
   before_lacking before id (n ∷ xs) h = rw (ne_eqb n.0 id h.0) (before_lacking (Some n.0) id xs h.1)
 
   -- ---- and at the cut
-  pub without_at : (id : ℕ) (x : X) (xs ys : List (ℕ × X)) → Lacks id xs → Lacks id ys → without id (xs ++ (id, x) ∷ ys) ≡ xs ++ ys
+  pub without_at : (id : ℕ) (x : X) (xs ys : List (ℕ × X)) → Lacks id xs → Lacks id ys
+      → without id (xs ++ (id, x) ∷ ys) ≡ xs ++ ys
   without_at id x [] ys h k = rw (eq-eqb id id refl) (without_lacking id ys k)
   without_at id x (n ∷ xs) ys h k = rw (ne_eqb n.0 id h.0) (ap (λ l. n ∷ l) (without_at id x xs ys h.1 k))
 
-  only_at : (id : ℕ) (x : X) (xs ys : List (ℕ × X)) → Lacks id xs → Lacks id ys → filter (λ n. n.0 == id) (xs ++ (id, x) ∷ ys) ≡ (id, x) ∷ []
+  only_at : (id : ℕ) (x : X) (xs ys : List (ℕ × X)) → Lacks id xs → Lacks id ys
+      → filter (λ n. n.0 == id) (xs ++ (id, x) ∷ ys) ≡ (id, x) ∷ []
   only_at id x [] ys h k = rw (eq-eqb id id refl) (ap (λ l. (id, x) ∷ l) (only_lacking id ys k))
   only_at id x (n ∷ xs) ys h k = rw (ne_eqb n.0 id h.0) (only_at id x xs ys h.1 k)
 
-  pub fronted_at : (id : ℕ) (x : X) (xs ys : List (ℕ × X)) → Lacks id xs → Lacks id ys → fronted id (xs ++ (id, x) ∷ ys) ≡ (id, x) ∷ (xs ++ ys)
+  pub fronted_at : (id : ℕ) (x : X) (xs ys : List (ℕ × X)) → Lacks id xs → Lacks id ys
+      → fronted id (xs ++ (id, x) ∷ ys) ≡ (id, x) ∷ (xs ++ ys)
   fronted_at id x xs ys h k = let a = only_at id x xs ys h k in let b = without_at id x xs ys h k in λ i. a i ++ b i
 
-  pub with_value_at : (id : ℕ) (x w : X) (xs ys : List (ℕ × X)) → Lacks id xs → Lacks id ys → with_value id w (xs ++ (id, x) ∷ ys) ≡ xs ++ (id, w) ∷ ys
+  pub with_value_at : (id : ℕ) (x w : X) (xs ys : List (ℕ × X)) → Lacks id xs → Lacks id ys
+      → with_value id w (xs ++ (id, x) ∷ ys) ≡ xs ++ (id, w) ∷ ys
   with_value_at id x w [] ys h k = rw (eq-eqb id id refl) (ap (λ l. (id, w) ∷ l) (with_value_lacking id w ys k))
   with_value_at id x w (n ∷ xs) ys h k = rw (ne_eqb n.0 id h.0) (ap (λ l. n ∷ l) (with_value_at id x w xs ys h.1 k))
 
-  pub before_at : (before : Option ℕ) (id : ℕ) (x : X) (xs ys : List (ℕ × X)) → Lacks id xs → before_from before id (xs ++ (id, x) ∷ ys) ≡ last_from before xs
+  pub before_at : (before : Option ℕ) (id : ℕ) (x : X) (xs ys : List (ℕ × X)) → Lacks id xs
+      → before_from before id (xs ++ (id, x) ∷ ys) ≡ last_from before xs
   before_at before id x [] ys h = rw (eq-eqb id id refl) refl
   before_at before id x (n ∷ xs) ys h = rw (ne_eqb n.0 id h.0) (before_at (Some n.0) id x xs ys h.1)

@@ -27,7 +27,10 @@ impl<X> Model for Chain<X> {
 
     ghost coded = { with_room_code (coded× coded_ℕ X.code) };
 
-    ghost view = { λ c. record { items = walk c.nodes (slab_len c.nodes) c.ends.front; spare = c.nodes.capacity - slab_len c.nodes } };
+    ghost view = { λ c. record {
+      items = walk c.nodes (slab_len c.nodes) c.ends.front;
+      spare = c.nodes.capacity - slab_len c.nodes;
+    } };
 
     ghost invariant = { λ c. IsHeld c.nodes c.ends };
 }

@@ -48,7 +48,9 @@ fn link_after<X>(
     before: Option<usize>,
     after: Option<usize>,
 )
-    ensures left { (xs : List (ℕ × X)) (a0 a1 : Option ℕ) → before ≡ last_from None xs → Linked nodes.old None xs a0 → AreDistinct xs → ends.old.front ≡ first_of xs a1 → Linked nodes.new None xs after × (ends.new.front ≡ first_of xs after) }
+    ensures left { (xs : List (ℕ × X)) (a0 a1 : Option ℕ) → before ≡ last_from None xs → Linked nodes.old None xs a0
+        → AreDistinct xs → ends.old.front ≡ first_of xs a1
+        → Linked nodes.new None xs after × (ends.new.front ≡ first_of xs after) }
     ensures others { (k : ℕ) → before ≢ Some k → get nodes.new k ≡ get nodes.old k }
     ensures back { ends.new.back ≡ ends.old.back }
     ensures kept { Keeps nodes.old nodes.new }
@@ -66,7 +68,9 @@ fn link_before<X>(
     before: Option<usize>,
     after: Option<usize>,
 )
-    ensures right { (ys : List (ℕ × X)) (b0 b1 : Option ℕ) → after ≡ first_of ys None → Linked nodes.old b0 ys None → AreDistinct ys → ends.old.back ≡ last_from b1 ys → Linked nodes.new before ys None × (ends.new.back ≡ last_from before ys) }
+    ensures right { (ys : List (ℕ × X)) (b0 b1 : Option ℕ) → after ≡ first_of ys None → Linked nodes.old b0 ys None
+        → AreDistinct ys → ends.old.back ≡ last_from b1 ys
+        → Linked nodes.new before ys None × (ends.new.back ≡ last_from before ys) }
     ensures others { (k : ℕ) → after ≢ Some k → get nodes.new k ≡ get nodes.old k }
     ensures front { ends.new.front ≡ ends.old.front }
     ensures kept { Keeps nodes.old nodes.new }
@@ -79,7 +83,8 @@ fn link_before<X>(
 
 // Makes the nodes before and after a gap neighbours. None stands for an end of the list.
 fn link<X>(nodes: &mut Slab<Node<X>>, ends: &mut Ends, before: Option<usize>, after: Option<usize>)
-    ensures chain { (xs ys : List (ℕ × X)) → IsGap nodes.old ends.old before after xs ys → IsChain nodes.new ends.new (xs ++ ys) }
+    ensures chain { (xs ys : List (ℕ × X)) → IsGap nodes.old ends.old before after xs ys
+        → IsChain nodes.new ends.new (xs ++ ys) }
     ensures kept { Keeps nodes.old nodes.new }
 {
     link_after(nodes, ends, before, after);
@@ -100,7 +105,8 @@ pub(crate) fn replace_value<X>(nodes: &mut Slab<Node<X>>, key: usize, value: X) 
 
 /// Takes the node of a key out of the list, and leaves it in the slab.
 pub(crate) fn unlink<X>(nodes: &mut Slab<Node<X>>, ends: &mut Ends, key: usize)
-    ensures chain { (xs ys : List (ℕ × X)) (x : X) → IsChain nodes.old ends.old (xs ++ (key, x) ∷ ys) → IsChain nodes.new ends.new (xs ++ ys) }
+    ensures chain { (xs ys : List (ℕ × X)) (x : X) → IsChain nodes.old ends.old (xs ++ (key, x) ∷ ys)
+        → IsChain nodes.new ends.new (xs ++ ys) }
     ensures kept { Keeps nodes.old nodes.new }
 {
     if let Some(node) = nodes.get(key) {
@@ -111,7 +117,8 @@ pub(crate) fn unlink<X>(nodes: &mut Slab<Node<X>>, ends: &mut Ends, key: usize)
 
 /// Puts a node that stands in the slab, and not in the list, before all others.
 pub(crate) fn lead<X>(nodes: &mut Slab<Node<X>>, ends: &mut Ends, key: usize)
-    ensures chain { (cells : List (ℕ × X)) (x : X) → IsChain nodes.old ends.old cells → Lacks key cells → stored nodes.old key ≡ Some x → IsChain nodes.new ends.new ((key, x) ∷ cells) }
+    ensures chain { (cells : List (ℕ × X)) (x : X) → IsChain nodes.old ends.old cells → Lacks key cells
+        → stored nodes.old key ≡ Some x → IsChain nodes.new ends.new ((key, x) ∷ cells) }
     ensures kept { Keeps nodes.old nodes.new }
 {
     let first = ends.front;

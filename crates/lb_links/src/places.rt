@@ -63,7 +63,8 @@ impl Places {
     pub(crate) fn insert(&mut self, id: u32, key: usize)
         requires room { 0 < self.old.spare }
         requires new { value_of id self.old.items ≡ None }
-        ensures keys { (other : ℕ) → value_of other self.new.items ≡ (if id == other then Some key else value_of other self.old.items) }
+        ensures keys { (other : ℕ) → value_of other self.new.items
+            ≡ (if id == other then Some key else value_of other self.old.items) }
         ensures spare { self.new.spare ≡ self.old.spare - 1 }
     {
         match search(&self.pairs, id) {
@@ -78,7 +79,8 @@ impl Places {
     // Takes an id out, and answers its key.
     pub(crate) fn remove(&mut self, id: u32) -> Option<usize>
         ensures found { result ≡ value_of id self.old.items }
-        ensures keys { (other : ℕ) → value_of other self.new.items ≡ (if id == other then None else value_of other self.old.items) }
+        ensures keys { (other : ℕ) → value_of other self.new.items
+            ≡ (if id == other then None else value_of other self.old.items) }
         ensures spare { self.new.spare ≡ (if is_some result then self.old.spare + 1 else self.old.spare) }
         ensures fits { self.new.spare < 2 ^ 63 }
     {

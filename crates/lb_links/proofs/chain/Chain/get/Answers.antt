@@ -4,11 +4,14 @@ use Rattle.lb_links.proofs.Held.{held_items, found_at, contains_found, found_val
 use Rattle.lb_links.proofs.chain.Chain.get.Goals as goal
 
 pub index-requires : goal.index-requires
-index-requires g c = contains_found _ _ _ _ (found_at c.self.inside.nodes c.self.inside.ends c.args.key c.args.self.now.items c.self.invariant (ap (λ v. v.items) c.self.view_is) c.requires)
+index-requires g c = contains_found _ _ _ _
+    (found_at c.self.inside.nodes c.self.inside.ends c.args.key c.args.self.now.items c.self.invariant
+    (ap (λ v. v.items) c.self.view_is) c.requires)
 
 pub returns-clause-value : goal.returns-clause-value
 returns-clause-value g c =
-    let found = found_at c.self.inside.nodes c.self.inside.ends c.args.key c.args.self.now.items c.self.invariant (ap (λ v. v.items) c.self.view_is) c.requires in
+    let found = found_at c.self.inside.nodes c.self.inside.ends c.args.key c.args.self.now.items c.self.invariant
+    (ap (λ v. v.items) c.self.view_is) c.requires in
     found_value _ _ _ _ c.index.result.now found c.index.ensures
 
 pub returns-clause-distinct : goal.returns-clause-distinct

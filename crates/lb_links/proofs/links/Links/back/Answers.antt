@@ -5,16 +5,19 @@ use Rattle.lb_links.proofs.links.Links.back.Goals as goal
 
 pub returns-in_err-key-clause-value : goal.returns-in_err-key-clause-value
 returns-in_err-key-clause-value g c =
-    c.from_residual.ensures ∙ sym (last_none c.self.inside.chain.items (sym c.in_err-key.ensures.value)) ∙ ap (λ v. last_id v.items) c.self.view_is
+    c.from_residual.ensures ∙ sym (last_none c.self.inside.chain.items (sym c.in_err-key.ensures.value))
+    ∙ ap (λ v. last_id v.items) c.self.view_is
 
 pub get-requires : goal.get-requires
 get-requires g c =
-    let last = last_found c.in_ok-key.key c.self.inside.chain.items c.in_ok-key.ensures.distinct (sym c.in_ok-key.ensures.value) in
+    let last = last_found c.in_ok-key.key c.self.inside.chain.items c.in_ok-key.ensures.distinct
+    (sym c.in_ok-key.ensures.value) in
     rw last.found refl
 
 pub returns-clause-value : goal.returns-clause-value
 returns-clause-value g c =
-    let last = last_found c.in_ok-key.key c.self.inside.chain.items c.in_ok-key.ensures.distinct (sym c.in_ok-key.ensures.value) in
+    let last = last_found c.in_ok-key.key c.self.inside.chain.items c.in_ok-key.ensures.distinct
+    (sym c.in_ok-key.ensures.value) in
     let same : Some c.get.result.now ≡ Some last.entry = sym c.get.ensures.value ∙ last.found in
     let is : c.get.result.now ≡ last.entry = cc in
     ap (λ e. Some e.0) is ∙ sym last.name ∙ ap (λ v. last_id v.items) c.self.view_is
