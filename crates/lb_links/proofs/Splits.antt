@@ -7,6 +7,9 @@ pub some_is : {X : Type 0} (o : Option X) → IsSome o → (x : X) × (o ≡ Som
 some_is None h = absurd (false≢true h)
 some_is (Some x) h = (x, refl)
 
+pub there_is : {X : Type 0} (o : Option X) (x : X) → o ≡ Some x → IsSome o
+there_is o x e = rw e refl
+
 pub not_none : {X : Type 0} (o : Option X) → IsSome o → o ≡ None → ⊥
 not_none None h e = false≢true h
 not_none (Some x) h e = let z : ⊥ = cc in z

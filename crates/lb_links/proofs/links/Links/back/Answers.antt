@@ -1,5 +1,6 @@
-use Rattle.std.proofs.Common.{◌≡◌, ◌∙◌, ap, sym, Some, refl}
+use Rattle.std.proofs.Common.{◌≡◌, ◌∙◌, ap, sym, Some}
 use Rattle.lb_links.specs.Lists.{last_id}
+use Rattle.lb_links.proofs.Splits.{there_is}
 use Rattle.lb_links.proofs.Named.{last_none, last_found}
 use Rattle.lb_links.proofs.links.Links.back.Goals as goal
 
@@ -12,7 +13,7 @@ pub get-requires : goal.get-requires
 get-requires g c =
     let last = last_found c.in_ok-key.key c.self.inside.chain.items c.in_ok-key.ensures.distinct
     (sym c.in_ok-key.ensures.value) in
-    rw last.found refl
+    there_is _ _ last.found
 
 pub returns-clause-value : goal.returns-clause-value
 returns-clause-value g c =

@@ -1,7 +1,7 @@
-use Rattle.std.proofs.Common.{◌≡◌, ◌∙◌, ap, sym, Some, refl}
+use Rattle.std.proofs.Common.{◌≡◌, ◌∙◌, ap, sym, Some}
 use Rattle.lb_links.specs.Lists.{id_before}
 use Rattle.lb_links.specs.Inside.{named}
-use Rattle.lb_links.proofs.Splits.{before_lacking, lacking_where_none}
+use Rattle.lb_links.proofs.Splits.{there_is, before_lacking, lacking_where_none}
 use Rattle.lb_links.proofs.Named.{placed, key_there, no_value, last_before, found_before, none_before, name_before}
 use Rattle.lb_links.proofs.links.Links.before.Goals as goal
 
@@ -28,7 +28,7 @@ get-requires g c =
     let p = placed c.args.id c.in_ok-key.key c.self.inside.chain.items c.in_ok-key-2.ensures.distinct
     c.self.invariant.distinct (sym (c.self.invariant.found c.args.id) ∙ sym c.in_ok-key.ensures) in
     let last = last_before _ _ _ p c.in_ok-key-2.key (sym c.in_ok-key-2.ensures.value) in
-    rw (found_before _ _ _ p c.in_ok-key-2.key last) refl
+    there_is _ _ (found_before _ _ _ p c.in_ok-key-2.key last)
 
 pub returns-clause-value : goal.returns-clause-value
 returns-clause-value g c =
