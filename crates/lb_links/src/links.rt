@@ -15,6 +15,8 @@ use std::marker::Model;
 pub struct Links<T> {
     chain: Chain<(u32, T)>,
     places: Places,
+    // Both have room for so many more. It is counted, and not read off that room: where one of the two
+    // got room and the other was refused it, nothing is to have changed.
     spare: usize,
 }
 
