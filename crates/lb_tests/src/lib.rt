@@ -21,6 +21,8 @@ mod io;
 #[cfg(test)]
 mod levels;
 #[cfg(test)]
+mod links;
+#[cfg(test)]
 mod machines;
 #[cfg(test)]
 mod newidle;

@@ -1,0 +1,5 @@
+mod Splits
+mod Chained
+mod Held
+mod Rising
+mod Named
