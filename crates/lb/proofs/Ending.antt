@@ -1,4 +1,5 @@
 -- A work ends on its input in one way.
+-- For `finish`.
 use Rattle.std.proofs.Common.{◌≡◌, ℕ, List, Option, [], Some, None, sym, ◌∙◌, ap, subst, inl, inr}
 use native.Mathlib.Omega.{arith}
 use Rattle.std.specs.Prelude.{IfSome}
@@ -24,7 +25,8 @@ some_input : (before : Option (List ℕ)) (input : List ℕ) (P : List ℕ → T
 some_input None input P is h = absurd (cc)
 some_input (Some bytes) input P is h = let same : bytes ≡ input = cc in subst P same h
 
-pub of_input : (work : Work) (source : Stream) (input : List ℕ) (P : List ℕ → Type 0) → IsInput work source input → OfInput work source P → P input
+pub of_input : (work : Work) (source : Stream) (input : List ℕ) (P : List ℕ → Type 0) → IsInput work source input
+    → OfInput work source P → P input
 of_input Step source input P is h = some_input source.before input P is h
 of_input Run source input P is h = some_input source.before input P is h
 of_input Topo source input P is h = some_input source.before input P is h
@@ -37,7 +39,8 @@ some_each : (before : Option (List ℕ)) (P Q : List ℕ → Type 0) → ((i : L
 some_each None P Q f h = tt
 some_each (Some bytes) P Q f h = f bytes h
 
-pub of_each : (work : Work) (source : Stream) (P Q : List ℕ → Type 0) → ((i : List ℕ) → P i → Q i) → OfInput work source P → OfInput work source Q
+pub of_each : (work : Work) (source : Stream) (P Q : List ℕ → Type 0) → ((i : List ℕ) → P i → Q i)
+    → OfInput work source P → OfInput work source Q
 of_each Step source P Q f h = some_each source.before P Q f h
 of_each Run source P Q f h = some_each source.before P Q f h
 of_each Topo source P Q f h = some_each source.before P Q f h

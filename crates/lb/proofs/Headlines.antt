@@ -1,5 +1,6 @@
 -- Where the work of `step` is done, what was written is the text of the trace's one serial history, and where
 -- that of `run` is, the text of a history of the trace.
+-- For `once`, `run` and `top`.
 use Rattle.std.proofs.Common.{◌≡◌, ℕ, List, Option, Some, None, Ok, sym, ◌∙◌, subst}
 use Rattle.std.specs.Prelude.{IfSome}
 use Rattle.lb_core.specs.declared.history.History.{History}

@@ -1,5 +1,6 @@
 -- What was made before anything was written, what was written of it and what the report tells give the clauses
 -- `answers` and `completes`.
+-- For `finish`.
 use Rattle.std.proofs.Common.{◌≡◌, ℕ, List, Option, Some, refl, sym, ◌∙◌, subst, inl, inr}
 use Rattle.lb_words.specs.declared.work.Work.{Work}
 use Rattle.lb.specs.declared.status.Status.{Status}

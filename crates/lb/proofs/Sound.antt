@@ -1,4 +1,5 @@
 -- What holds of each history of a trace that was read.
+-- For the law `histories_are_sound`.
 use Rattle.std.proofs.Common.{◌≡◌, ℕ, zero, suc, true, List, [], ◌∷◌, take, Ok, sym, subst}
 use Rattle.lb_core.specs.declared.entry.Entry.{Entry}
 use Rattle.lb_core.specs.Machine.{MachineState, start}

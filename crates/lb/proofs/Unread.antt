@@ -1,4 +1,5 @@
--- Where the source of a work could not be read.
+-- Where no input of a work could be had, since it is too long or its source fails: what the status then is.
+-- For `input_of`.
 use Rattle.std.proofs.Common.{◌≡◌, ℕ, ◌<◌, true, false, List, length, Result, Ok, Err, refl, sym, ap, subst, inl, leb}
 use Rattle.std.specs.Prelude.{IfSome, IfErr}
 use Rattle.std.specs.Result.{IsErrAnd}
@@ -22,7 +23,8 @@ long_trace : (text : List ℕ) → MAX_BYTES < length text → reading_of text �
 unfolding reading_of
 long_trace text long = let no : leb (length text) MAX_BYTES ≡ false = lt-leb (length text) MAX_BYTES long in rw no refl
 
-too_long : (work : Work) (input : List ℕ) → reads work ≡ true → limit work < length input → IsStatusOf work input (status.Refused 0 TooLong)
+too_long : (work : Work) (input : List ℕ) → reads work ≡ true → limit work < length input
+    → IsStatusOf work input (status.Refused 0 TooLong)
 too_long Step input read long = sym (ap status_of_reading (long_trace input long))
 too_long Run input read long = sym (ap status_of_reading (long_trace input long))
 too_long Topo input read long = sym (ap status_of_reading (long_trace input long))
@@ -31,7 +33,8 @@ too_long (Gen number rows) input read long = absurd (cc)
 too_long (Sum number rows) input read long = absurd (cc)
 
 -- what holds of what the source told holds of the input of a work that reads it
-of_told : (work : Work) (source : Stream) (P : List ℕ → Type 0) → reads work ≡ true → IfSome source.before P → OfInput work source P
+of_told : (work : Work) (source : Stream) (P : List ℕ → Type 0) → reads work ≡ true → IfSome source.before P
+    → OfInput work source P
 of_told Step source P read h = h
 of_told Run source P read h = h
 of_told Topo source P read h = h
@@ -41,7 +44,8 @@ of_told (Sum number rows) source P read h = absurd (cc)
 
 -- ---- the status
 -- what holds of the status that an error is made into holds of the answer's error
-pub made_into : {T : Type 0} (r : Result T Status) (s : Status) (P : Status → Type 0) → IsErrAnd r (λ made. made ≡ s) → P s → IfErr r P
+pub made_into : {T : Type 0} (r : Result T Status) (s : Status) (P : Status → Type 0) → IsErrAnd r (λ made. made ≡ s)
+    → P s → IfErr r P
 made_into (Ok v) s P h p = tt
 made_into (Err made) s P h p = subst P (sym h) p
 

@@ -1,4 +1,5 @@
 -- The status of the program where a call below it fails.
+-- Cited by the conversions of errors (`From`) into `Status`.
 use Rattle.lb_io.specs.declared.whole.ReadError.{ReadError}
 use Rattle.lb_io.specs.declared.whole.ReadError.TheVariants as read_errors
 use Rattle.lb_trace.specs.declared.trace.Code.TheVariants.{TooLong, BadLine}

@@ -2,6 +2,7 @@
 -- each lane's rows with their replies; after each entry of it every task stands where it may, and each
 -- look of it takes exactly what the rules pick; and the bytes read as this history alone. For `step` it is
 -- the one serial history of the trace, for `run` the one that the lanes made.
+-- Cited by the law `histories_are_sound`, and `once`, `run` and `top`.
 use Rattle.std.specs.Prelude.{ℕ, ◌≡◌, true, List, ◌∷◌, ◌++◌, take, Ok, IfSome}
 use Rattle.std.specs.Io.KnownBytes.{IsAtEnd}
 use Rattle.lb_core.specs.declared.entry.Entry.{Entry}

@@ -1,6 +1,7 @@
 -- What a call of the program found and left: the work that it was to do, and of its source and its `out` sink the
 -- bytes that they hold, where they tell them, and their counts of faults, before and after the call. Clauses name
 -- the `err` sink beside it.
+-- Cited by the contracts of `once`, `input_of`, `run` and others.
 use Rattle.std.specs.Prelude.{◌≡◌, ℕ, List}
 use Rattle.std.specs.declared.option.Option.{Option}
 use Rattle.std.specs.Io.KnownBytes.{Appends}

@@ -1,6 +1,7 @@
 -- What each work does with its input: its status, where that could be read and there is memory, and what
 -- it writes where it is done. `step`, `run` and `topo` read a trace, `check` reads a history, and `gen` and
 -- `sum` read nothing.
+-- Cited by the contracts of `once`, `input_of`, `top` and others.
 use Rattle.std.specs.Prelude.{◌≡◌, ◌⊎◌, ℕ, ◌<◌, ◌≤◌, Bool, true, false, List, [], ◌∷◌, ◌++◌, length, codes, Result, Ok, Err, Option, Some, None, IfSome}
 use Rattle.std.specs.Io.KnownBytes.{IsAtEnd}
 use Rattle.std.specs.Fmt.{decimal}

@@ -1,5 +1,6 @@
 -- The opening queue of a CPU, as its tasks are declared one after the other; and what an accepted header
 -- says of each of them.
+-- For `opening_queue`.
 use Rattle.std.proofs.Common.{◌≡◌, ℕ, pos, negsuc, suc, ◌+◌, ◌<◌, ◌≤◌, ◌≤ℤ◌, ◌≢◌, Bool, true, false, cond, ◌==◌, eqb, List, [], ◌∷◌, ◌++◌, length, take, get_or, is_some, refl, ◌∙◌, ap, arith}
 use Rattle.std.proofs.Math.Seq.{take-suc}
 use Rattle.std.proofs.lemmas.Bool.{eq-eqb, ne_eqb, and_parts, not-true, ltb-true}

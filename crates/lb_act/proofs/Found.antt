@@ -1,4 +1,5 @@
--- How many counters a turn finds.
+-- A turn finds as many counters as its CPU has domains: those that are kept of the version, or fresh ones.
+-- For `open_turn`.
 use Rattle.std.proofs.Common.{ℕ, ◌≡◌, Option, Some, None, List, length, sym, inl, inr}
 use Rattle.std.proofs.lemmas.List.{length-map}
 use Rattle.std.proofs.lemmas.Bool.{cases_eq, eq-eqb, ne_eqb}

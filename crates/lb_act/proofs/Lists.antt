@@ -1,4 +1,5 @@
 -- One item more of a list, an item that it lacks, and how many tasks a pull sees.
+-- For `picks_of`, `views_of` and `counters_of`.
 use Rattle.std.proofs.Common.{ℕ, zero, suc, add-one, ◌≡◌, ◌+◌, List, [], ◌∷◌, ◌++◌, Some, None, slice_get, get_or, length, take, refl, sym, ◌∙◌, ap}
 use Rattle.std.proofs.lemmas.List.{length-map}
 use Rattle.lb_queue.specs.Queue.{QueueState, clock_at}

@@ -1,4 +1,5 @@
 -- The hand in which a lane has tasks, as its course tells of it.
+-- Cited by the contract of `arrive`; also by `lb_cell`, `lb_cpu` and other crates.
 use Rattle.std.specs.Prelude.{◌≡◌}
 use Rattle.lb_queue.specs.Hands.{HandState}
 use Rattle.lb_core.specs.declared.course.Course.{Course}

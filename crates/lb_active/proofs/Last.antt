@@ -20,7 +20,8 @@ one_more p o x xs = ap (λ a. option_or a o)
     (ap (find p) (reverse-append (x ∷ []) xs) ∙ find-append p (reverse xs) (x ∷ []))
     ∙ or_else (find p (reverse xs)) (cond (p x) (Some x) None) o
 
-last_from_back : {X : Type 0} (p : X → Bool) (o : Option X) (xs : List X) → last_or o (filter p xs) ≡ option_or (find p (reverse xs)) o
+last_from_back : {X : Type 0} (p : X → Bool) (o : Option X) (xs : List X) → last_or o (filter p xs) ≡ option_or
+    (find p (reverse xs)) o
 last_from_back p o [] = refl
 last_from_back p o (x ∷ xs) =
     elim (cases_Bool (p x)) [

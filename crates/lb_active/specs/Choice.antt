@@ -1,5 +1,6 @@
 -- The choices of stop requests and of active balance: when a failing turn asks the source to push,
 -- and which task the source pushes.
+-- Cited by the contracts of `wants_active` and `active_pick`; also by `lb_core`, `lb_due` and `lb_queue`.
 use Rattle.std.specs.Prelude.{ℕ, ◌+◌, nat_lt, Bool, false, Option, None, option_map, List, filter}
 use Rattle.std.specs.List.{last_or}
 use Rattle.lb_base.specs.declared.shape.Kind.{Kind}

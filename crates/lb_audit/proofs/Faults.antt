@@ -1,5 +1,6 @@
 -- What the verdict by steps says: legal exactly of the legal histories whose tickets are their places, and a
 -- place and a rule exactly where they are the first fault. So each law of verdicts.
+-- For the law `verdicts_are_exact`.
 use Rattle.std.proofs.Common.{◌≡◌, ℕ, ◌+◌, ◌==◌, Bool, true, false, if◌then◌else◌, Option, Some, None, List, [], ◌∷◌, ◌++◌, length, refl, sym, ◌∙◌, ap, subst, arith}
 use Rattle.std.proofs.lemmas.Bool.{eqb-true, eq-eqb}
 use Rattle.lb_core.specs.declared.entry.Entry.{Entry}

@@ -1,4 +1,5 @@
 -- The last entry of a legal history is the end.
+-- For the law `end_is_last`.
 use Rattle.std.proofs.Common.{◌≡◌, Bool, true, false, List, [], ◌∷◌, refl, ap, inl, inr}
 use Rattle.std.proofs.lemmas.Bool.{cases_Bool}
 use Rattle.lb_core.specs.declared.entry.Entry.{Entry}
@@ -14,7 +15,8 @@ ended_by : (w : What) (ended : Bool) → ended_after w ended ≡ true → ended 
 ended_by (End unserved) ended h k = tt
 ended_by w ended h k = clash ended h k
 
-ends : (entries : List Entry) (m : MachineState) → m.ended ≡ false → MayFollow entries m → (run entries m).ended ≡ true → EndsWithEnd entries
+ends : (entries : List Entry) (m : MachineState) → m.ended ≡ false → MayFollow entries m → (run entries m).ended ≡ true
+    → EndsWithEnd entries
 unfolding after
 ends [] m live may over = clash m.ended over live
 ends (e ∷ entries) m live may over =

@@ -1,5 +1,6 @@
 -- The verdict by steps: what is found at the first place, or else what is found from the next one on. It is
 -- the first of what is found of tickets and of entries.
+-- For `check`.
 use Rattle.std.proofs.Common.{◌≡◌, ℕ, ◌+◌, ◌==◌, ◌≤◌, ◌<◌, Bool, true, false, if◌then◌else◌, Option, Some, None, List, [], ◌∷◌, refl, ◌∙◌, ap, arith}
 use Rattle.std.proofs.lemmas.Bool.{lt-ltb, le-ltb}
 use Rattle.lb_core.specs.declared.entry.Entry.{Entry}

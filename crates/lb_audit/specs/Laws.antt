@@ -1,4 +1,5 @@
 -- Laws of verdicts: what a text reads as may be judged, and each verdict is the one that its history deserves.
+-- Cited by the laws `texts_may_be_judged`, `verdicts_are_exact` and `end_is_last`.
 use Rattle.std.specs.Prelude.{◌≡◌, ℕ, ◌↔◌, true, List, [], ◌∷◌, ◌++◌}
 use Rattle.std.specs.List.{list_all}
 use Rattle.lb_trace.specs.Accepted.{IsHeader}

@@ -1,6 +1,7 @@
 -- What it says that a history which was read from a text is legal, and what its first fault is: by its
 -- entries, their places from 1, and the tickets that are written on them. And the verdict, as it is computed:
 -- the first wrong ticket or the first fault of the entries, whichever comes first.
+-- Cited by the contracts of `check` and `judge`; also by `lb`.
 use Rattle.std.specs.Prelude.{◌≡◌, ℕ, ◌+◌, ◌==◌, nat_lt, false, if◌then◌else◌, Option, Some, None, List, [], ◌∷◌, ◌++◌, map, length}
 use Rattle.lb_core.specs.declared.entry.Entry.{Entry}
 use Rattle.lb_core.specs.declared.history.History.{History}

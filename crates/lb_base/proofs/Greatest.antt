@@ -1,6 +1,7 @@
 -- The first of the greatest, for whoever tries candidates one after the other: one more candidate is
 -- passed over, is the first, stays below or takes the place; there is one answer, and it is the one
 -- that the definition finds.
+-- For the law `first_of_the_greatest`; cited by `lb_busiest` too.
 use Rattle.std.proofs.Common.{◌≡◌, ℕ, zero, suc, ◌+◌, ◌<◌, Bool, true, false, not, ◌||◌, Option, Some, None, refl, sym, ap, subst, arith, below_more, inl, inr, add-one}
 use Rattle.std.proofs.lemmas.Bool.{cases_Bool, cases_order, both_ways, and_parts, and_from, false_from_ne_true, not-true}
 use Rattle.lb_base.specs.Greatest.{IsFirstGreatest, NonePasses, Picks, IsRanking, is_first_greatest, first_greatest}
@@ -11,7 +12,8 @@ use Rattle.lb_base.proofs.Ranges.{find_none, find_least, all_at, all_of}
 level : (above : ℕ → ℕ → Bool) (n : ℕ) → IsRanking above → above n n ≡ false
 level above n order = elim (cases_Bool (above n n)) [ inl t ↦ order.one_way n n t | inr f ↦ f ]
 
-pub Picks-skips : (p : ℕ → Bool) (above : ℕ → ℕ → Bool) (n : ℕ) (o : Option ℕ) → Picks p above n o → p n ≡ false → Picks p above (n + 1) o
+pub Picks-skips : (p : ℕ → Bool) (above : ℕ → ℕ → Bool) (n : ℕ) (o : Option ℕ) → Picks p above n o → p n ≡ false
+    → Picks p above (n + 1) o
 Picks-skips p above n None none fails = below_more _ _ none fails
 Picks-skips p above n (Some b) h fails = record {
   within = omega (arith, h.within);
@@ -79,13 +81,15 @@ asked false q h passes = absurd (both_ways false refl passes)
 not_false : (t : Bool) → t ≡ false → not t ≡ true
 not_false t e = ap not e
 
-pub greatest_passes : (p : ℕ → Bool) (above : ℕ → ℕ → Bool) (n b : ℕ) → IsFirstGreatest p above n b → is_first_greatest p above n b ≡ true
+pub greatest_passes : (p : ℕ → Bool) (above : ℕ → ℕ → Bool) (n b : ℕ) → IsFirstGreatest p above n b
+    → is_first_greatest p above n b ≡ true
 unfolding is_first_greatest
 greatest_passes p above n b at =
     and_from _ _ (and_from _ _ at.passes
     (all_of (λ k. not (p k) || not (above k b)) 0 n
     (λ k lo hi. spared (p k) (not (above k b)) (λ passes. not_false (above k b) (at.greatest k (omega (arith, hi)) passes)))))
-    (all_of (λ k. not (p k) || above b k) 0 b (λ k lo hi. spared (p k) (above b k) (λ passes. at.first k (omega (arith, hi)) passes)))
+    (all_of (λ k. not (p k) || above b k) 0 b
+    (λ k lo hi. spared (p k) (above b k) (λ passes. at.first k (omega (arith, hi)) passes)))
 
 pub passes_greatest : (p : ℕ → Bool) (above : ℕ → ℕ → Bool) (n b : ℕ) → b < n → is_first_greatest p above n b ≡ true
     → IsFirstGreatest p above n b
@@ -134,15 +138,18 @@ found p above n None none =
 found p above n (Some b) at =
     find_least (is_first_greatest p above n) 0 n b (omega arith) (omega (arith, at.within)) (greatest_passes p above n b at)
     (λ k lo hi. false_from_ne_true _ (λ test.
-    let same : k ≡ b = IsFirstGreatest-unique p above n k b (passes_greatest p above n k (omega (arith, hi, at.within)) test) at in
+    let same : k ≡ b = IsFirstGreatest-unique p above n k b
+    (passes_greatest p above n k (omega (arith, hi, at.within)) test) at in
     absurd (omega (arith, same, hi))))
 
 -- the search finds what is meant
-pub first_greatest_picks : (p : ℕ → Bool) (above : ℕ → ℕ → Bool) (n : ℕ) → IsRanking above → Picks p above n (first_greatest p above n)
+pub first_greatest_picks : (p : ℕ → Bool) (above : ℕ → ℕ → Bool) (n : ℕ) → IsRanking above
+    → Picks p above n (first_greatest p above n)
 first_greatest_picks p above n order =
     let some = some_greatest p above order n in
     subst (λ (o : Option ℕ). Picks p above n o) (sym (found p above n some.0 some.1)) some.1
 
 -- and whatever is meant, it finds
-pub picks_first_greatest : (p : ℕ → Bool) (above : ℕ → ℕ → Bool) (n : ℕ) (o : Option ℕ) → Picks p above n o → o ≡ first_greatest p above n
+pub picks_first_greatest : (p : ℕ → Bool) (above : ℕ → ℕ → Bool) (n : ℕ) (o : Option ℕ) → Picks p above n o
+    → o ≡ first_greatest p above n
 picks_first_greatest p above n o at = sym (found p above n o at)

@@ -1,5 +1,7 @@
 -- The numbers of a range, for whoever loops, searches or tests over one: the range by one number
 -- more, the first that passes a test, and whether all or some pass.
+-- For the lemmas of `Greatest`, `Members` and `Sets`, and so for the laws `first_of_the_greatest` and
+-- `mask_of_a_test`; cited by `lb_detach`, `lb_domain` and other crates too.
 use Rattle.std.proofs.Common.{◌≡◌, ℕ, zero, suc, ◌+◌, ◌<◌, ◌≤◌, eqb, ltb, Bool, true, false, ◌&&◌, ◌||◌, List, [], ◌∷◌, ◌++◌, map, Some, None, refl, sym, ◌∙◌, ap, arith, inl, inr, add-one}
 use Rattle.std.specs.Prelude.{find, filter}
 use Rattle.std.specs.List.{range_with_len, list_all, list_any}
@@ -20,7 +22,8 @@ range_more a (suc n) =
 from_zero : (n : ℕ) → range_with_len 0 (n + 1) ≡ range_with_len 0 n ++ n ∷ []
 from_zero n = range_more 0 n ∙ ap (λ (x : ℕ). range_with_len 0 n ++ x ∷ []) (let z : 0 + n ≡ n = omega arith in z)
 
-pub filter_more : (p : ℕ → Bool) (n : ℕ) → p n ≡ true → filter p (range_with_len 0 (n + 1)) ≡ filter p (range_with_len 0 n) ++ n ∷ []
+pub filter_more : (p : ℕ → Bool) (n : ℕ) → p n ≡ true → filter p (range_with_len 0 (n + 1)) ≡ filter p
+    (range_with_len 0 n) ++ n ∷ []
 filter_more p n passes = ap (filter p) (from_zero n) ∙ filter-append p (range_with_len 0 n) (n ∷ []) ∙ rw passes refl
 
 pub filter_same : (p : ℕ → Bool) (n : ℕ) → p n ≡ false → filter p (range_with_len 0 (n + 1)) ≡ filter p (range_with_len 0 n)
@@ -69,7 +72,8 @@ find_least p a (suc n) c from within passes least =
     elim (cases_eq a c) [
       | inl same ↦ rw (ap p same ∙ passes) (ap Some same)
       | inr other ↦ rw (least a (omega arith) (omega (arith, from, other)))
-          (find_least p (a + 1) n c (omega (arith, from, other)) (omega (arith, within)) passes (λ k lo hi. least k (omega (arith, lo)) hi))
+          (find_least p (a + 1) n c (omega (arith, from, other)) (omega (arith, within)) passes
+          (λ k lo hi. least k (omega (arith, lo)) hi))
     ]
 
 pub all_at : (p : ℕ → Bool) (a n : ℕ) → list_all p (range_with_len a n) ≡ true → (k : ℕ) → a ≤ k → k < a + n → p k ≡ true

@@ -1,5 +1,7 @@
 -- What can be asked of masks, for whoever asks it of a body or a definition: the mask of a test, the
 -- least CPU, a test of all CPUs of a mask, and masks that are below a number or apart.
+-- For the law `mask_of_a_test`, and `Mask::first` and `Mask::next_after`; cited by `lb_domain`, `lb_due` and other
+-- crates too.
 use Rattle.std.proofs.Common.{◌≡◌, ℕ, zero, suc, ◌+◌, ◌-◌, ◌*◌, ◌^◌, ◌<◌, ◌≤◌, nat_lt, eqb, ltb, Bool, true, false, ◌&&◌, not, Option, Some, None, refl, sym, ◌∙◌, ap, subst, arith, inl, inr, add-one}
 use Rattle.std.specs.Prelude.{if◌then◌else◌, sum_by, filter, MatchOption, is_some}
 use Rattle.std.specs.Int.{bit_at}
@@ -72,7 +74,11 @@ taken_in p n s passes h = record {
 
 all_stand : (p : ℕ → Bool) (n : ℕ) → Stands p n (bits_below p n)
 unfolding bits_below
-all_stand p zero = record { small = omega arith; bits = λ k. ap (λ (x : ℕ). eqb x 1) (bit_at-zero k) ∙ rw (le-ltb k 0 (omega arith)) refl }
+all_stand p zero = record {
+  small = omega arith;
+  bits = λ k. ap (λ (x : ℕ). eqb x 1) (bit_at-zero k) ∙ rw
+      (le-ltb k 0 (omega arith)) refl;
+}
 all_stand p (suc n) =
     let before = all_stand p n in
     let here : Stands p (n + 1) (bits_below p n + (if p n then 2 ^ n else 0)) = elim (cases_Bool (p n)) [
@@ -88,7 +94,8 @@ unfolding has mask_where bits_below
 mask_where_has p k = (all_stand p 64).bits k
 
 -- a test that only numbers below n pass, n being at most 64
-pub same_where : (m : Mask) (n : ℕ) (p : ℕ → Bool) → n ≤ 64 → ((k : ℕ) → has m k ≡ (ltb k n && p k)) → m ≡ mask_where (λ k. ltb k n && p k)
+pub same_where : (m : Mask) (n : ℕ) (p : ℕ → Bool) → n ≤ 64 → ((k : ℕ) → has m k ≡ (ltb k n && p k))
+    → m ≡ mask_where (λ k. ltb k n && p k)
 same_where m n p few is =
     same_mask m (mask_where (λ k. ltb k n && p k)) (λ k. is k ∙ sym (mask_where_has (λ k. ltb k n && p k) k ∙ inside k))
   where

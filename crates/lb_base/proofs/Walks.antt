@@ -1,5 +1,6 @@
 -- A walk over the CPUs of a mask, from the first one to the next one above, for whoever loops so: how
 -- far it has come, and which CPUs it has passed.
+-- For `lb_busiest`, `lb_domain` and other crates.
 use Rattle.std.proofs.Common.{◌≡◌, ℕ, ◌+◌, ◌-◌, ◌<◌, ◌≤◌, true, [], ◌∷◌, ◌++◌, Option, Some, None, MatchOption, sym, ◌∙◌, ap, arith}
 use Rattle.lb_base.specs.declared.mask.Mask.{Mask}
 use Rattle.lb_base.specs.declared.mask.TheConstants.{MAX_CPUS}
@@ -48,5 +49,6 @@ passes_none m n (Some c) room found =
 pub walk_starts : (m : Mask) (o : Option ℕ) → Finds m 0 o → members_below m (passed o) ≡ []
 walk_starts m o found = passes_none m 0 o (omega arith) found ∙ members_below_none m
 
-pub walk_steps : (m : Mask) (c : ℕ) (o : Option ℕ) → IsAt m c → Finds m (c + 1) o → members_below m (passed o) ≡ members_below m c ++ c ∷ []
+pub walk_steps : (m : Mask) (c : ℕ) (o : Option ℕ) → IsAt m c → Finds m (c + 1) o
+    → members_below m (passed o) ≡ members_below m c ++ c ∷ []
 walk_steps m c o at found = passes_none m (c + 1) o (omega (arith, at.in_range)) found ∙ members_below_yes m c at.there

@@ -1,5 +1,6 @@
 -- The figures of the CPUs of a mask: the figure of one CPU, whether it is tickless, and the total of
 -- a number over all of them.
+-- Cited by `lb_busiest`, `lb_core` and other crates.
 use Rattle.std.specs.Prelude.{ℕ, ◌≡◌, ◌<◌, ◌==◌, Bool, true, List, length, sum_by}
 use Rattle.std.specs.Int.{bit_at}
 use Rattle.std.specs.List.{slice_index_or}

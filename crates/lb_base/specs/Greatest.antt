@@ -1,5 +1,6 @@
 -- The first of the greatest among numbered candidates that are tried in rising order: what "the
 -- busiest group" and "the source queue" are. `p` says who is a candidate, `above` who is greater.
+-- Cited by the law `first_of_the_greatest`; also by `lb_busiest`, `lb_journal_rows` and other crates.
 use Rattle.std.specs.Prelude.{◌≡◌, ℕ, ◌<◌, Bool, true, false, not, ◌&&◌, ◌||◌, Option, MatchOption, find}
 use Rattle.std.specs.List.{range_with_len, list_all}
 

@@ -1,5 +1,7 @@
 -- A mask as a set of CPUs: whether it has a CPU, the list of its CPUs in rising order, and the set
 -- operations on masks.
+-- Cited by the law `mask_of_a_test`, and `Mask::none`, `Mask::all` and others; also by `lb_active`, `lb_busiest` and
+-- other crates.
 use Rattle.std.specs.Prelude.{bit_and, bit_or, ◌-◌, ◌^◌, ◌≡◌, ℕ, ◌<◌, ◌≤◌, ◌==◌, Bool, true, false, List, filter}
 use Rattle.std.specs.Int.{bit_at}
 use Rattle.std.specs.List.{range_with_len}

@@ -1,4 +1,5 @@
 -- A list and how many more items there is room for.
+-- What contracts see of the type `Buffer`; cited by `lb_engine`.
 use Rattle.std.specs.Prelude.{ℕ, List, refl}
 use Rattle.std.specs.Coded.{Coded, code_by, coded×, coded_list, coded_ℕ}
 

@@ -1,5 +1,7 @@
 -- Questions about sets of CPUs that can be computed: the least CPU, emptiness, masks without a CPU
 -- in common, and the mask of the CPUs that pass a test.
+-- Cited by the law `mask_of_a_test`, and `Mask::first` and `Mask::next_after`; also by `lb_act`, `lb_active` and
+-- other crates.
 use Rattle.std.specs.Prelude.{ℕ, ◌^◌, nat_lt, Bool, true, not, ◌&&◌, if◌then◌else◌, Option, is_none, List, [], ◌∷◌, find, sum_by}
 use Rattle.std.specs.List.{range_with_len, list_all}
 use Rattle.lb_base.specs.declared.mask.Mask.{Mask}

@@ -1,4 +1,5 @@
 -- The load weights of the nice values, as one table.
+-- Cited by the contract of `weight_of_nice`; also by `lb_journal_rows`, `lb_queue` and other crates.
 use Rattle.std.specs.Prelude.{ℕ, ℤ, pos, ◌+ℤ◌, unsigned_abs, List, [], ◌∷◌, slice_index}
 
 -- the weights of nice -20 to 19

@@ -1,4 +1,5 @@
 -- What a sight is after one of its holders has looked; a writer's cell; a figure more.
+-- For `gather`, `Reader::told`, `Reader::read` and others.
 use Rattle.std.proofs.Common.{◌≡◌, ℕ, zero, suc, ◌+◌, ◌<◌, ◌≤◌, List, [], ◌∷◌, ◌++◌, length, map, take, drop, set, get_or, slice_get, Some, refl, sym, subst, ◌∙◌, ap, arith, length-append}
 use Rattle.std.proofs.lemmas.List.{get_or-map, map-set, get_or-set_same, length-map, append-nil, take_all}
 use Rattle.std.proofs.Math.Seq.{map-set_same}

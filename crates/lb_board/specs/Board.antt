@@ -1,5 +1,7 @@
 -- What contracts see of a board, of a writer and of a reader: which figures were published, and which of them were
 -- seen. A figure's number is its place among those of its CPU, from 0 for the opening one.
+-- Cited by the contracts of `Board::new`, `look`, `look_told` and others; also by `lb_cell`, `lb_cpu` and other
+-- crates.
 use Rattle.std.specs.Prelude.{◌≡◌, ℕ, ◌+◌, ◌<◌, ◌≤◌, ◌^◌, true, List, [], ◌∷◌, ◌++◌, length, Some, slice_get, slice_set, map}
 use Rattle.std.specs.List.{slice_index_or}
 use mathlib.Core.List.{IsPrefix}

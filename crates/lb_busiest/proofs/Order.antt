@@ -96,7 +96,8 @@ pub more_ranking : (figs : List Fig) (kind : MoveKind) → IsRanking (has_more f
 unfolding has_more
 more_ranking figs kind = record {
   one_way = λ i j h. less_one_way (value_of kind (fig_at figs j)) (value_of kind (fig_at figs i)) h;
-  chain = λ i j k h g. less_chain (value_of kind (fig_at figs j)) (value_of kind (fig_at figs i)) (value_of kind (fig_at figs k)) h g;
+  chain = λ i j k h g. less_chain (value_of kind (fig_at figs j)) (value_of kind (fig_at figs i))
+      (value_of kind (fig_at figs k)) h g;
 }
 
 -- a CPU that a pull may take from has a figure

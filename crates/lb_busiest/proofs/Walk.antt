@@ -29,7 +29,8 @@ left_falls m c (Some d) room found = omega (arith, found.from, found.in_range)
 
 skips : (p : ℕ → Bool) (above : ℕ → ℕ → Bool) (n k : ℕ) (o : Option ℕ) → Picks p above n o
     → ((i : ℕ) → n ≤ i → i < n + k → p i ≡ false) → Picks p above (n + k) o
-skips p above n zero o so_far fails = let P : ℕ → Type 0 = λ x. Picks p above x o in let e : n ≡ n + zero = omega arith in subst P e so_far
+skips p above n zero o so_far fails = let P : ℕ → Type 0 = λ x. Picks p above x o in let e : n ≡ n + zero = omega arith
+    in subst P e so_far
 skips p above n (suc k) o so_far fails =
     let P : ℕ → Type 0 = λ x. Picks p above x o in
     let e : (n + k) + 1 ≡ n + suc k = omega arith in

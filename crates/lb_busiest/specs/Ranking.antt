@@ -1,6 +1,8 @@
 -- The busiest group: of the groups after the local one that have tasks, the first of those that no
 -- other is busier than. A group is the busier by its type, and within a type by its load, or by
 -- its idle CPUs and its tasks.
+-- Cited by the law `busiest_group`, and `busiest`, `is_candidate` and others; also by `lb_imbalance`,
+-- `lb_journal_rows` and other crates.
 use Rattle.std.specs.Prelude.{ℕ, ◌==◌, nat_lt, Bool, false, ◌&&◌, ◌||◌, Option, List, length}
 use Rattle.std.specs.List.{slice_index_or}
 use Rattle.lb_base.specs.declared.group.Stats.{Stats}

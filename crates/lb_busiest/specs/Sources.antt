@@ -1,6 +1,8 @@
 -- The source queue of a pull: of the CPUs of a group that have something to give, the least of
 -- those with the greatest value. What is compared, and who has something to give, go by what is to
 -- move.
+-- Cited by the law `source_queue`, and `source`, `with_cpu` and others; also by `lb_imbalance`, `lb_journal_rows` and
+-- other crates.
 use Rattle.std.specs.Prelude.{ℕ, ◌==◌, nat_lt, Bool, true, not, ◌&&◌, Option, List}
 use Rattle.lb_base.specs.declared.mask.Mask.{Mask}
 use Rattle.lb_base.specs.declared.mask.TheConstants.{MAX_CPUS}

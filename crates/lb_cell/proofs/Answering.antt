@@ -1,4 +1,5 @@
 -- The answer of a queue that knows the command's task may be drawn, and how the course goes on.
+-- For `Cell::answer`.
 use Rattle.std.proofs.Common.{ℕ, pos, ◌≡◌, Bool, true, false, not, ◌&&◌, ◌||◌, ltb, [], ◌∷◌, Option, Some, None, is_some, IfSome, length, refl, sym, subst, ap, ◌∙◌}
 use Rattle.lb_queue.specs.declared.answers.Reply.{Reply}
 use Rattle.lb_queue.specs.declared.answers.Reply.TheVariants.{NotHere}

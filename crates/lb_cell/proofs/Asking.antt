@@ -1,4 +1,5 @@
 -- The entries `ask` and `kick`, by which a lane asks something of a queue, may be drawn where they are due.
+-- For `Cell::kick` and `Cell::ask`.
 use Rattle.std.proofs.Common.{ℕ, ◌≡◌, true, false, not, ◌&&◌, Option, Some, is_some, refl, sym, subst, ap, ◌∙◌}
 use Rattle.lb_queue.specs.declared.answers.AskReply.{AskReply}
 use Rattle.lb_queue.specs.Requests.{ask_active, kick}

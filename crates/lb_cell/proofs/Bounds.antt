@@ -1,4 +1,5 @@
 -- The CPU of a turn, the position in work and the source of the last pull stay in range, whatever entry of a queue comes.
+-- For the lemmas of `Entering`, and so for `Before::enter` and `item_of`.
 use Rattle.std.proofs.Common.{ℕ, ◌≡◌, ◌+◌, ◌<◌, zero, suc, Bool, true, false, ◌&&◌, Option, Some, None, IfSome, find, length, if◌then◌else◌, arith, inl, inr}
 use Rattle.std.specs.Prelude.{nat_lt}
 use Rattle.std.specs.List.{range_with_len}

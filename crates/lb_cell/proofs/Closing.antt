@@ -1,4 +1,5 @@
 -- The close of a position that is done, and the end of a turn, may be drawn.
+-- For `Cell::over` and `Cell::close`.
 use Rattle.std.proofs.Common.{ℕ, ◌≡◌, true, false, not, ◌&&◌, refl, sym, subst, ap}
 use Rattle.lb_trace.specs.declared.trace.Header.{Header}
 use Rattle.lb_core.specs.declared.course.Course.{Course}

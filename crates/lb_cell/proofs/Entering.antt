@@ -1,4 +1,5 @@
 -- An entry of a queue that its lane may draw fits the queue's list, and what cell and lane keep stays.
+-- For `Before::enter` and `item_of`.
 use Rattle.std.proofs.Common.{ℕ, ◌≡◌, ◌+◌, ◌<◌, true, false, List, [], ◌∷◌, ◌++◌, Option, Some, None, slice_get, length, map, refl, sym, subst, ap, ◌∙◌, arith, All}
 use Rattle.std.proofs.lemmas.List.{length-append, length-map, length-set}
 use Rattle.std.proofs.lemmas.List.Elements.{All-map, All-push}

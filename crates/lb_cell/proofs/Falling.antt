@@ -1,4 +1,5 @@
 -- By a sleep or an exit fewer tasks are awake exactly where the command's task was awake.
+-- For the lemmas of `Answering`, and so for `Cell::answer`.
 use Rattle.std.proofs.Common.{ℕ, ◌≡◌, ◌<◌, ◌≤◌, Bool, true, false, not, ltb, ◌==◌, suc, List, [], ◌∷◌, Option, Some, None, is_some, length, filter, reverse, refl, sym, ap, ◌∙◌, arith, inl, inr}
 use Rattle.std.proofs.lemmas.Bool.{cases_Bool, lt-ltb}
 use Rattle.std.proofs.lemmas.List.{length-reverse}

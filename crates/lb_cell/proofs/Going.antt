@@ -1,5 +1,6 @@
 -- An entry of a queue leaves the numbers that its lane named, but for its own; and only one by which tasks leave a queue
 -- leaves its lane in flight.
+-- For the lemmas of `Entering`, and so for `Before::enter` and `item_of`.
 use Rattle.std.proofs.Common.{ℕ, ◌≡◌, Bool, true, false, ◌&&◌, Option, Some, None, length, if◌then◌else◌, refl, inl, inr}
 use Rattle.std.specs.Prelude.{nat_lt}
 use Rattle.std.proofs.lemmas.Bool.{cases_Bool}

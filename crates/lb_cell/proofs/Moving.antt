@@ -1,4 +1,5 @@
 -- The entries by which tasks leave a queue and land at another may be drawn, and are what their courses note.
+-- For `Cell::can_land`, `Cell::leave`, `Cell::land` and others.
 use Rattle.std.proofs.Common.{ℕ, ◌≡◌, ◌≤◌, ◌<◌, ◌||◌, Bool, true, false, not, ◌&&◌, Option, Some, None, is_some, List, [], ◌∷◌, ◌++◌, length, if◌then◌else◌, ◌↔◌, IsTrue, All, get_or, refl, sym, subst, ap, ◌∙◌, arith}
 use Rattle.std.specs.List.{list_all}
 use Rattle.std.proofs.lemmas.Bool.{not-true}

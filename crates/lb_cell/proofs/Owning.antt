@@ -1,4 +1,5 @@
 -- An entry of a lane's own list fits it, and what the lane keeps stays.
+-- For `Lane::draw` and `enter_own`.
 use Rattle.std.proofs.Common.{ℕ, ◌≡◌, ◌+◌, ◌<◌, true, false, List, [], ◌∷◌, ◌++◌, Option, Some, None, length, map, set, refl, sym, subst, ap, ◌∙◌, arith, All}
 use Rattle.std.proofs.lemmas.List.{length-set}
 use Rattle.std.proofs.lemmas.List.Elements.{All-map, All-push}
@@ -129,7 +130,7 @@ lane_own h book board code l w masks figs number course known seat ticket k is n
       named = next.named;
       range = next.range;
       quiet = next.quiet;
-      landing = λ flies. absurd (let no = next.grounded in cc (no, flies));
+      landing = λ flies. absurd (let no = next.empty_handed in cc (no, flies));
     }
 
 -- ---- the course
@@ -192,6 +193,6 @@ may_follow h book board code l w own masks figs new k asks range steps =
     record {
       named = goes.0 ∙ k.named;
       range = subst IsInRange (sym (steps ∙ own_course h l w own masks figs asks)) range;
-      grounded = goes.1;
+      empty_handed = goes.1;
       quiet = subst IsQuiet (sym steps) (rests_quiet w (sight_own h l masks figs) 0 no_queue k.quiet);
     }

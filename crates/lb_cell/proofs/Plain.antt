@@ -1,4 +1,5 @@
 -- What is kept of each entry of a queue is what the merge asks of its owner.
+-- For the law `plain_is_kept`.
 use Rattle.std.proofs.Common.{ℕ, ◌≡◌, true, List, get_or, sym, subst, All}
 use Rattle.std.proofs.lemmas.List.Elements.{All-nil}
 use base.Stored.{Coded}

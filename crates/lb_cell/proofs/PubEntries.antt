@@ -1,4 +1,5 @@
 -- A `pub` of the publisher's list, from its parts; it leaves what every lane keeps.
+-- For `Lane::draw_pub`.
 use Rattle.std.proofs.Common.{ℕ, ◌≡◌, ◌<◌, false, List, [], length, map, refl, sym, subst, ap, ◌∙◌, arith}
 use Rattle.std.proofs.lemmas.List.{length-map}
 use base.Stored.{Coded}

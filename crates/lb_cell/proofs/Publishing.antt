@@ -1,4 +1,5 @@
 -- The figure after an entry is the next that its queue publishes.
+-- For `draw_at`.
 use Rattle.std.proofs.Common.{ℕ, ◌≡◌, ◌+◌, ◌<◌, List, [], ◌∷◌, ◌++◌, length, map, ap, refl, ◌∙◌, arith}
 use Rattle.std.proofs.lemmas.List.{length-append, length-map}
 use Rattle.std.proofs.lemmas.List.FromFn.{length-map-range_with_len}

@@ -1,4 +1,5 @@
 -- What a lane holds of its last entry is what its next entry quotes.
+-- For `draw_noted`; cited by `lb_end` too.
 use Rattle.std.proofs.Common.{ℕ, ◌≡◌, Bool, true, false, eqb, List, ◌++◌, Option, Some, None, if◌then◌else◌, refl, sym, subst, ◌∙◌, inl, inr}
 use base.Stored.{Coded}
 use Rattle.atomic_table.specs.Seated.{TableId}

@@ -1,5 +1,6 @@
 -- At rest no command is in service, and no look is kept: so it stays from entry to entry of a lane, since a course comes to
 -- rest in one way alone.
+-- For the lemmas of `Entering` and `Owning`, and so for `Before::enter`, `Lane::draw` and others.
 use Rattle.std.proofs.Common.{ℕ, Bool, true, false, ◌&&◌, Option, Some, None, length, if◌then◌else◌, refl}
 use Rattle.std.specs.Prelude.{nat_lt}
 use Rattle.lb_base.specs.Sets.{least, least_above}

@@ -1,4 +1,5 @@
 -- What a lane saw stays seen, and is what the queues published.
+-- For the laws `saw_is_read`, `look_sees_more` and `saw_stays`.
 use Rattle.std.proofs.Common.{ℕ, ◌≡◌, [], get_or, sym, subst, ap, ◌∙◌}
 use Rattle.std.proofs.lemmas.List.{get_or-set_other}
 use mathlib.Core.List.{IsPrefix}

@@ -1,4 +1,5 @@
 -- Whatever entries it drew, a queue is that of its CPU.
+-- For `Cell::cpu`; cited by `lb_end` too.
 use Rattle.std.proofs.Common.{ℕ, ◌≡◌, ◌+◌, true, false, List, [], ◌∷◌, Option, Some, None, refl, ◌∙◌}
 use Rattle.lb_queue.specs.declared.answers.Stop.{Stop}
 use Rattle.lb_detach.specs.declared.Env.{Env}

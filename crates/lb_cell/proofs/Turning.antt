@@ -1,4 +1,5 @@
 -- The answer of a queue to a `use` may be drawn: a turn opens, or is shut where one is open.
+-- For `Cell::answer_use`, `Cell::shut_turn` and `Cell::open_turn`.
 use Rattle.std.proofs.Common.{ℕ, ◌≡◌, Bool, true, false, not, ◌&&◌, Option, Some, None, is_some, is_none, List, if◌then◌else◌, refl, sym, subst, ap}
 use Rattle.lb_base.specs.declared.mask.Mask.{Mask}
 use Rattle.lb_base.specs.declared.shape.Shape.{Shape}

@@ -1,5 +1,7 @@
 -- What stands behind the lock of a queue, and what a lane has of its own. Each keeps of its list what the merge of all
 -- lists asks of its owner.
+-- Cited by the contracts of `Cell::answer`, `Cell::keeps`, `Cell::end` and others; also by `lb_cpu`, `lb_end` and
+-- other crates.
 use Rattle.std.specs.Prelude.{ℕ, ◌≡◌, ◌+◌, ◌<◌, ◌≤◌, ◌^◌, true, false, None, List, [], length, map, All}
 use base.Stored.{Coded}
 use Rattle.atomic_table.specs.Seated.{TableId}

@@ -1,4 +1,5 @@
 -- When a queue may answer the command in service.
+-- Cited by the contract of `Cell::answer`; also by `lb_cpu`, `lb_lane` and `lb_service`.
 use Rattle.std.specs.Prelude.{ℕ, ◌≡◌, ◌==◌, Bool, true, false, Option, Some, None, IfSome}
 use Rattle.lb_queue.specs.Queue.{QueueState, knows}
 use Rattle.lb_trace.specs.declared.trace.Command.{Command}

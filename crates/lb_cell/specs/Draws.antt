@@ -1,5 +1,7 @@
 -- One entry of a queue, drawn by a lane: what it says and leaves, when it may be drawn, and what the queue and the lane
 -- are after it.
+-- Cited by the contracts of `Cell::answer`, `Cell::close`, `Cell::over` and others; also by `lb_cpu`, `lb_end` and
+-- other crates.
 use Rattle.std.specs.Prelude.{ℕ, ◌≡◌, ◌+◌, true, false, [], ◌∷◌, ◌++◌, Some, length, set, ◌<◌, All}
 use mathlib.Core.List.{IsPrefix}
 use Rattle.lb_queue.specs.Queue.{QueueState}

@@ -1,5 +1,6 @@
 -- Tasks that leave a queue in the hand of a lane, and land at another: the lists that tell which they are, and when they
 -- have left as their lane's course has it.
+-- Cited by the contracts of `Cell::can_land`, `depart`, `Cell::leave` and others; also by `lb_cpu` and `lb_lane`.
 use Rattle.std.specs.Prelude.{ℕ, ◌≡◌, ◌<◌, ◌≤◌, true, false, Option, Some, List, length, All}
 use Rattle.lb_queue.specs.declared.answers.OutCause.{OutCause}
 use Rattle.lb_queue.specs.declared.answers.Taken.{Taken}

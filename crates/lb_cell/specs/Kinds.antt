@@ -1,4 +1,5 @@
 -- Which kinds of entries are those of a queue, by which of them tasks leave it, and which are those of a lane.
+-- Cited by the contract of `Before::enter`; also by `lb_cpu`, `lb_lane` and `lb_service`.
 use Rattle.std.specs.Prelude.{Bool, true, false}
 use Rattle.lb_core.specs.declared.entry.What.{What}
 use Rattle.lb_core.specs.declared.entry.What.TheVariants.{Row, Adopt, Look, Scan, Did, Out, Landed, Turn, Shut, Close, Ask, Kick, Over}

@@ -1,4 +1,6 @@
 -- What a lane holds of its last entry: its ticket, and a note that it was drawn and what course it left.
+-- Cited by the contracts of `learn_last`, `draw_noted`, `draw_at` and `Lane::end`; also by `lb_cpu`, `lb_end` and
+-- `lb_lane`.
 use Rattle.std.specs.Prelude.{ℕ, ◌≡◌, ◌+◌, ◌<◌, List, [], ◌∷◌, length, Option, Some, None}
 use base.Stored.{Coded}
 use Rattle.atomic_table.specs.Seated.{TableId}

@@ -1,4 +1,5 @@
 -- One entry of a lane's own list: what it says and leaves, when it may be drawn, and what the lane is after it.
+-- Cited by the contracts of `Lane::draw`, `enter_own` and `step`; also by `lb_cpu`, `lb_lane` and other crates.
 use Rattle.std.specs.Prelude.{ℕ, ◌≡◌, ◌+◌, ◌<◌, ◌≤◌, true, false, Option, Some, List, [], ◌∷◌, ◌++◌, length, All}
 use Rattle.lb_base.specs.declared.mask.Mask.{Mask}
 use Rattle.lb_base.specs.declared.mask.TheConstants.{MAX_CPUS}
@@ -66,7 +67,7 @@ OwnAsks what c own = ⊥
 pub record MayFollow (h : Header) (c : Course) : Type 0 where
   pub named : length c.named ≡ length h.cpus
   pub range : IsInRange c
-  pub grounded : is_flight c.form ≡ false
+  pub empty_handed : is_flight c.form ≡ false
   pub quiet : IsQuiet c
 
 -- of the seat: what else it learnt is that each further ticket is above this one

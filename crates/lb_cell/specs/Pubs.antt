@@ -1,5 +1,6 @@
 -- The `pub` of a version that a lane draws in the publisher's list: what it says and leaves, and what the lane and the
 -- publisher's seat are after it.
+-- Cited by the contract of `Lane::draw_pub`; also by `lb_lane` and `lb_service`.
 use Rattle.std.specs.Prelude.{ℕ, ◌≡◌, ◌≤◌, false, [], ◌∷◌, ◌++◌, length}
 use Rattle.lb_trace.specs.declared.trace.Header.{Header}
 use Rattle.lb_core.specs.declared.course.Course.{Course}

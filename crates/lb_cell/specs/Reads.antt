@@ -1,5 +1,7 @@
 -- The figures that a lane's items carry are those that it saw, and so, once what it saw of each CPU is known to be a
 -- beginning of what its queue published, those that the queues published under these numbers.
+-- Cited by the laws `look_sees_more`, `saw_stays`, `saw_is_read` and `plain_is_kept`, and `Lane::reserve`,
+-- `Lane::mark` and others; also by `lb_cpu` and `lb_lane`.
 use Rattle.std.specs.Prelude.{ℕ, ◌≡◌, ◌<◌, List, Some, slice_get, All}
 use mathlib.Core.List.{IsPrefix}
 use base.Stored.{Coded}

@@ -1,4 +1,5 @@
 -- What is due at a queue to a lane that serves a tick: first the owed stops, then the push.
+-- Cited by the contracts of `Cell::out_due` and `Cell::serve`; also by `lb_cpu`, `lb_lane` and `lb_service`.
 use Rattle.std.specs.Prelude.{ℕ, true, Option, Some, None, if◌then◌else◌}
 use Rattle.lb_queue.specs.declared.answers.OutCause.{OutCause}
 use Rattle.lb_queue.specs.declared.answers.OutCause.TheVariants.{Stop as StopOut, Push as PushOut}

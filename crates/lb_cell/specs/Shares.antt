@@ -1,4 +1,5 @@
 -- What all threads share: one header, one ticket book and one board.
+-- What contracts see of the type `Shared`.
 use Rattle.std.specs.Prelude.{◌≡◌, ◌≤◌, List, length}
 use Rattle.atomic_table.specs.Seated.{TableId}
 use Rattle.lb_base.specs.declared.mask.TheConstants.{MAX_CPUS}

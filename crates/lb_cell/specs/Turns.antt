@@ -1,4 +1,5 @@
 -- What a lane draws at the queue of its turn: the close of a position, and what answers its `use`.
+-- Cited by the contracts of `Cell::close` and `Cell::answer_use`; also by `lb_cpu`, `lb_lane` and other crates.
 use Rattle.std.specs.Prelude.{ℕ, ◌≡◌, ◌<◌, true, false, Some, length}
 use Rattle.lb_queue.specs.declared.answers.TurnReply.{TurnReply}
 use Rattle.lb_queue.specs.declared.answers.TurnReply.TheVariants.{Opened, TurnOpen}

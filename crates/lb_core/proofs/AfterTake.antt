@@ -1,5 +1,6 @@
 -- After the landing of a take the lane looks again exactly where all was pinned, and a CPU of the span
 -- is left that is neither left out nor in the local group.
+-- For the lemmas of `Passing`, and so for the law `permitted`.
 use Rattle.std.proofs.Common.{◌≡◌, ℕ, ◌+◌, Bool, true, false, cond, not, ◌==◌, ◌&&◌, List, [], ◌∷◌, Option, Some, None, refl, sym, ◌∙◌, ap, subst, get_or-set_same}
 use Rattle.lb_base.specs.declared.mask.Mask.{Mask}
 use Rattle.lb_base.specs.Mask.{only, either}
@@ -52,11 +53,13 @@ record IsBack (c c' : Course) (s : ℕ) (t : Taken) : Type 0 where
   excluded : c'.excluded ≡ cond t.all_pinned (either c.excluded (only s)) c.excluded
   place : place_of c' ≡ place_of c
 
-comes_back : (o : Owner) (n : ℕ) (c c' : Course) (s : ℕ) (t : Taken) → IsOff c c' s t → IsBack c (drew o n (lands (cause_of c') c')) s t
+comes_back : (o : Owner) (n : ℕ) (c c' : Course) (s : ℕ) (t : Taken) → IsOff c c' s t
+    → IsBack c (drew o n (lands (cause_of c') c')) s t
 comes_back o n c c' s t off = subst (λ (x : OutCause). IsBack c (drew o n (lands x c')) s t) (sym off.cause) (by_owner o)
   where
     left : cond (is_all_pinned c'.taken)
-        (either c'.excluded (only (source_of c'.decision))) c'.excluded ≡ cond t.all_pinned (either c.excluded (only s)) c.excluded
+        (either c'.excluded (only (source_of c'.decision))) c'.excluded ≡ cond t.all_pinned (either c.excluded (only s))
+        c.excluded
     left = rw (off.taken, off.source, off.excluded) refl
 
     by_owner : (o : Owner) → IsBack c (drew o n (lands PullOut c')) s t
@@ -147,7 +150,8 @@ pub after_take : (lane : ℕ) (es : List Entry) (m : MachineState) (c c' : Cours
 unfolding after
 after_take lane es m c c' s t at off l = by_next (next_of lane es) refl
   where
-    by_next : (o : Option Entry) → next_of lane es ≡ o → LooksAgain (is_due_again m.header c s t) c.position (next_of lane (beyond lane es))
+    by_next : (o : Option Entry) → next_of lane es ≡ o → LooksAgain (is_due_again m.header c s t) c.position
+        (next_of lane (beyond lane es))
     by_next None e = subst (LooksAgain (is_due_again m.header c s t) c.position) (sym (none_beyond lane es e)) tt
     by_next (Some o) e =
         let n = next_is lane es m c' o at l e in

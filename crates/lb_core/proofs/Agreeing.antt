@@ -1,4 +1,5 @@
 -- With one choice there is one entry that may be added: the law on choices.
+-- For the law `choices`.
 use Rattle.std.proofs.Common.{arith, ◌≡◌, ℕ, ◌+◌, Bool, true, false, cond, ◌||◌, get_or, refl, sym, ◌∙◌, ap}
 use Rattle.std.proofs.lemmas.Bool.{not-false, eqb-true}
 use Rattle.lb_queue.specs.Queue.{QueueState}
@@ -26,7 +27,8 @@ prev_is m e h = eqb-true e.prev _ (not-false _ (unbroken_elsewhere m e h Prev))
 same_entry : (a b : Entry) → a.owner ≡ b.owner → a.lane ≡ b.lane → a.prev ≡ b.prev → a.what ≡ b.what → a ≡ b
 same_entry a b o l p w = ap4_entry a.owner b.owner a.lane b.lane a.prev b.prev a.what b.what o l p w
   where
-    ap4_entry : (o o' : Owner) (l l' p p' : ℕ) (w w' : What) → o ≡ o' → l ≡ l' → p ≡ p' → w ≡ w' → entry o l p w ≡ entry o' l' p' w'
+    ap4_entry : (o o' : Owner) (l l' p p' : ℕ) (w w' : What) → o ≡ o' → l ≡ l' → p ≡ p' → w ≡ w'
+        → entry o l p w ≡ entry o' l' p' w'
     ap4_entry o o' l l' p p' w w' a b c d = rw (a, b, c, d) refl
 
 -- what comes next depends on the state, the lane and the choice alone
@@ -94,7 +96,8 @@ one_word ScanDue m c q a b h k = refl
 one_word Kicking m c q a b h k = refl
 one_word Ended m c q a b h k = refl
 
-one_kind : (m : MachineState) (lane : ℕ) (a b : Choice) → is_row a ≡ false → is_row b ≡ false → word (what_of m lane a) ≡ word (what_of m lane b)
+one_kind : (m : MachineState) (lane : ℕ) (a b : Choice) → is_row a ≡ false → is_row b ≡ false
+    → word (what_of m lane a) ≡ word (what_of m lane b)
 unfolding what_of
 one_kind m lane a b h k = let c = course_at m.courses lane in one_word c.form m c (queue_next c.form m c) a b h k
 
@@ -136,7 +139,8 @@ words_same m lane v w false h k e f = ap word e ∙ one_kind m lane (choice_of v
 pub choices_are_all : ChoicesAreAll
 choices_are_all m a b l h k agree =
     let v = what_chosen m a h in
-    let w : b.what ≡ what_of m a.lane (choice_of b.what) = what_chosen m b k ∙ ap (λ (x : ℕ). what_of m x (choice_of b.what)) (sym l) in
+    let w : b.what ≡ what_of m a.lane (choice_of b.what) = what_chosen m b k ∙ ap
+    (λ (x : ℕ). what_of m x (choice_of b.what)) (sym l) in
     let kind = words_same m a.lane a.what b.what (is_row (choice_of a.what)) refl (sym (both_rows a.what b.what agree)) v w in
     let same = one_choice a.what b.what kind agree in
     let t : a.what ≡ b.what = v ∙ ap (what_of m a.lane) same ∙ sym w in

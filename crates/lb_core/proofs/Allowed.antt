@@ -1,5 +1,6 @@
 -- The invariant under Permitted: each awake task may be where it is or is asked to leave, and no
 -- mask is empty.
+-- For the lemmas of `Permits` and `Permitting`, and so for the laws `permitted_stays` and `permitted`.
 use Rattle.std.proofs.Common.{ℕ, Bool, not, ◌&&◌, ◌||◌}
 use Rattle.lb_base.specs.Mask.{has}
 use Rattle.lb_base.specs.Sets.{is_empty}

@@ -1,5 +1,7 @@
 -- In a serial history one lane at most is at work: an entry that a lane draws at rest asks that all
 -- lanes rest. After a stop at rest, or the end, no row comes. For callers too.
+-- For the lemmas of `Excluded`, `Next` and other files, and so for the laws `one_serial_history`, `replies` and
+-- others; cited by `lb_audit` and `lb_serial` too.
 use Rattle.std.proofs.Common.{◌≡◌, ◌⊎◌, ℕ, zero, suc, Bool, true, false, ◌||◌, List, [], ◌∷◌, length, get_or, replicate, refl, sym, ◌∙◌, ap, arith, inl, inr, get_or-set_other}
 use Rattle.std.specs.List.{list_all}
 use Rattle.std.proofs.lemmas.Bool.{or_parts, or_left, or_right, and_parts, not-false, eqb-true, cases_eq, cases_lt}
@@ -32,7 +34,8 @@ use Rattle.lb_core.proofs.Opening.{past}
 abbrev pub rests_at : MachineState → ℕ → Bool
 rests_at m lane = is_rest (course_at m.courses lane).form
 
-all_at : {X : Type 0} (p : X → Bool) (xs : List X) (d : X) → list_all p xs ≡ true → p d ≡ true → (i : ℕ) → p (get_or xs i d) ≡ true
+all_at : {X : Type 0} (p : X → Bool) (xs : List X) (d : X) → list_all p xs ≡ true → p d ≡ true → (i : ℕ)
+    → p (get_or xs i d) ≡ true
 all_at p [] d h k i = k
 all_at p (x ∷ xs) d h k zero = (and_parts (p x) _ h).0
 all_at p (x ∷ xs) d h k (suc i) = all_at p xs d ((and_parts (p x) _ h).1) k i
@@ -44,7 +47,8 @@ pub clash : {A : Type 0} (b : Bool) → b ≡ true → b ≡ false → A
 clash b h k = absurd (let y : ⊥ = cc in y)
 
 -- ---- what the rule `stage` and the rule `end` say elsewhere
-pub at_rest_lets : (m : MachineState) (e : Entry) → MayBeAdded m e → stage_at_rest (course_at m.courses e.lane).form m e.owner e.what ≡ false
+pub at_rest_lets : (m : MachineState) (e : Entry) → MayBeAdded m e → stage_at_rest (course_at m.courses e.lane).form m
+    e.owner e.what ≡ false
 at_rest_lets m e h = (or_parts _ _ (or_parts _ _ (unbroken_elsewhere m e h Stage)).0).1
 
 pub goes_on : (m : MachineState) (e : Entry) → MayBeAdded m e → m.ended ≡ false
@@ -152,7 +156,8 @@ none_drawn (e ∷ es) m over h =
     let closing : m.closing ≡ true = let g = goes_on m e h.0 in closes_first m.closing m.ended over g in
     let later : is_over (after m e) ≡ true =
     or_left _ (ended_after e.what m.ended) (ap (closing_after e.what c.form) closing ∙ closing_stays e.what c.form) in
-    rw (no_row e.what m c _ _ e.lane e.owner (form_lets m e h.0).1 (at_rest_lets m e h.0) closing) (none_drawn es (after m e) later h.1)
+    rw (no_row e.what m c _ _ e.lane e.owner (form_lets m e h.0).1 (at_rest_lets m e h.0) closing)
+    (none_drawn es (after m e) later h.1)
 
 pub comes_at_rest : (m : MachineState) (e : Entry) (es : List Entry) → MayBeAdded m e → MayFollow es (after m e)
     → is_serial m e.what ≡ true → rests_at m e.lane ≡ true → AtRest m e.what e.lane (rows_drawn es)

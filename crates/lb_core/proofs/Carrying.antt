@@ -1,4 +1,5 @@
 -- Each answer and each `out` moves tasks as the map says.
+-- For the lemmas of `Permits`, `Places` and `Placing`, and so for the laws `permitted_stays`, `permitted` and others.
 use Rattle.std.proofs.Common.{◌≡◌, ℕ, Bool, true, false, cond, List, [], set, Option, Some, None, refl, ◌∙◌, ap, arith, subst}
 use Rattle.lb_queue.specs.declared.record.TaskRecord.{TaskRecord}
 use Rattle.lb_queue.specs.declared.awake.Awake.{Awake}
@@ -140,7 +141,8 @@ pub record Leaves (q : QueueState) (l : Leaving) : Type 0 where
   pub moved : HasMoved (record { tasks = ids l.hand; from = from; to = OnHand }) q [] l.rest l.hand
 
 leaves_by : (q : QueueState) (cause : OutCause) (taken : Option Taken) (call : Call) → leaves call ≡ true
-    → HasMoved (moved_by q call) q (brought call) (after_call q call) (taken_along q call) → Leaves q (leaving_of q cause taken call)
+    → HasMoved (moved_by q call) q (brought call) (after_call q call) (taken_along q call)
+    → Leaves q (leaving_of q cause taken call)
 leaves_by q cause taken (Leave at id to) b h = record { from = OnAsleep; apart = refl; moved = h }
 leaves_by q cause taken (TakeStop at id to) b h = record { from = OnAwake; apart = refl; moved = h }
 leaves_by q cause taken (TakePush at to) b h = record { from = OnAwake; apart = refl; moved = h }

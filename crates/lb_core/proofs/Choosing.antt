@@ -1,4 +1,5 @@
 -- The entry that comes next, with a choice: an entry that may be added is just that one.
+-- For the lemmas of `AfterTake`, `Agreeing` and other files, and so for the laws `choices`, `permitted` and others.
 use Rattle.std.proofs.Common.{◌≡◌, ℕ, ◌+◌, ◌-◌, Bool, true, false, not, cond, ◌&&◌, ◌||◌, if◌then◌else◌, eqb, List, [], ◌∷◌, length, map, Option, Some, None, is_some, is_none, unwrap_or, refl, sym, ◌∙◌, ap}
 use Rattle.std.proofs.lemmas.Bool.{or_parts, and_parts, not-false, not-true, eqb-true}
 use Rattle.lb_base.specs.declared.mask.Mask.{Mask}
@@ -153,7 +154,14 @@ record IsNext (f : Form) (m : MachineState) (lane : ℕ) (c : Course) (o : Owner
 -- ---- what is known of an entry that may be added
 abbrev sight_of : MachineState → Course → Owner → What → Sight
 sight_of m c o w =
-    record { header = m.header; course = c; queue = owned_queue o m; count = owned_count o m; masks = masks_for w m; figs = figs_for w m }
+    record {
+      header = m.header;
+      course = c;
+      queue = owned_queue o m;
+      count = owned_count o m;
+      masks = masks_for w m;
+      figs = figs_for w m;
+    }
 
 abbrev names_wrong : Form → Sight → What → Bool
 names_wrong f s (Look p x names d) = not (same_numbers (map (λ n. n.cpu) names) (members (figures_due f s)))
@@ -227,7 +235,8 @@ out_is (Some l) cause to tasks h =
     let c = numbers_same tasks (ids l.hand) (not-false _ p.1) in
     rw (a, b, c) refl
 
-is_out_due : (o : Option Leaving) (cause : OutCause) (to : ℕ) (tasks : List ℕ) → is_other_out o cause to tasks ≡ false → is_some o ≡ true
+is_out_due : (o : Option Leaving) (cause : OutCause) (to : ℕ) (tasks : List ℕ) → is_other_out o cause to tasks ≡ false
+    → is_some o ≡ true
 is_out_due None cause to tasks h = absurd (let y : ⊥ = cc in y)
 is_out_due (Some l) cause to tasks h = refl
 
@@ -273,7 +282,8 @@ tick_waits : (m : MachineState) (c : Course) (kind : Kind) (cpu v : ℕ) → kin
     waits_for_push kind c (queue_at m.queues cpu) ≡ false → waits_for_stop kind (queue_at m.queues cpu) ≡ false →
     Adopt v kind cpu ≡ what_next Serving m c (queue_next Serving m c) (ItsVersion v)
 tick_waits m c kind cpu v a t p s =
-    let p' : push_is_due c (queue_at m.queues cpu) ≡ false = ap (λ (x : Kind). waits_for_push x c (queue_at m.queues cpu)) (sym a) ∙ p in
+    let p' : push_is_due c (queue_at m.queues cpu) ≡ false = ap
+    (λ (x : Kind). waits_for_push x c (queue_at m.queues cpu)) (sym a) ∙ p in
     let s' : has_owed (queue_at m.queues cpu) ≡ false = ap (λ (x : Kind). waits_for_stop x (queue_at m.queues cpu)) (sym a) ∙ s in
     rw (t, a, s', p') refl
 
@@ -316,7 +326,8 @@ asked_next m lane c o (Out cause to tasks) k =
     record { owner = e; what = rw (b, ← queue_of m o _ e, l) (out_is _ cause to tasks k.pick) }
 asked_next m lane c o (Pub v) k =
     let e = publisher_is o k.owner in
-    let n : v ≡ length m.versions - 1 + 2 = eqb-true v _ (ap (λ (x : Owner). eqb v (owned_count x m + 2)) (sym e) ∙ not-false _ k.reply) in
+    let n : v ≡ length m.versions - 1 + 2 = eqb-true v _
+    (ap (λ (x : Owner). eqb v (owned_count x m + 2)) (sym e) ∙ not-false _ k.reply) in
     record { owner = e; what = let b = k.drawn in rw (b, n) refl }
 asked_next m lane c o w k = absurd (let d = k.drawn in let y : ⊥ = cc in y)
 
@@ -439,14 +450,16 @@ landed_next m lane c o (Look p x names d) k = record {
   owner = lane_is o lane k.owner;
   what =
       look_parts LandedForm m c o p x names d _ refl k.names k.decided
-      ∙ ap (λ (b : Bool). cond b (look_of LandedForm m c (map (λ n. n.n) names)) (close_of m c (queue_next LandedForm m c))) (sym k.drawn);
+      ∙ ap (λ (b : Bool). cond b (look_of LandedForm m c (map (λ n. n.n) names))
+      (close_of m c (queue_next LandedForm m c))) (sym k.drawn);
 }
 landed_next m lane c o (Close p word i f) k =
     let e = due_queue (Some c.cpu) o 0 refl k.owner in
     record {
       owner = e;
       what = close_parts m c o _ p word i f e k.decided k.counters
-          ∙ ap (λ (b : Bool). cond b (look_of LandedForm m c []) (close_of m c (queue_next LandedForm m c))) (sym (not-true _ k.drawn));
+          ∙ ap (λ (b : Bool). cond b (look_of LandedForm m c []) (close_of m c (queue_next LandedForm m c)))
+          (sym (not-true _ k.drawn));
     }
 landed_next m lane c o w k = absurd (let d = k.drawn in let y : ⊥ = cc in y)
 
@@ -478,7 +491,11 @@ kicking_next : Next Kicking
 unfolding draws
 kicking_next m lane c o (Kick r) k =
     let e = due_queue (target_of c) o (cpu_else Kicking m c) k.drawn k.owner in
-    record { owner = e; what = rw (← queue_of m o _ e) (ap Kick (ask_is r (kick (owned_queue o m) c.at).0 (not-false _ k.reply))) }
+    record {
+      owner = e;
+      what = rw (← queue_of m o _ e)
+          (ap Kick (ask_is r (kick (owned_queue o m) c.at).0 (not-false _ k.reply)));
+    }
 kicking_next m lane c o w k = absurd (let d = k.drawn in let y : ⊥ = cc in y)
 
 ended_next : Next Ended

@@ -1,4 +1,6 @@
 -- The hand of a course is empty unless its lane is in flight. For callers too: which entries are an `out`.
+-- For the lemmas of `Placing`, and so for the laws `choices`, `one_serial_history` and others; cited by `lb_ready`
+-- too.
 use Rattle.std.proofs.Common.{◌≡◌, ℕ, Bool, true, false, cond, [], Option, Some, None, refl}
 use Rattle.lb_base.specs.declared.shape.Kind.{Kind}
 use Rattle.lb_base.specs.declared.shape.Kind.TheVariants.{Tick as TickTurn, Idle, Nohz}

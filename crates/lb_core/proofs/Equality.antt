@@ -1,4 +1,6 @@
 -- Where a test says that two values are equal, they are; and of a value and itself it says so. For callers too.
+-- For the lemmas of `Choosing`, `Excluded` and other files, and so for the laws `one_serial_history`, `permitted` and
+-- others; cited by `lb_cell`, `lb_end` and other crates too.
 use Rattle.std.proofs.Common.{◌≡◌, ◌==◌, ℕ, true, ◌&&◌, eqb, List, [], ◌∷◌, Option, Some, None, refl, ap, arith}
 use Rattle.std.proofs.lemmas.Bool.{and_from, and_parts, eqb-true}
 use Rattle.lb_base.specs.declared.mask.Mask.{Mask}

@@ -1,4 +1,5 @@
 -- A look leaves out the sources of the position's pulls before it.
+-- For the lemmas of `Passing`, and so for the law `permitted`.
 use Rattle.std.proofs.Common.{◌≡◌, ℕ, Bool, true, false, cond, List, [], ◌∷◌, ◌++◌, ◌+◌, Option, Some, None, unwrap_or, refl, sym, ◌∙◌, ap, subst, inl, inr, get_or-set_same, get_or-set_other}
 use Rattle.std.proofs.lemmas.Bool.{or_parts, and_parts, not-false, cases_eq}
 use Rattle.lb_base.specs.declared.mask.Mask.{Mask}
@@ -168,7 +169,8 @@ drew_says Publisher n c out k = k
 abbrev pub LeftOut : List Entry → MachineState → Type 0
 LeftOut pre m = (lane : ℕ) → Out_of (course_at m.courses lane) (last_said left_out lane no_cpus pre)
 
-left_out_step : (m : MachineState) (e : Entry) (pre : List Entry) → MayBeAdded m e → LeftOut pre m → LeftOut (pre ++ e ∷ []) (after m e)
+left_out_step : (m : MachineState) (e : Entry) (pre : List Entry) → MayBeAdded m e → LeftOut pre m
+    → LeftOut (pre ++ e ∷ []) (after m e)
 unfolding after course_after sight
 left_out_step m e pre a k lane = elim (cases_eq e.lane lane) [
   | inl same ↦

@@ -1,5 +1,6 @@
 -- Each published figure is that of its queue after the entry that it is named for, at that entry's
 -- ticket.
+-- For the lemmas of `Passing`, and so for the law `permitted`.
 use Rattle.std.proofs.Common.{◌≡◌, ◌⊎◌, ℕ, zero, suc, ◌+◌, ◌<◌, ◌≤◌, Bool, true, false, cond, eqb, List, [], ◌∷◌, ◌++◌, length, get_or, set, refl, sym, ◌∙◌, ap, arith, subst, inl, inr, get_or-set_same, get_or-set_other}
 use Rattle.std.proofs.lemmas.Bool.{cases_eq, eq-eqb, ne_eqb}
 use Rattle.std.proofs.lemmas.List.{length-set, length-append, get_or_append_left, get_or_push}
@@ -37,7 +38,8 @@ unfolding after
 even_kept m (Queue u) lane prev w h = length-set m.figures u _ ∙ h ∙ sym (length-set m.queues u _)
 even_kept m o lane prev w h = h
 
-size_kept : (m : MachineState) (o : Owner) (lane prev : ℕ) (w : What) → length (after m (entry o lane prev w)).queues ≡ length m.queues
+size_kept : (m : MachineState) (o : Owner) (lane prev : ℕ) (w : What)
+    → length (after m (entry o lane prev w)).queues ≡ length m.queues
 unfolding after
 size_kept m (Queue u) lane prev w = length-set m.queues u _
 size_kept m o lane prev w = refl
@@ -154,7 +156,8 @@ opening_figures h cpu =
       | inr b ↦ inr (b.0, let e = length-map-range_with_len (opening_queue h) 0 n in let k = b.1 in omega arith)
     ]
 
-none_come : (es : List Entry) (m : MachineState) (cpu : ℕ) → Even m → length m.queues ≤ cpu → MayFollow es m → figs (run es m) cpu ≡ []
+none_come : (es : List Entry) (m : MachineState) (cpu : ℕ) → Even m → length m.queues ≤ cpu → MayFollow es m
+    → figs (run es m) cpu ≡ []
 none_come [] m cpu h ge l = past m.figures cpu [] (omega arith)
 none_come (e ∷ es) m cpu h ge l = none_come es (after m e) cpu (even_kept m e.owner e.lane e.prev e.what h)
     (let k = size_kept m e.owner e.lane e.prev e.what in omega arith) l.1
@@ -175,7 +178,8 @@ named_by h pre cpu (suc n) l a le = let k = ap length a in
     (omega arith) (nth pre (start h) cpu n (even_start h) l le)
 
 pub named : (h : Header) (pre : List Entry) (name : FigName) → MayFollow pre (start h)
-    → name.n ≤ entries_at (run pre (start h)) name.cpu → IsFigureOf h pre name (get_or (figs (run pre (start h)) name.cpu) name.n no_fig)
+    → name.n ≤ entries_at (run pre (start h)) name.cpu
+    → IsFigureOf h pre name (get_or (figs (run pre (start h)) name.cpu) name.n no_fig)
 named h pre name l le = elim (opening_figures h name.cpu) [
   | inl a ↦
       let c = counts pre (start h) name.cpu (even_start h) l in

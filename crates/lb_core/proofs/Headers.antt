@@ -1,5 +1,7 @@
 -- What the header of an accepted trace says of each task: its home is declared, and it has a mask. For
 -- callers too: what holds of all items of a list holds of the one at a place.
+-- For the lemmas of `Opening` and `Permits`, and so for the laws `placed_stays`, `placed` and others; cited by
+-- `lb_act`, `lb_cell` and other crates too.
 use Rattle.std.proofs.Common.{◌≡◌, ℕ, zero, suc, ◌<◌, Bool, true, false, List, [], ◌∷◌, length, get_or, All, arith}
 use Rattle.std.specs.List.{list_all}
 use Rattle.std.proofs.lemmas.Bool.{and_parts, not-true, ltb-true}

@@ -1,4 +1,6 @@
 -- Each `out` that is due is a call of the queue by which tasks leave: a wake, a stop, a push or a pull.
+-- For the lemmas of `Carrying`, `Permits` and other files, and so for the laws `permitted_stays`, `permitted` and
+-- others.
 use Rattle.std.proofs.Common.{◌≡◌, ℕ, Bool, true, false, not, Option, Some, None, IfSome, refl, subst}
 use Rattle.std.specs.List.{list_all}
 use Rattle.lb_base.specs.Sets.{is_empty}
@@ -78,7 +80,8 @@ pushes : (o : Option ℕ) (at : ℕ) (q : QueueState) (l : Leaving) → q.active
 pushes None at q l a e = nothing q l e
 pushes (Some to) at q l a e = by q _ None (TakePush at to) l refl e (λ next one masks. a)
 
-serves : (o : Option Stop) (at : ℕ) (q : QueueState) (l : Leaving) → next_stop q true ≡ o → served_out o at q ≡ Some l → IsLeft q l
+serves : (o : Option Stop) (at : ℕ) (q : QueueState) (l : Leaving) → next_stop q true ≡ o → served_out o at q ≡ Some l
+    → IsLeft q l
 serves None at q l s e = pushes q.active at q l refl e
 serves (Some stop) at q l s e = stops (Some stop) true at q l s e
 

@@ -109,9 +109,11 @@ some_next lane (x ∷ later) m r n l e = by_lane (x.lane == lane) refl
     (λ b. some_next lane later (after m x) (ap (λ (c : Course). is_rest c.form) (course_stays m x lane b) ∙ r) (ended ∙ n) l.1 e)
   where
     ended : ended_after x.what m.ended ≡ m.ended
-    ended = no_end _ m _ _ _ x.lane x.owner x.what (form_lets m x l.0).1 (at_rest_lets m x l.0) (λ all. clash _ (rest_each m all lane) r)
+    ended = no_end _ m _ _ _ x.lane x.owner x.what (form_lets m x l.0).1 (at_rest_lets m x l.0)
+        (λ all. clash _ (rest_each m all lane) r)
 
     by_lane : (b : Bool) → (x.lane == lane) ≡ b
-        → ((x.lane == lane) ≡ false → (o : Entry) × (next_of lane later ≡ Some o)) → (o : Entry) × (next_of lane (x ∷ later) ≡ Some o)
+        → ((x.lane == lane) ≡ false → (o : Entry) × (next_of lane later ≡ Some o))
+        → (o : Entry) × (next_of lane (x ∷ later) ≡ Some o)
     by_lane true b more = (x, rw b refl)
     by_lane false b more = let k = more b in (k.0, rw b k.1)

@@ -1,5 +1,6 @@
 -- A trace has at most one serial history: two entries that a serial history may draw at one place, with
 -- the same rows to come, are one.
+-- For the law `one_serial_history`.
 use Rattle.std.proofs.Common.{◌≡◌, ℕ, Bool, true, false, List, [], ◌∷◌, ◌++◌, length, map, refl, sym, ◌∙◌, ap, subst}
 use Rattle.std.proofs.lemmas.Bool.{or_parts, and_parts, not-false, eqb-true}
 use Rattle.lb_base.specs.Mask.{members}
@@ -141,7 +142,8 @@ Rest_ m es a fs b = MayFollow fs (after m b) → (run fs (after m b)).ended ≡ 
     → row_of a.what a.lane ++ rows_drawn es ≡ row_of b.what b.lane ++ rows_drawn fs → a ∷ es ≡ b ∷ fs
 
 same_from : (es fs : List Entry) (m : MachineState) → OneAtWork m → MayFollow es m → MayFollow fs m
-    → (run es m).ended ≡ true → (run fs m).ended ≡ true → AreSerial es m → AreSerial fs m → rows_drawn es ≡ rows_drawn fs → es ≡ fs
+    → (run es m).ended ≡ true → (run fs m).ended ≡ true → AreSerial es m → AreSerial fs m → rows_drawn es ≡ rows_drawn
+    fs → es ≡ fs
 same_from [] fs m one ha hb ea eb za zb rows = sym (nothing_follows fs m ea hb)
 same_from (a ∷ es) [] m one ha hb ea eb za zb rows = nothing_follows (a ∷ es) m eb ha
 same_from (a ∷ es) (b ∷ fs) m one ha hb ea eb za zb rows =

@@ -1,4 +1,6 @@
--- What is said of turns, by the form of a course, from what holds of every front.
+-- A lane in a turn has it open at its CPU and at a position of it: read off, for each form of a course, what `Turning`
+-- has of every legal front.
+-- For the law `turns_stay_open`.
 use Rattle.std.proofs.Common.{◌≡◌, ℕ, true, List, refl}
 use Rattle.lb_queue.specs.declared.answers.OutCause.{OutCause}
 use Rattle.lb_queue.specs.declared.answers.OutCause.TheVariants.{Pull as PullOut}

@@ -34,7 +34,8 @@ before : (cpu id t : ℕ) (rows : List TaskRow) (d : Place) → t < id → is_ho
 unfolding is_home
 before cpu id t rows d h = and_left (leb id t) _ (lt-leb id t h)
 
-first_home : (cpu id t : ℕ) (row : TaskRow) (rows : List TaskRow) (d : Place) → t ≡ id → is_home cpu id (row ∷ rows) d t ≡ eqb cpu row.home
+first_home : (cpu id t : ℕ) (row : TaskRow) (rows : List TaskRow) (d : Place) → t ≡ id → is_home cpu id (row ∷ rows) d
+    t ≡ eqb cpu row.home
 unfolding is_home
 first_home cpu id t row rows d h =
     let z : t - id ≡ 0 = omega arith in
@@ -76,18 +77,22 @@ cond_one : (b c : Bool) (n : ℕ) → n ≡ 1 → b ≡ c → cond b n 0 ≡ con
 cond_one true c n z e = rw (z, ← e) refl
 cond_one false c n z e = rw (← e) refl
 
-at_home : (cpu id t : ℕ) (rows : List TaskRow) (d : Place) → occurs t (ids (tasks_at cpu id rows)) ≡ cond (is_home cpu id rows d t) 1 0
+at_home : (cpu id t : ℕ) (rows : List TaskRow) (d : Place) → occurs t (ids (tasks_at cpu id rows)) ≡ cond
+    (is_home cpu id rows d t) 1 0
 at_home cpu id t [] d = rw (nobody_home cpu id t d) refl
 at_home cpu id t (row ∷ rows) d =
     let n = at_home cpu (id + 1) t rows d in
-    let s = home_step cpu id t (cond (is_home cpu (id + 1) rows d t) 1 0) row (row.home == cpu) refl (tasks_at cpu (id + 1) rows) n in
+    let s = home_step cpu id t (cond (is_home cpu (id + 1) rows d t) 1 0) row (row.home == cpu) refl
+    (tasks_at cpu (id + 1) rows) n in
     elim (cases_order t id) [
       | inl e ↦
           let f = first_home cpu id t row rows d e in
           let b : is_home cpu (id + 1) rows d t ≡ false = before cpu (id + 1) t rows d (omega arith) in
           let o : cond {A = ℕ} (eqb id t) 1 0 ≡ 1 = cond-true {A = ℕ} (eqb id t) 1 0 (eq-eqb id t (sym e)) in
-          let c = cond_one (row.home == cpu) (is_home cpu id (row ∷ rows) d t) (cond (eqb id t) 1 0) o (eqb_sym row.home cpu ∙ sym f) in
-          let k : cond {A = ℕ} (is_home cpu (id + 1) rows d t) 1 0 ≡ 0 = cond-false {A = ℕ} (is_home cpu (id + 1) rows d t) 1 0 b in
+          let c = cond_one (row.home == cpu) (is_home cpu id (row ∷ rows) d t) (cond (eqb id t) 1 0) o
+          (eqb_sym row.home cpu ∙ sym f) in
+          let k : cond {A = ℕ} (is_home cpu (id + 1) rows d t) 1 0 ≡ 0 = cond-false {A = ℕ}
+          (is_home cpu (id + 1) rows d t) 1 0 b in
           omega arith
       | inr w ↦ elim w [
         | inl lt ↦
@@ -95,8 +100,10 @@ at_home cpu id t (row ∷ rows) d =
             let b : is_home cpu (id + 1) rows d t ≡ false = before cpu (id + 1) t rows d (omega arith) in
             let o : cond {A = ℕ} (eqb id t) 1 0 ≡ 0 = cond-false {A = ℕ} (eqb id t) 1 0 (ne_eqb id t (λ e. omega arith)) in
             let c = cond_zero (row.home == cpu) (cond (eqb id t) 1 0) o in
-            let k : cond {A = ℕ} (is_home cpu (id + 1) rows d t) 1 0 ≡ 0 = cond-false {A = ℕ} (is_home cpu (id + 1) rows d t) 1 0 b in
-            let l : cond {A = ℕ} (is_home cpu id (row ∷ rows) d t) 1 0 ≡ 0 = cond-false {A = ℕ} (is_home cpu id (row ∷ rows) d t) 1 0 f in
+            let k : cond {A = ℕ} (is_home cpu (id + 1) rows d t) 1 0 ≡ 0 = cond-false {A = ℕ}
+            (is_home cpu (id + 1) rows d t) 1 0 b in
+            let l : cond {A = ℕ} (is_home cpu id (row ∷ rows) d t) 1 0 ≡ 0 = cond-false {A = ℕ}
+            (is_home cpu id (row ∷ rows) d t) 1 0 f in
             omega arith
         | inr gt ↦
             let f : is_home cpu id (row ∷ rows) d t ≡ is_home cpu (id + 1) rows d t = later_home cpu id t row rows d gt in
@@ -133,7 +140,8 @@ opening_hand h lane =
     let c : Course = opening_course (length h.cpus) in
     elim (cases_lt lane h.lanes) [
       | inl lt ↦ ap (λ (x : Course). x.hand) (get_or-replicate h.lanes lane c no_course lt)
-      | inr ge ↦ ap (λ (x : Course). x.hand) (past (replicate h.lanes c) lane no_course (let e = length-replicate h.lanes c in omega arith))
+      | inr ge ↦ ap (λ (x : Course). x.hand)
+          (past (replicate h.lanes c) lane no_course (let e = length-replicate h.lanes c in omega arith))
     ]
 
 -- nobody stands anywhere but asleep
@@ -167,7 +175,8 @@ asleep_once h homes cpu t = elim (opening_at h cpu) [
       (its_not h homes (AsleepAt cpu) t (λ c lt. ne_eqb cpu c (λ e. omega arith)))
 ]
 
-start_once : (h : Header) → HomesDeclared h → (p : Place) (t : ℕ) → times (start h) p t ≡ cond {A = ℕ} (is_its_place (start h) p t) 1 0
+start_once : (h : Header) → HomesDeclared h → (p : Place) (t : ℕ) → times (start h) p t ≡ cond {A = ℕ}
+    (is_its_place (start h) p t) 1 0
 unfolding opening_queue
 start_once h homes (AwakeAt cpu) t = zero_is _ _
     (elim (opening_at h cpu) [

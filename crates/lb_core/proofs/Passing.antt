@@ -1,5 +1,6 @@
 -- Each look is a pass: of the open turn of its lane's last `use`, over one published figure for each CPU
 -- that is left, and with the take that the rules pick. The law Passes.
+-- For the law `permitted`.
 use Rattle.std.proofs.Common.{◌≡◌, ℕ, zero, suc, ◌+◌, ◌<◌, Bool, true, false, ltb, List, [], ◌∷◌, ◌++◌, length, map, get_or, All, Option, Some, None, unwrap_or, not, refl, sym, ◌∙◌, ap, arith, subst, get_or-set_same}
 use Rattle.std.specs.List.{list_any}
 use Rattle.std.proofs.lemmas.Bool.{or_parts, not-false, eqb-true, ltb-false}
@@ -70,7 +71,8 @@ record Says (m : MachineState) (c : Course) (found : List Counters) (names : Lis
       let domain = domain_at (domains_of h.cpus h.distances masks c.cpu) p in
       d ≡ decision domain.shape domain.groups (by_cpu (figures_named m.figures names)) c.cpu (turn_kind c) x
   failures : (counters_at c.counters c.position).failures ≡ (counters_at found p).failures
-  tries : tries_of (turn_domain m.header c).shape.name ≡ tries_of (domain_at (domains_of h.cpus h.distances masks c.cpu) p).shape.name
+  tries : tries_of (turn_domain m.header c).shape.name ≡ tries_of
+      (domain_at (domains_of h.cpus h.distances masks c.cpu) p).shape.name
   others : (s : ℕ) → others_of (turn_domain m.header c) (either c.excluded (only s)) ≡ others_of
       (domain_at (domains_of h.cpus h.distances masks c.cpu) p) (either x (only s))
 
@@ -88,7 +90,8 @@ found_at m cpu = unwrap_or (queue_at m.queues cpu).counters []
 
 says : (m : MachineState) (o : Owner) (lane prev p : ℕ) (x : Mask) (names : List FigName) (d : Decision)
     → MayBeAdded m (entry o lane prev (Look p x names d)) → (pre : List Entry) → Turning pre m →
-    Says m (course_at m.courses lane) (found_at m (course_at m.courses lane).cpu) names d m.header (course_at m.courses lane).masks p x
+    Says m (course_at m.courses lane) (found_at m (course_at m.courses lane).cpu) names d m.header
+    (course_at m.courses lane).masks p x
 unfolding sight found_at
 says m o lane prev p x names d a pre held =
     let e = entry o lane prev (Look p x names d) in
@@ -150,7 +153,8 @@ pulled m o c s kind i idle ns env at e a =
     ∙ ap (λ (x : What). owner_next x o.lane s) w in
     (w, v)
 
-rest_env : (o : Option Env) (env : Env) (at : ℕ) (q : QueueState) → o ≡ Some env → rest_of (pull_out o at q) q ≡ (take_pull q at env).1
+rest_env : (o : Option Env) (env : Env) (at : ℕ) (q : QueueState) → o ≡ Some env → rest_of (pull_out o at q)
+    q ≡ (take_pull q at env).1
 rest_env None env at q e = absurd (let y : ⊥ = cc in y)
 rest_env (Some x) env at q e = let k : x ≡ env = cc in ap (λ (z : Env). (take_pull q at z).1) k
 
@@ -171,7 +175,8 @@ off_here : (m : MachineState) (lane prev : ℕ) (c : Course) (s : ℕ) (kind : M
     (env : Env) (to : ℕ) (ts : List ℕ) → course_at m.courses lane ≡ looked c s kind i idle ns →
     env_by m.header (looked c s kind i idle ns) (Some (Pull s kind i)) ≡ Some env
     → MayBeAdded m (entry (Queue s) lane prev (Out PullOut to ts)) →
-    IsOff c (course_at (after m (entry (Queue s) lane prev (Out PullOut to ts))).courses lane) s (taken_by (queue_at m.queues s) c.at env)
+    IsOff c (course_at (after m (entry (Queue s) lane prev (Out PullOut to ts))).courses lane) s
+    (taken_by (queue_at m.queues s) c.at env)
 unfolding after sight course_after leaving
 off_here m lane prev c s kind i idle ns env to ts at e a =
     let o = entry (Queue s) lane prev (Out PullOut to ts) in
@@ -217,7 +222,8 @@ env_at h c s kind i idle ns = record {
 }
 
 take_is : PullsFollowPicks → (m : MachineState) (o : Entry) (c : Course) (s : ℕ) (kind : MoveKind) (i : ℕ) (idle : Bool)
-    (ns : List ℕ) (es : List Entry) → course_at m.courses o.lane ≡ looked c s kind i idle ns → MayBeAdded m o → MayFollow es (after m o) →
+    (ns : List ℕ) (es : List Entry) → course_at m.courses o.lane ≡ looked c s kind i idle ns → MayBeAdded m o
+    → MayFollow es (after m o) →
     IsTake (env_at m.header c s kind i idle ns) c.position
     (others_of (turn_domain m.header c) (either c.excluded (only s))) s c.at m o (next_of o.lane (beyond o.lane es))
 unfolding after taken_by
@@ -231,10 +237,12 @@ take_is law m o c s kind i idle ns es at a l =
       owner = p.1;
       what = p.0 ∙ ap (λ (ts : List ℕ). Out PullOut c.cpu ts) (follows.taken);
       stays = ap (λ (x : QueueState). awake_ids x.awake) left.queue ∙ follows.left;
-      again = after_take o.lane es (after m o) c (course_at (after m o).courses o.lane) s (taken_by q c.at env) refl left.course l;
+      again = after_take o.lane es (after m o) c (course_at (after m o).courses o.lane) s (taken_by q c.at env) refl
+          left.course l;
     }
 
-takes : (d : Decision) (env : MoveKind → ℕ → Env) (p : ℕ) (others : ℕ → Mask) (at : ℕ) (m : MachineState) (o next : Option Entry) →
+takes : (d : Decision) (env : MoveKind → ℕ → Env) (p : ℕ) (others : ℕ → Mask) (at : ℕ) (m : MachineState)
+    (o next : Option Entry) →
     ((s : ℕ) (kind : MoveKind) (i : ℕ) (x : Entry) → d ≡ Pull s kind i → o ≡ Some x
     → IsTake (env kind i) p (others s) s at m x next) → Takes d env p others at m o next
 takes NotMine env p others at m o next f = tt
@@ -259,7 +267,8 @@ looks m c names d ns = record c {
 
 after_look : (m : MachineState) (lane prev p : ℕ) (x : Mask) (names : List FigName) (d : Decision)
     → MayBeAdded m (entry (Lane lane) lane prev (Look p x names d)) → (ns : List ℕ)
-    × (course_at (after m (entry (Lane lane) lane prev (Look p x names d))).courses lane ≡ looks m (course_at m.courses lane) names d ns)
+    × (course_at (after m (entry (Lane lane) lane prev (Look p x names d))).courses lane ≡ looks m
+    (course_at m.courses lane) names d ns)
 unfolding after sight course_after
 after_look m lane prev p x names d a = (
   _,
@@ -332,10 +341,12 @@ look_pass turns law h before later lane prev p x names d legal =
           left.1 ∙ ap (λ (y : Decision). looks m c names y left.0) pulls in
           let n = next_is lane later (after m e) (looked c s kind i idle left.0) o at ps.last next in
           let mm = run (until lane later) (after m e) in
-          let same : course_at mm.courses o.lane ≡ looked c s kind i idle left.0 = ap (λ (y : ℕ). course_at mm.courses y) n.own ∙ n.same in
+          let same : course_at mm.courses o.lane ≡ looked c s kind i idle left.0 = ap
+          (λ (y : ℕ). course_at mm.courses y) n.own ∙ n.same in
           let t = take_is law mm o c s kind i idle left.0 (beyond lane later) same n.added n.rest in
           let own : mm.header ≡ m.header = run-header (until lane later) (after m e) ∙ run-header (e ∷ []) m in
-          let env = ap (λ (hh : Header). env_at hh c s kind i idle left.0) own ∙ same_env h m c p names s kind i left.0 x d said in
+          let env = ap (λ (hh : Header). env_at hh c s kind i idle left.0) own ∙ same_env h m c p names s kind i left.0
+          x d said in
           let left_same : others_of (turn_domain mm.header c) (either c.excluded (only s)) ≡ others s =
           ap (λ (hh : Header). others_of (turn_domain hh c) (either c.excluded (only s))) own ∙ said.others s in
           let T : Env → ℕ → Mask → ℕ → MachineState → ℕ → Type 0 =
@@ -355,7 +366,8 @@ pass : TurnLaws → PullsFollowPicks → (h : Header) (before later : List Entry
     → IsLegalFront h (before ++ entry o lane prev w ∷ later) → PassAt h before (entry o lane prev w) later w
 pass turns law h before later (Lane l) lane prev (Look p x names d) legal =
     let ps = parts before (entry (Lane l) lane prev (Look p x names d)) later (start h) legal in
-    let own : l ≡ lane = eqb-true l lane (form_lets (run before (start h)) (entry (Lane l) lane prev (Look p x names d)) ps.this).0 in
+    let own : l ≡ lane = eqb-true l lane (form_lets (run before (start h)) (entry (Lane l) lane prev (Look p x names d))
+    ps.this).0 in
     subst (λ (y : ℕ). IsLegalFront h (before ++ entry (Lane y) lane prev (Look p x names d) ∷ later)
     → IsPass h before (entry (Lane y) lane prev (Look p x names d)) later p x names d) (sym own)
     (look_pass turns law h before later lane prev p x names d) legal

@@ -1,5 +1,6 @@
 -- From entry to entry each awake task may run where it is, or is asked to leave, and each task in a hand may run
 -- where the hand goes: of any one step, and so the law Permitted.
+-- For the laws `permitted_stays` and `permitted`.
 use Rattle.std.proofs.Common.{◌≡◌, ℕ, suc, ◌+◌, ◌<◌, Bool, true, false, not, cond, ◌==◌, ◌||◌, eqb, List, [], ◌∷◌, length, get_or, All, Option, Some, None, refl, sym, ◌∙◌, ap, arith, subst, inl, inr}
 use Rattle.std.specs.List.{list_all}
 use Rattle.std.proofs.lemmas.Bool.{or_parts, and_parts, and_from, eqb-true, cases_eq, cases_lt, not-true}
@@ -54,7 +55,8 @@ pub record Permit (m : MachineState) : Type 0 where
   pub hands : (lane : ℕ) → list_all (may_go_to (course_at m.courses lane).to) (course_at m.courses lane).hand ≡ true
 
 permit_step : (m m' : MachineState) (cpu lane : ℕ) (q : QueueState) (c : Course) → IsChanged m m' cpu lane q c
-    → length m'.queues ≡ length m.queues → Permit m → Stays (queue_at m.queues cpu) q → list_all (may_go_to c.to) c.hand ≡ true → Permit m'
+    → length m'.queues ≡ length m.queues → Permit m → Stays (queue_at m.queues cpu) q → list_all (may_go_to c.to)
+    c.hand ≡ true → Permit m'
 permit_step m m' cpu lane q c h n p s g = record {
   cpus = λ u lt. elim (cases_eq u cpu) [
     | inl e ↦ ap (λ (x : QueueState). x.cpu) (ap (queue_at m'.queues) e ∙ h.this_queue) ∙ s.cpu
@@ -105,7 +107,8 @@ landed_permits law m cpu lane prev ts k p h =
     let e = entry (Queue cpu) lane prev (Landed ts) in
     let c = course_at m.courses lane in
     let q = queue_at m.queues cpu in
-    let to : cpu ≡ c.to = eqb-true cpu c.to (lands_there c.form m.header c q lane cpu ts (form_lets m e h).0 (form_lets m e h).1) in
+    let to : cpu ≡ c.to = eqb-true cpu c.to
+    (lands_there c.form m.header c q lane cpu ts (form_lets m e h).0 (form_lets m e h).1) in
     let own : q.cpu ≡ c.to = p.cpus cpu (cpu_there m cpu lane prev (Landed ts) h) ∙ to in
     permit_step m (after m e) cpu lane _ _ (queue_changed m cpu lane prev (Landed ts) h) (queues_long (Queue cpu) _ m.queues) p
     (land_stays law c.at (cause_of c) c.moment c.hand q
@@ -133,7 +136,8 @@ out_permits law m cpu lane prev cause to ts k p h =
     let is : o ≡ Some l = found.1 in
     let s = out_sends law q l (is_left c.form m.header c q l is) (distinct m cpu k.placed) (p.queues cpu) in
     let rest : rest_of o q ≡ l.rest = ap (λ (x : Option Leaving). rest_of x q) is in
-    permit_step m (after m e) cpu lane _ _ (queue_changed m cpu lane prev (Out cause to ts) h) (queues_long (Queue cpu) _ m.queues) p
+    permit_step m (after m e) cpu lane _ _ (queue_changed m cpu lane prev (Out cause to ts) h)
+    (queues_long (Queue cpu) _ m.queues) p
     (subst (λ (x : QueueState). Stays q x) (sym rest) s.stays)
     (sent_off o c cpu ((sight m e).count + 1) l is s.sent)
 
@@ -299,5 +303,6 @@ permitted_opens h accepted =
 
 pub permitted_stays : TaskLaws → PermittedStays
 permitted_stays law m e placed rests p masks added =
-    let k = step_permits law m e.owner e.lane e.prev e.what (record { placed = placed; hands = rests }) (permit m p masks) added in
+    let k = step_permits law m e.owner e.lane e.prev e.what (record { placed = placed; hands = rests })
+    (permit m p masks) added in
     (permitted (after m e) k, have_masks (after m e) k)

@@ -39,13 +39,19 @@ pub record Stays (q q' : QueueState) : Type 0 where
 
 -- the tests of tasks last
 lasts : (cpu : ℕ) → Last (may_be cpu) may_run
-lasts cpu = record { leaves = λ stop t h. (and_parts _ _ h).1; ages_awake = λ stop t run clock down h. h; ages = λ t run clock down h. h }
+lasts cpu = record {
+  leaves = λ stop t h. (and_parts _ _ h).1;
+  ages_awake = λ stop t run clock down h. h;
+  ages = λ t run
+      clock down h. h;
+}
 
 call_passes : TaskLaws → (q : QueueState) (call : Call) → IsAllowed q → Admits (may_be q.cpu) may_run q call
     → AllPassAfter (may_be q.cpu) may_run q call
 call_passes law q call h admitted = law.last (may_be q.cpu) may_run (lasts q.cpu) q h call admitted
 
-call_stays : TaskLaws → (q : QueueState) (call : Call) → IsAllowed q → Admits (may_be q.cpu) may_run q call → Stays q (after_call q call)
+call_stays : TaskLaws → (q : QueueState) (call : Call) → IsAllowed q → Admits (may_be q.cpu) may_run q call
+    → Stays q (after_call q call)
 call_stays law q call h admitted =
     let cpu = (law.rest q call).cpu in
     record {
@@ -125,7 +131,8 @@ both_of : (to : ℕ) (ts : List TaskRecord) → All (λ t. has t.mask to ≡ tru
 both_of to [] a h = refl
 both_of to (t ∷ ts) a h =
     let k = and_parts (may_run t) _ h in
-    and_from (may_go_to to t) _ (and_from _ _ (a zero t (omega arith)) k.0) (both_of to ts (λ i d lt. a (suc i) d (omega arith)) k.1)
+    and_from (may_go_to to t) _ (and_from _ _ (a zero t (omega arith)) k.0)
+    (both_of to ts (λ i d lt. a (suc i) d (omega arith)) k.1)
 
 have_masks : (cpu : ℕ) (xs : List Awake) → list_all (λ (a : Awake). may_be cpu a.stop a.task) xs ≡ true
     → list_all (λ (a : Awake). not (is_empty a.task.mask)) xs ≡ true

@@ -1,4 +1,5 @@
 -- Where tasks move and the map says so, each task keeps one place.
+-- For the lemmas of `Permits` and `Placing`, and so for the laws `permitted_stays`, `permitted` and others.
 use Rattle.std.proofs.Common.{◌≡◌, ℕ, ◌+◌, ◌<◌, ◌≤◌, Bool, true, false, cond, eqb, ltb, List, [], ◌∷◌, length, set, get_or, refl, sym, ◌∙◌, ap, arith, inl, inr}
 use Rattle.std.proofs.Common.{length-set, get_or-set_same, get_or-set_other}
 use Rattle.std.proofs.lemmas.Bool.{eqb-true, eq-eqb, ne_eqb, ltb-true, and_parts, cases_eq}
@@ -27,7 +28,8 @@ one_more x t n h = (grind (arith, nat_tests), λ e. grind (arith, nat_tests))
 pub sp_other : (ts : List ℕ) (p : Place) (xs : List Place) (t : ℕ) (d : Place) → occurs t ts ≡ 0
     → get_or (set_places ts p xs) t d ≡ get_or xs t d
 sp_other [] p xs t d h = refl
-sp_other (x ∷ ts) p xs t d h = let k = one_more x t (occurs t ts) h in sp_other ts p (set xs x p) t d k.0 ∙ get_or-set_other xs x t p d k.1
+sp_other (x ∷ ts) p xs t d h = let k = one_more x t (occurs t ts) h in sp_other ts p (set xs x p) t d k.0 ∙
+    get_or-set_other xs x t p d k.1
 
 hit_here : (x t n : ℕ) → 1 ≤ cond (eqb x t) 1 0 + n → n ≡ 0 → x ≡ t
 hit_here x t n h z = grind (arith, nat_tests)
@@ -36,7 +38,8 @@ pub sp_hit : (ts : List ℕ) (p : Place) (xs : List Place) (t : ℕ) (d : Place)
     → get_or (set_places ts p xs) t d ≡ p
 sp_hit [] p xs t d h lt = absurd (omega arith)
 sp_hit (x ∷ ts) p xs t d h lt = elim (cases_eq (occurs t ts) 0) [
-  | inl z ↦ sp_other ts p (set xs x p) t d z ∙ (let e : x ≡ t = hit_here x t (occurs t ts) h z in rw e (get_or-set_same xs t p d lt))
+  | inl z ↦ sp_other ts p (set xs x p) t d z ∙
+      (let e : x ≡ t = hit_here x t (occurs t ts) h z in rw e (get_or-set_same xs t p d lt))
   | inr n ↦ sp_hit ts p (set xs x p) t d (omega arith) (let k = length-set xs x p in omega arith)
 ]
 
@@ -59,7 +62,8 @@ course_same m m' cpu lane q c h = ap (λ (x : List Course). course_at x lane) h.
 
 pub course_other : (m m' : MachineState) (cpu lane : ℕ) (q : QueueState) (c : Course) → IsChanged m m' cpu lane q c
     → (l : ℕ) → (l ≡ lane → ⊥) → course_at m'.courses l ≡ course_at m.courses l
-course_other m m' cpu lane q c h l n = ap (λ (x : List Course). course_at x l) h.courses ∙ get_or-set_other m.courses lane l c no_course n
+course_other m m' cpu lane q c h l n = ap (λ (x : List Course). course_at x l) h.courses ∙ get_or-set_other m.courses
+    lane l c no_course n
 
 -- which side a place of this queue and lane is
 same_awake : (u cpu lane : ℕ) (s : Side) → u ≡ cpu → same_place (AwakeAt u) (place_on s cpu lane) ≡ same_side OnAwake s
@@ -178,17 +182,20 @@ unmoved : (x' x n : ℕ) (b c : Bool) (a' a : Bool) → n ≡ 0 → x' + part b 
     → x' ≡ cond {A = ℕ} a' 1 0
 unmoved x' x n b c a' a z e k s = let u = part_zero b n z in let v = part_zero c n z in rw s (omega arith)
 
-arrived : (x' x n : ℕ) (b c a a' : Bool) → n ≡ 1 → x' + part b n ≡ x + part c n → x ≡ cond a 1 0 → a ≡ b → a' ≡ c → x' ≡ cond {A = ℕ} a' 1 0
+arrived : (x' x n : ℕ) (b c a a' : Bool) → n ≡ 1 → x' + part b n ≡ x + part c n → x ≡ cond a 1 0 → a ≡ b → a' ≡ c
+    → x' ≡ cond {A = ℕ} a' 1 0
 arrived x' x n true true a a' o e k s r = let w : x ≡ 1 = rw s at k in rw r (omega arith)
 arrived x' x n true false a a' o e k s r = let w : x ≡ 1 = rw s at k in rw r (omega arith)
 arrived x' x n false true a a' o e k s r = let w : x ≡ 0 = rw s at k in rw r (omega arith)
 arrived x' x n false false a a' o e k s r = let w : x ≡ 0 = rw s at k in rw r (omega arith)
 
-stood : (x' x n : ℕ) (b c a : Bool) → b ≡ true → c ≡ false → x' + part b n ≡ x + part c n → x ≡ cond a 1 0 → 1 ≤ n → (n ≡ 1) × (a ≡ true)
+stood : (x' x n : ℕ) (b c a : Bool) → b ≡ true → c ≡ false → x' + part b n ≡ x + part c n → x ≡ cond a 1 0 → 1 ≤ n
+    → (n ≡ 1) × (a ≡ true)
 stood x' x n b c true hb hc e k l = let e' : x' + n ≡ x + 0 = rw (hb, hc) at e in (omega arith, refl)
 stood x' x n b c false hb hc e k l = let e' : x' + n ≡ x + 0 = rw (hb, hc) at e in absurd (omega arith)
 
-kept_place : (m m' : MachineState) (cpu lane : ℕ) (q : QueueState) (c : Course) (ts : List ℕ) (to : Side) → IsChanged m m' cpu lane q c →
+kept_place : (m m' : MachineState) (cpu lane : ℕ) (q : QueueState) (c : Course) (ts : List ℕ) (to : Side)
+    → IsChanged m m' cpu lane q c →
     m'.places ≡ set_places ts (place_on to cpu lane) m.places → (p : Place) (t : ℕ) → occurs t ts ≡ 0
     → is_its_place m' p t ≡ is_its_place m p t
 kept_place m m' cpu lane q c ts to h e p t z =
@@ -196,7 +203,8 @@ kept_place m m' cpu lane q c ts to h e p t z =
     let n : length m'.courses ≡ length m.courses = ap length h.courses ∙ length-set m.courses lane c in
     let g : get_or m'.places t (HandOf (length m'.courses)) ≡ get_or m.places t (HandOf (length m.courses)) =
     ap (λ (x : List Place). get_or x t (HandOf (length m'.courses))) e
-    ∙ sp_other ts (place_on to cpu lane) m.places t (HandOf (length m'.courses)) z ∙ ap (λ (x : ℕ). get_or m.places t (HandOf x)) n in
+    ∙ sp_other ts (place_on to cpu lane) m.places t (HandOf (length m'.courses)) z ∙ ap
+    (λ (x : ℕ). get_or m.places t (HandOf x)) n in
     rw (l, g) refl
 
 new_place : (m m' : MachineState) (cpu lane : ℕ) (ts : List ℕ) (to : Side) →
@@ -221,7 +229,8 @@ pub placed_by_flow : (m m' : MachineState) (cpu lane : ℕ) (q : QueueState) (c 
     HasMoved (record { tasks = ts; from = from; to = to }) (queue_at m.queues cpu)
     (course_at m.courses lane).hand q c.hand → IsPlaced m → IsPlaced m'
 placed_by_flow m m' cpu lane q c ts from to h e apart f placed = record {
-  mapped = ap length e ∙ sp_length ts (place_on to cpu lane) m.places ∙ placed.mapped ∙ ap (λ (x : Header). length x.tasks) (sym h.header);
+  mapped = ap length e ∙ sp_length ts (place_on to cpu lane) m.places ∙ placed.mapped ∙ ap
+      (λ (x : Header). length x.tasks) (sym h.header);
   once = λ p t.
       let flow = times_flow m m' cpu lane q c ts from to h f in
       let pf : Place = place_on from cpu lane in

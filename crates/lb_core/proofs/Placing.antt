@@ -1,5 +1,7 @@
 -- Each step of the machine keeps each task at one place. For callers too: what an entry that may be added
 -- says of its lane, its CPU, its form and the tasks that leave.
+-- For the lemmas of `AfterTake`, `Agreeing` and other files, and so for the laws `choices`, `one_serial_history` and
+-- others; cited by `lb_journal`, `lb_ready` and other crates too.
 use Rattle.std.proofs.Common.{◌≡◌, ℕ, ◌+◌, ◌<◌, ◌≤◌, Bool, true, false, not, cond, ◌||◌, ltb, List, [], ◌∷◌, length, Option, Some, None, refl, sym, ◌∙◌, ap, arith, subst, inl, inr, get_or-set_same, get_or-set_other}
 use Rattle.std.proofs.lemmas.Bool.{or_parts, and_parts, not-false, ltb-true, cases_eq}
 use Rattle.lb_queue.specs.declared.record.TaskRecord.{TaskRecord}
@@ -57,7 +59,8 @@ lane_there m e h =
     let u = or_parts (not (ltb e.lane (length m.courses))) _ t.0 in
     ltb-true e.lane (length m.courses) (not-false _ u.0)
 
-pub cpu_there : (m : MachineState) (cpu lane prev : ℕ) (w : What) → MayBeAdded m (entry (Queue cpu) lane prev w) → cpu < length m.queues
+pub cpu_there : (m : MachineState) (cpu lane prev : ℕ) (w : What) → MayBeAdded m (entry (Queue cpu) lane prev w)
+    → cpu < length m.queues
 cpu_there m cpu lane prev w h =
     let s = or_parts _ _ (unbroken_elsewhere m (entry (Queue cpu) lane prev w) h Stage) in
     let t = or_parts _ _ s.0 in
@@ -72,7 +75,8 @@ unfolding stage_allows sight
 form_lets m e h = and_parts _ _ (not-false (stage_allows (sight m e) e) (unbroken_here m e h Stage))
 
 -- a hand is empty but in flight
-pub empty_hand : (m : MachineState) (e : Entry) → Kept m → MayBeAdded m e → is_landing e.what ≡ false → (course_at m.courses e.lane).hand ≡ []
+pub empty_hand : (m : MachineState) (e : Entry) → Kept m → MayBeAdded m e → is_landing e.what ≡ false
+    → (course_at m.courses e.lane).hand ≡ []
 empty_hand m e k h n = k.hands e.lane (not_in_flight _ _ _ _ e.lane e.what n (form_lets m e h).1)
 
 one_at_most : (b : Bool) → cond {A = ℕ} b 1 0 ≤ 1
@@ -114,11 +118,13 @@ carry : (m m' : MachineState) (cpu lane : ℕ) (q : QueueState) (c : Course) →
     → (is_flight c.form ≡ false → c.hand ≡ []) → Kept m'
 carry m m' cpu lane q c h k h' e d n = record {
   placed = placed_by_flow m m' cpu lane q c d.move.tasks d.move.from d.move.to h d.map d.apart
-      (subst (λ (x : List TaskRecord). HasMoved d.move (queue_at m.queues cpu) (course_at m.courses lane).hand q x) e d.moved) k.placed;
+      (subst (λ (x : List TaskRecord). HasMoved d.move (queue_at m.queues cpu) (course_at m.courses lane).hand q x) e
+      d.moved) k.placed;
   hands = hands_kept m m' cpu lane q c h k.hands n;
 }
 
-pub course_hand : (m : MachineState) (e : Entry) → Kept m → MayBeAdded m e → is_out e.what ≡ false → (course_after (sight m e) e).hand ≡ []
+pub course_hand : (m : MachineState) (e : Entry) → Kept m → MayBeAdded m e → is_out e.what ≡ false
+    → (course_after (sight m e) e).hand ≡ []
 unfolding sight course_after
 course_hand m e k h o = hand_after e.what (sight m e) e.owner ((sight m e).count + 1) (cpu_of e.owner)
     (queue_after (sight m e) e) o (λ n. empty_hand m e k h n)
@@ -173,7 +179,8 @@ flight_end None c cpu n l h = absurd (let k : ⊥ = cc in k)
 flight_end (Some x) c cpu n l h = let k : x ≡ l = cc in (refl, ap (λ (y : Leaving). y.hand) k)
 
 out_kept : CallsMove → (m : MachineState) (cpu lane prev : ℕ) (cause : OutCause) (to : ℕ) (ts : List ℕ) → Kept m
-    → MayBeAdded m (entry (Queue cpu) lane prev (Out cause to ts)) → Kept (after m (entry (Queue cpu) lane prev (Out cause to ts)))
+    → MayBeAdded m (entry (Queue cpu) lane prev (Out cause to ts))
+    → Kept (after m (entry (Queue cpu) lane prev (Out cause to ts)))
 unfolding after sight queue_after course_after leaving
 out_kept law m cpu lane prev cause to ts k h =
     let e = entry (Queue cpu) lane prev (Out cause to ts) in
@@ -298,7 +305,8 @@ quiet_kept m o lane prev w b n k h =
       courses = refl;
     })
     k c.hand (empty ∙ sym empty')
-    (unmoved (queue_at m.queues 0) c.hand (queue_at m.queues 0) 0 lane m.places _ refl (quiet_places w o lane c.command m.places n))
+    (unmoved (queue_at m.queues 0) c.hand (queue_at m.queues 0) 0 lane m.places _ refl
+    (quiet_places w o lane c.command m.places n))
     (λ _. empty')
 
 -- ---- each entry

@@ -1,5 +1,7 @@
 -- The least member of a mask, the counters that a turn finds, and its positions, which are those of
 -- domains.
+-- For the lemmas of `Turning` and `Turns`, and so for the laws `turns_fit`, `turns_stay_open` and others; cited by
+-- `lb_service` too.
 use Rattle.std.proofs.Common.{◌≡◌, ℕ, ◌<◌, Bool, true, false, cond, ◌==◌, ◌&&◌, ltb, List, length, map, Option, Some, None, MatchOption, refl, sym, arith}
 use Rattle.std.specs.List.{range_with_len}
 use Rattle.std.proofs.lemmas.Bool.{and_parts, ltb-true, eqb-true}
@@ -42,7 +44,8 @@ unfolding counters_found
 found_many q at version shapes h = by_version (version == q.version) refl
   where
     by_version : (b : Bool) → (version == q.version) ≡ b
-        → length (cond b (counters_or_fresh q.counters shapes) (map (fresh_at (milliseconds (clock_at q at))) shapes)) ≡ length shapes
+        → length (cond b (counters_or_fresh q.counters shapes) (map (fresh_at (milliseconds (clock_at q at))) shapes)) ≡
+        length shapes
     by_version true e = fresh_many q.counters shapes (h (eqb-true version q.version e))
     by_version false e = length-map shapes (fresh_at (milliseconds (clock_at q at)))
 
@@ -52,7 +55,8 @@ as_many None shapes h = tt
 as_many (Some cs) shapes h = sym h
 
 pub positions_below : (q : QueueState) (at : ℕ) (k : Kind) (version p : ℕ) (shapes : List Shape)
-    → (version ≡ q.version → AreMany q.counters (length shapes)) → has (positions_found q at k version shapes) p ≡ true → p < length shapes
+    → (version ≡ q.version → AreMany q.counters (length shapes)) → has (positions_found q at k version shapes) p ≡ true
+    → p < length shapes
 positions_below q at k version p shapes many h =
     let w = positions_within q at k version shapes p (λ same. as_many q.counters shapes (many same)) h in
     let l = found_many q at version shapes many in

@@ -1,5 +1,6 @@
 -- What a queue keeps for turns: its version, its counters and its open turn. Each step of a queue
 -- leaves them, but for the opening of a turn, the close of a position and the end of a turn.
+-- For the lemmas of `Turning` and `Turns`, and so for the laws `turns_fit`, `turns_stay_open` and others.
 use Rattle.std.proofs.Common.{◌≡◌, ℕ, Bool, true, false, List, Option, Some, None, refl, subst}
 use Rattle.lb_interval.specs.declared.Counters.{Counters}
 use Rattle.lb_queue.specs.declared.answers.OpenTurn.{OpenTurn}
@@ -75,7 +76,8 @@ pub quiet_by : CallsKeepRest → (w : What) (s : Sight) (lane : ℕ) → turns w
 unfolding leaving ask_active kick
 quiet_by law (Did r) s lane n = answer_quiet law s.course.command s.course.at s.queue
 quiet_by law (Out cause to tasks) s lane n = out_quiet law s.course.form s.header s.course s.queue
-quiet_by law (Landed tasks) s lane n = call_quiet law s.queue (Land s.course.at (cause_of s.course) s.course.moment s.course.hand) refl
+quiet_by law (Landed tasks) s lane n = call_quiet law s.queue
+    (Land s.course.at (cause_of s.course) s.course.moment s.course.hand) refl
 quiet_by law (Turn ps) s lane n = absurd (let y : ⊥ = cc in y)
 quiet_by law (Close p w i f) s lane n = absurd (let y : ⊥ = cc in y)
 quiet_by law Over s lane n = absurd (let y : ⊥ = cc in y)

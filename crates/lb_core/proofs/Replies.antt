@@ -1,4 +1,5 @@
 -- The next entry after a row is its reply.
+-- For the law `replies`.
 use Rattle.std.proofs.Common.{◌≡◌, ◌+◌, ℕ, ◌≤◌, true, false, cond, ◌==◌, List, [], ◌∷◌, ◌++◌, length, Option, Some, None, is_some, refl, sym, ◌∙◌, ap, arith, subst, get_or-set_same}
 use Rattle.std.proofs.lemmas.Bool.{or_parts, not-false, eqb-true, eq-eqb}
 use Rattle.lb_queue.specs.declared.answers.OutCause.TheVariants.{Wake as WakeOut}
@@ -51,7 +52,8 @@ woken_is q at t None e = refl
 woken_is q at t (Some to) e = ap (λ (ts : List ℕ). Out WakeOut to ts) (left_id q at t to (task_with t q.asleep) refl e)
 
 -- ---- the versions
-versions_stay : (w : What) (command : Option Command) (vs : List (List Mask)) → 1 ≤ length vs → 1 ≤ length (versions_after w command vs)
+versions_stay : (w : What) (command : Option Command) (vs : List (List Mask)) → 1 ≤ length vs
+    → 1 ≤ length (versions_after w command vs)
 versions_stay (Pub v) (Some (Rebuild parts)) vs h = let l = length-append vs (parts ∷ []) in omega arith
 versions_stay w command vs h = h
 
@@ -107,7 +109,8 @@ replied m c n at command o same a h =
     k.0 ∙ ap (λ (x : Course). what_next x.form m x (queue_next x.form m x) (choice_of o.what)) same
     ∙ reply_due m c n at command q (choice_of o.what) h in
     let v : o.owner ≡ owner_next (reply_of command at m q) o.lane cpu =
-    k.1 ∙ ap (λ (x : Course). owner_next o.what o.lane (cpu_next x.form m x)) same ∙ ap (λ (y : What). owner_next y o.lane cpu) w in
+    k.1 ∙ ap (λ (x : Course). owner_next o.what o.lane (cpu_next x.form m x)) same ∙ ap
+    (λ (y : What). owner_next y o.lane cpu) w in
     let p : answered_elsewhere Asked (asked c n at command) m o.owner (reply_of command at m q) ≡ false =
     subst (λ (y : What). answered_elsewhere Asked (asked c n at command) m o.owner y ≡ false) w
     (subst (λ (x : Course). answered_elsewhere x.form x m o.owner o.what ≡ false) same (unbroken_elsewhere m o a PlaceRule)) in
@@ -156,13 +159,15 @@ has_reply law h before later o lane prev n at command legal =
     let versions = subst (λ (x : MachineState). 1 ≤ length x.versions) there
     (some_version (before ++ e ∷ until lane later) (start h) (opening_version h)) in
     let mm = run (until lane later) (after m e) in
-    let same : course_at mm.courses next.0.lane ≡ asked c.0 n at command = ap (λ (l : ℕ). course_at mm.courses l) is.own ∙ is.same in
+    let same : course_at mm.courses next.0.lane ≡ asked c.0 n at command = ap (λ (l : ℕ). course_at mm.courses l)
+    is.own ∙ is.same in
     record {
       number = row_number m o lane prev n at command ps.this
           ∙ ap (λ (k : ℕ × ℕ). k.0 + 1) ((turning_at law h before ps.first).each lane).row;
       reply = next.0;
       next = next.1;
-      is = subst (λ (x : MachineState). IsReply command at x next.0) (sym there) (replied mm c.0 n at command next.0 same is.added versions);
+      is = subst (λ (x : MachineState). IsReply command at x next.0) (sym there)
+          (replied mm c.0 n at command next.0 same is.added versions);
     }
 
 by_what : TurnLaws → (h : Header) (before later : List Entry) (o : Owner) (lane prev : ℕ) (w : What)

@@ -1,4 +1,5 @@
 -- What is said of turns holds of every front: one lane at most has a turn open at a queue.
+-- For the law `turns_fit`.
 use Rattle.std.proofs.Common.{◌≡◌, ℕ, ◌+◌, ◌-◌, ◌<◌, ◌≤◌, Bool, true, false, List, [], ◌∷◌, ◌++◌, length, get_or, set, max, Option, Some, None, IfSome, is_some, unwrap_or, refl, sym, ◌∙◌, ap, arith, subst, inl, inr, get_or-set_same, get_or-set_other}
 use Rattle.std.proofs.lemmas.Bool.{not-false, cases_eq, ltb-false}
 use Rattle.std.proofs.lemmas.List.{length-set, length-map, length-append, get_or_append_left}
@@ -90,7 +91,8 @@ stays order (Look p x names v) s lane cpu now vs t t' d b ps f u held n k =
       now = subst (HasTurn lane s.header (use_key c) Looked (key_of c))
           (sym (ps.quiet refl)) (reforms lane s.header (use_key c) c.form Looked (key_of c) t g.1 refl (held g.0));
     }
-stays order (Out cause to ts) s lane cpu now vs t t' d b ps f u held n k = off (out_by s.course.form s.header s.course s.queue) refl k
+stays order (Out cause to ts) s lane cpu now vs t t' d b ps f u held n k = off
+    (out_by s.course.form s.header s.course s.queue) refl k
   where
     off : (l : Option Leaving) → out_by s.course.form s.header s.course s.queue ≡ l
         → in_turn (takes_off l s.course) ≡ true → Stays lane s.header s.course (takes_off l s.course) t'
@@ -153,7 +155,8 @@ stays order (Ask r) s lane cpu now vs t t' d b ps f u held n k =
     }
 stays order (Scan names v) s lane cpu now vs t t' d b ps f u held n k =
     clash _ k (scanned_out v (record s.course { figures = s.figs; named = raised_numbers names s.course.named })).0
-stays order (Did r) s lane cpu now vs t t' d b ps f u held n k = clash _ k (answered_out s.course.command cpu s.queue now s.course).0
+stays order (Did r) s lane cpu now vs t t' d b ps f u held n k = clash _ k
+    (answered_out s.course.command cpu s.queue now s.course).0
 stays order (Kick r) s lane cpu now vs t t' d b ps f u held n k = clash _ k (kicked_out r s.course).0
 stays order Shut s lane cpu now vs t t' d b ps f u held n k = clash _ k (turn_out s.header s.course).0
 stays order Over s lane cpu now vs t t' d b ps f u held n k = clash _ k (turn_out s.header s.course).0
@@ -183,7 +186,8 @@ fits_after (Turn ps) s lane vs t d u held f =
     record {
       from = is.from;
       to = is.to;
-      many = found_many s.queue c.at c.version (shapes_of (turn_domains s.header c)) (finds_many s.header c vs s.queue is f) ∙ l ∙ same;
+      many = found_many s.queue c.at c.version (shapes_of (turn_domains s.header c))
+          (finds_many s.header c vs s.queue is f) ∙ l ∙ same;
       below = (
         refl,
         λ p k. let b = positions_below s.queue c.at (turn_kind c) c.version p
@@ -213,7 +217,11 @@ grows-refl vs = record { longer = omega arith; same = λ i h. refl }
 
 versions_grow : (w : What) (command : Option Command) (vs : List (List Mask)) → Grows vs (versions_after w command vs)
 versions_grow (Pub v) (Some (Rebuild parts)) vs =
-    record { longer = let h = length-append vs (parts ∷ []) in omega arith; same = λ i h. get_or_append_left vs (parts ∷ []) [] i h }
+    record {
+      longer = let h = length-append vs (parts ∷ []) in omega arith;
+      same = λ i h. get_or_append_left vs
+          (parts ∷ []) [] i h;
+    }
 versions_grow (Pub v) None vs = grows-refl vs
 versions_grow (Pub v) (Some command) vs = still command vs
   where
@@ -237,7 +245,8 @@ more_fits h vs ws cpu t g f = record {
   from = f.from;
   to = let a = f.to in let b = g.longer in omega arith;
   many = subst (λ (parts : List Mask). AreMany t.counters (length (domains_of h.cpus h.distances parts cpu))) same f.many;
-  below = subst (λ (parts : List Mask). OpensBelow t.opened t.counters (length (domains_of h.cpus h.distances parts cpu))) same f.below;
+  below = subst (λ (parts : List Mask). OpensBelow t.opened t.counters
+      (length (domains_of h.cpus h.distances parts cpu))) same f.below;
 }
   where
     same : get_or vs (t.version - 1) [] ≡ get_or ws (t.version - 1) []
@@ -367,7 +376,8 @@ fits_kept law m o lane prev w pre a held cpu = by_turns (turns w) refl
 -- ---- one step of the lanes
 keeps_use : (lane : ℕ) (pre pre' : List Entry) (m m' : MachineState) (u : UseKey) → last_use lane pre' ≡ last_use lane pre
     → Grows m.versions m'.versions → HasUse lane pre m u → HasUse lane pre' m' u
-keeps_use lane pre pre' m m' u l g h = record { last = l ∙ h.last; published = more_published m.versions m'.versions u g h.published }
+keeps_use lane pre pre' m m' u l g h = record
+    { last = l ∙ h.last; published = more_published m.versions m'.versions u g h.published }
 
 no_use : (w : What) (o : Option Use) → is_use w ≡ false → use_or w o ≡ o
 no_use (Adopt v kind cpu) o h = absurd (let y : ⊥ = cc in y)
@@ -423,7 +433,8 @@ own_kept : TurnLaws → (m : MachineState) (o : Owner) (lane prev : ℕ) (w : Wh
     (course_by w (sight m e) (cpu_of o) (queue_after (sight m e) e)))
 unfolding after sight
 own_kept law m o lane prev w pre a held n = record {
-  row = row_by w (sight m e) (cpu_of o) (queue_after (sight m e) e) ∙ ap (row_or w) it.row ∙ sym (own_said row_or lane (0, 0) pre e refl);
+  row = row_by w (sight m e) (cpu_of o) (queue_after (sight m e) e) ∙ ap (row_or w) it.row ∙ sym
+      (own_said row_or lane (0, 0) pre e refl);
   used = λ k.
       let st = kept k in
       let l = own_said use_or lane None pre e refl ∙ no_use w (last_use lane pre) n in
@@ -491,7 +502,8 @@ turning_step law m e pre a held = record {
         (other_step law.rest m e.owner e.lane e.prev lane e.what pre a held other)
   ];
   fits = λ cpu. more_fits m.header m.versions (after m e).versions cpu (part_at (after m e) cpu)
-      (versions_grow e.what (sight m e).course.command m.versions) (fits_kept law.rest m e.owner e.lane e.prev e.what pre a held cpu);
+      (versions_grow e.what (sight m e).course.command m.versions)
+      (fits_kept law.rest m e.owner e.lane e.prev e.what pre a held cpu);
 }
 
 -- ---- the opening state

@@ -2,6 +2,8 @@
 -- its last `use` took up, and from the opening of the turn on the queue of its CPU is at that version and
 -- has the turn open, with the positions of the course, and with the counters that the turn found at each
 -- position that is not yet closed.
+-- For the lemmas of `Excluded`, `OpenTurns` and other files, and so for the laws `turns_stay_open`, `permitted` and
+-- others.
 use Rattle.std.proofs.Common.{◌≡◌, ℕ, ◌-◌, ◌<◌, ◌≤◌, Bool, true, false, cond, ◌==◌, ◌&&◌, leb, ltb, List, [], ◌∷◌, ◌++◌, length, get_or, set, Option, Some, None, IfSome, IsSome, is_some, unwrap_or, refl, sym, ◌∙◌, ap, arith, subst, get_or-set_other}
 use Rattle.std.proofs.lemmas.Bool.{and_parts, not-true, eqb-true, eq-eqb, ne_eqb, lt-ltb, le-leb, leb-true, ltb-true}
 use Rattle.std.proofs.lemmas.List.{length-map}
@@ -137,7 +139,8 @@ unfolding draws
 landed_works Flight h c q lane ts k = (refl, refl)
 landed_works f h c q lane ts k = absurd (let y : ⊥ = cc in y)
 
-pub ask_closed : (f : Form) (h : Header) (c : Course) (q : QueueState) (lane : ℕ) (r : _) → draws f h c q lane (Ask r) ≡ true → f ≡ Closed
+pub ask_closed : (f : Form) (h : Header) (c : Course) (q : QueueState) (lane : ℕ) (r : _)
+    → draws f h c q lane (Ask r) ≡ true → f ≡ Closed
 unfolding draws
 ask_closed Closed h c q lane r k = refl
 ask_closed f h c q lane r k = absurd (let y : ⊥ = cc in y)
@@ -225,14 +228,16 @@ sleep_out : (b : Bool) (cpu : ℕ) (c : Course) → Out_ c (after_sleep b cpu c)
 sleep_out true cpu c = (refl, refl)
 sleep_out false cpu c = (refl, refl)
 
-pub answered_out : (command : Option Command) (cpu : ℕ) (before now : QueueState) (c : Course) → Out_ c (answered command cpu before now c)
+pub answered_out : (command : Option Command) (cpu : ℕ) (before now : QueueState) (c : Course)
+    → Out_ c (answered command cpu before now c)
 answered_out (Some (Sleep t)) cpu before now c = sleep_out (left_idle t before now) cpu c
 answered_out (Some (Exit t)) cpu before now c = sleep_out (left_idle t before now) cpu c
 answered_out command cpu before now c = (refl, refl)
 
 pub lands_out : (o : OutCause) (c : Course) → is_pull_cause o ≡ false → Out_ c (lands o c)
 lands_out PullOut c h = absurd (let y : ⊥ = cc in y)
-lands_out o c h = cond_out (is_tick c.command) c (record (lets_go c) { form = Serving }) (comes_to_rest c) (refl, refl) (refl, refl)
+lands_out o c h = cond_out (is_tick c.command) c (record (lets_go c) { form = Serving }) (comes_to_rest c) (refl, refl)
+    (refl, refl)
 
 -- ---- the row of each course
 goes_row : (p : Option ℕ) (c : Course) → row_part (goes_to p c) ≡ row_part c
@@ -258,7 +263,8 @@ lands_row PullOut c = refl
 lands_row o c = (lands_out o c refl).1
 
 pub row_by : (w : What) (s : Sight) (cpu : ℕ) (now : QueueState) → row_part (course_by w s cpu now) ≡ row_or w (row_part s.course)
-row_by (Scan names v) s cpu now = (scanned_out v (record s.course { figures = s.figs; named = raised_numbers names s.course.named })).1
+row_by (Scan names v) s cpu now = (scanned_out v
+    (record s.course { figures = s.figs; named = raised_numbers names s.course.named })).1
 row_by (Did r) s cpu now = (answered_out s.course.command cpu s.queue now s.course).1
 row_by (Out cause to ts) s cpu now = off_row (leaving s) s.course
 row_by (Landed ts) s cpu now = lands_row (cause_of s.course) s.course
@@ -313,7 +319,14 @@ pub record Key : Type 0 where
   pub counters : List Counters
 
 abbrev pub key_of : Course → Key
-key_of c = record { row = row_part c; taken_up = use_key c; positions = c.positions; position = c.position; counters = c.counters }
+key_of c = record {
+  row = row_part c;
+  taken_up = use_key c;
+  positions = c.positions;
+  position = c.position;
+  counters =
+      c.counters;
+}
 
 -- the turn of the lane is open at a queue that keeps this part of itself
 pub record IsOpenAt (lane : ℕ) (h : Header) (u : UseKey) (positions : Mask) (found : List Counters) (t : TurnPart) : Type 0 where
@@ -386,11 +399,13 @@ closes_turn lane h u w c t a = next_on lane h u c t a
 -- a close changes the counters of its own position
 pub closed_turn : StandInOrder → (lane : ℕ) (h : Header) (c : Course) (q : QueueState) → working c.form ≡ true
     → Turned lane h (use_key c) c (part_of q) →
-    HasTurn lane h (use_key c) Closed (key_of c) (part_of (close_look q c.at (turn_domain h c).shape (outcome_of h c) (flag_of c.taken)))
+    HasTurn lane h (use_key c) Closed (key_of c)
+    (part_of (close_look q c.at (turn_domain h c).shape (outcome_of h c) (flag_of c.taken)))
 unfolding close_look
 closed_turn order lane h c q w a =
     let shape = (turn_domain h c).shape in
-    let own : shape.position ≡ c.position = order h.cpus h.distances c.masks c.cpu c.position (a.there.below c.position (a.one w)) in
+    let own : shape.position ≡ c.position = order h.cpus h.distances c.masks c.cpu c.position
+    (a.there.below c.position (a.one w)) in
     let x = counters_closed q c.at shape (outcome_of h c) (flag_of c.taken) in
     record {
       at = a.at;
@@ -403,7 +418,8 @@ closed_turn order lane h c q w a =
       };
       same = λ p s.
           let up = ltb-true c.position p s in
-          get_or-set_other a.found shape.position p x no_counters (λ e. omega arith) ∙ a.same p (rw w (le-leb c.position p (omega arith)));
+          get_or-set_other a.found shape.position p x no_counters (λ e. omega arith) ∙ a.same p
+          (rw w (le-leb c.position p (omega arith)));
       one = λ s. absurd (let y : ⊥ = cc in y);
     }
 
@@ -450,7 +466,8 @@ opened_turn lane h vs c q ps due u f = by_first (least ps) refl
     there : IsOpenAt lane h (use_key c) ps (counters_found q c.at c.version shapes)
         (part_of (opened q c.at lane (turn_kind c) c.version shapes))
     there = record {
-      opened = ap (λ (m : Mask). let t : OpenTurn = record { lane = lane; kind = turn_kind c; positions = m } in Some t) (sym due);
+      opened = ap (λ (m : Mask). let t : OpenTurn = record { lane = lane; kind = turn_kind c; positions = m } in Some t)
+          (sym due);
       version = refl;
       below = λ p k.
           let l = length-map (turn_domains h c) (λ (d : Domain). d.shape) in

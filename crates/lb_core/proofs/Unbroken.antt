@@ -1,4 +1,6 @@
 -- An entry that may be added breaks no rule. For callers too: so rule by rule, here and elsewhere.
+-- For the lemmas of `Agreeing`, `AtWork` and other files, and so for the laws `choices`, `one_serial_history` and
+-- others; cited by `lb_draw`, `lb_ready` and other crates too.
 use Rattle.std.proofs.Common.{◌≡◌, Bool, true, false, cond, Option, Some, None, refl}
 use Rattle.std.proofs.lemmas.Bool.{or_parts}
 use Rattle.lb_core.specs.declared.rule.Rule.{Rule}

@@ -1,5 +1,6 @@
 -- What a call of a queue asks that an entry stands for, by the course of the entry's lane: the answer to a
 -- row, a landing, and the opening of a turn. The machine's states are ready for each of them.
+-- Cited by `lb_act`, `lb_cell` and other crates.
 use Rattle.std.specs.Prelude.{◌≡◌, ℕ, pos, negsuc, ◌≤◌, ◌≤ℤ◌, false, Option, Some, None, All, length}
 use Rattle.lb_queue.specs.declared.queue.TheConstants.{MAX_SHAPES}
 use Rattle.lb_queue.specs.declared.record.TaskRecord.{TaskRecord}

@@ -1,6 +1,7 @@
 -- The choices that the machine leaves a lane: which row comes at rest, or for lane 0 that the closing
 -- begins; which version a `use` names; and which figures a look or a scan names. The law says that
 -- there are no others: entries of one lane that agree on these, and may both be added, are equal.
+-- Cited by the law `choices`; also by `lb_ready`.
 use Rattle.std.specs.Prelude.{◌≡◌, map}
 use Rattle.lb_core.specs.declared.entry.What.{What}
 use Rattle.lb_core.specs.declared.entry.What.TheVariants.{Row, Adopt, Look, Scan}

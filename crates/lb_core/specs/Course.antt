@@ -1,5 +1,7 @@
 -- What a course says: the opening course of a lane, the command in service, the domains of the turn
 -- that is due or open, the last look and take, and what a take asks for.
+-- For the definitions of `Asks`, `CourseAfter` and others, and so for the laws `turns_stay_open`, `permitted` and
+-- others; cited by `lb_act`, `lb_cell` and other crates.
 use Rattle.std.specs.Prelude.{ℕ, ◌-◌, ◌+◌, nat_lt, Bool, true, false, not, ◌&&◌, if◌then◌else◌, Option, Some, None, is_some, unwrap_or, List, [], length, map, replicate}
 use Rattle.std.specs.List.{slice_index_or}
 use Rattle.lb_base.specs.declared.mask.Mask.{Mask}

@@ -1,6 +1,8 @@
 -- The course that an entry leaves: the column "Form afterwards" of the table in docs/rules/lanes.md, of
 -- which `Stage` is the middle one. The form "after a turn" is passed over at once, and so is a close that
 -- asks for nothing.
+-- For the definitions of `Step`, and so for the laws `permitted`, `permitted_stays` and others; cited by `lb_act`,
+-- `lb_cell` and other crates.
 use Rattle.std.specs.Prelude.{ℕ, ◌+◌, nat_lt, Bool, true, false, not, ◌&&◌, ◌||◌, if◌then◌else◌, Option, Some, None, List, [], ◌∷◌, length, slice_set}
 use Rattle.lb_base.specs.declared.mask.Mask.{Mask}
 use Rattle.lb_base.specs.declared.shape.Kind.{Kind}

@@ -2,6 +2,8 @@
 -- the lane's last ticket, what is declared, the other lanes and queues, the place of a task, whether a
 -- version or a figure was published, the requests that are pending at queues which do not own the entry,
 -- and whether a stop was served at rest or the end was drawn.
+-- For the definitions of `Replies`, `Serial` and `Step`, and so for the laws `replies`, `one_serial_history` and
+-- others; cited by `lb_cell`, `lb_draw` and other crates.
 use Rattle.std.specs.Prelude.{ℕ, ◌==◌, nat_lt, Bool, true, false, not, ◌&&◌, ◌||◌, Option, Some, None, is_some, length, find}
 use Rattle.std.specs.List.{slice_index_or, range_with_len, list_any, list_all}
 use Rattle.lb_base.specs.declared.mask.Mask.{Mask}

@@ -1,5 +1,6 @@
 -- What a list of entries says of one lane: its next entry, those that come before and after that, and
 -- what the lane said last.
+-- For the definitions of `Passes` and `Replies`, and so for the laws `permitted` and `replies`.
 use Rattle.std.specs.Prelude.{ℕ, ◌==◌, if◌then◌else◌, Option, Some, None, List, [], ◌∷◌}
 use Rattle.lb_base.specs.declared.shape.Kind.{Kind}
 use Rattle.lb_core.specs.declared.entry.What.{What}

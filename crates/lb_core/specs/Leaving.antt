@@ -1,6 +1,8 @@
 -- The `out` that is due at a queue, whole: why tasks leave it and where they go, the tasks in the
 -- hand, and the queue that they leave behind. It is a wake to a CPU that the task's mask has, a stop,
 -- a push or a pull, by the form of the course.
+-- For the definitions of `CourseAfter`, `QueueAfter` and `Rules`, and so for the laws `turns_stay_open`, `replies`
+-- and others; cited by `lb_cell`, `lb_course` and other crates.
 use Rattle.std.specs.Prelude.{ℕ, true, false, Option, Some, None, List}
 use Rattle.lb_detach.specs.declared.Env.{Env}
 use Rattle.lb_queue.specs.declared.answers.Stop.{Stop}

@@ -3,6 +3,8 @@
 -- legal history where the end was drawn, as the machine's flag `ended` says; nothing may be added then,
 -- so the end is the last entry. Whether what an entry says is in range is not asked here: `Ranges` says
 -- it.
+-- For the definitions of `Choices`, `OfTrace` and others, and so for the laws `choices`, `turns_stay_open` and
+-- others; cited by `lb`, `lb_audit` and other crates.
 use Rattle.std.specs.Prelude.{ℕ, ◌+◌, ◌≡◌, Bool, true, false, Option, Some, None, List, [], ◌∷◌}
 use Rattle.lb_trace.specs.declared.trace.Header.{Header}
 use Rattle.lb_core.specs.declared.entry.Entry.{Entry}

@@ -1,6 +1,8 @@
 -- The state of the machine after some entries: the queues with all their figures so far, the courses
 -- of the lanes, the published versions, and a map from each task to its place; the opening state; and
 -- what the step of an entry reads of all that.
+-- For the definitions of `Choices`, `Elsewhere` and others, and so for the laws `choices`, `turns_stay_open` and
+-- others; cited by `lb`, `lb_act` and other crates.
 use Rattle.std.specs.Prelude.{ℕ, ◌+◌, ◌-◌, ◌==◌, Bool, false, if◌then◌else◌, Option, None, List, [], ◌∷◌, map, length, replicate}
 use Rattle.std.specs.List.{slice_index_or, range_with_len}
 use Rattle.lb_base.specs.declared.mask.Mask.{Mask}

@@ -1,4 +1,5 @@
 -- How each rule of a legal history is printed.
+-- Cited by the contract of `Rule::name`; also by `lb`.
 use Rattle.std.specs.Prelude.{ℕ, List, codes}
 use Rattle.lb_core.specs.declared.rule.Rule.{Rule}
 use Rattle.lb_core.specs.declared.rule.Rule.TheVariants.{Ticket, Prev, Stage, Row, Place, Reply, Version, Figure, Decision, Pick, Flight, Counters, Owed, End}

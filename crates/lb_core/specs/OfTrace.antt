@@ -1,5 +1,6 @@
 -- When a history is one of a trace: it is legal, has the trace's header, and holds each lane's rows
 -- once, in file order.
+-- For the definitions of `Serial`, and so for the law `one_serial_history`; cited by `lb`, `lb_cpu` and other crates.
 use Rattle.std.specs.Prelude.{ℕ, ◌≡◌, ◌==◌, List, [], ◌∷◌, ◌++◌, filter}
 use Rattle.lb_trace.specs.declared.trace.Row.{Row}
 use Rattle.lb_trace.specs.declared.trace.Trace.{Trace}

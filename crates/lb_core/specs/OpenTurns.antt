@@ -1,6 +1,7 @@
 -- The law that turns stay open: after every legal front, what a lane in a turn took up is a published
 -- version; its turn is open, at positions of its CPU's domains, at the queue of that CPU until the lane
 -- ends it; and the position in work is one of them.
+-- Cited by the law `turns_stay_open`; also by `lb_engine`, `lb_judge` and other crates.
 use Rattle.std.specs.Prelude.{◌≡◌, ℕ, ◌<◌, ◌≤◌, true, Some, List, length}
 use Rattle.lb_base.specs.declared.mask.Mask.{Mask}
 use Rattle.lb_base.specs.Mask.{has}

@@ -8,6 +8,7 @@
 -- CPU that balances. Once that has landed, the lane looks at this position again exactly where something
 -- was examined, all of it was pinned, and a CPU of the span outside the local group is left that was no
 -- source.
+-- Cited by the law `permitted`; also by `lb`.
 use Rattle.std.specs.Prelude.{ℕ, zero, suc, ◌≡◌, ◌≤◌, ◌<◌, ◌+◌, Bool, true, not, ◌&&◌, if◌then◌else◌, Option, Some, None, unwrap_or, List, [], ◌∷◌, ◌++◌, length, map, All}
 use Rattle.std.specs.List.{slice_index_or}
 use Rattle.lb_base.specs.declared.mask.Mask.{Mask}

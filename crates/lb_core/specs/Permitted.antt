@@ -1,6 +1,7 @@
 -- The law Permitted: after every legal front each task that is awake on a queue may run there or is
 -- asked to leave, and each task in a hand may run where the hand goes. From entry to entry this is kept
 -- together with what Placed keeps and with a third thing: each queue is its CPU's, and no mask is empty.
+-- Cited by the laws `permitted` and `permitted_stays`; also by `lb` and `lb_ready`.
 use Rattle.std.specs.Prelude.{ℕ, ◌≡◌, ◌<◌, Bool, true, false, ◌||◌, List, length, All}
 use Rattle.lb_base.specs.Mask.{has}
 use Rattle.lb_base.specs.Sets.{is_empty}

@@ -2,6 +2,7 @@
 -- one list of one queue or in one hand, and that is its place in the map; and no other number stands
 -- anywhere. From entry to entry this is kept together with a second thing: a hand is empty unless its
 -- lane is in flight. A task in a hand is awake.
+-- Cited by the laws `placed` and `placed_stays`; also by `lb`, `lb_cell` and other crates.
 use Rattle.std.specs.Prelude.{ℕ, ◌≡◌, nat_lt, Bool, true, false, ◌&&◌, if◌then◌else◌, List, [], length}
 use Rattle.lb_queue.specs.Tasks.{ids, awake_ids, occurs}
 use Rattle.lb_trace.specs.declared.trace.Header.{Header}

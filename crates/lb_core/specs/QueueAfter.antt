@@ -1,5 +1,7 @@
 -- The queue that an entry of it leaves: one step of the queue for each kind of entry, with the values
 -- that the course of its lane fixes.
+-- For the definitions of `CourseAfter`, `OpenTurns` and others, and so for the laws `turns_stay_open`, `replies` and
+-- others; cited by `lb_act`, `lb_cell` and other crates.
 use Rattle.std.specs.Prelude.{ℕ, Option, Some, None, unwrap_or}
 use Rattle.lb_queue.specs.declared.answers.Reply.{Reply}
 use Rattle.lb_queue.specs.declared.answers.Reply.TheVariants.{Done as DoneReply}

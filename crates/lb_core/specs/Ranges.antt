@@ -1,6 +1,7 @@
 -- What an entry may be: its numbers are in the ranges of its text, a lane's own entry is drawn by that
 -- lane, figures are of rising CPUs, there is at least one figure and at least one mask of a partition,
 -- and no answer says that a task is not there.
+-- Cited by `lb`, `lb_audit` and other crates.
 use Rattle.std.specs.Prelude.{ℕ, ◌+◌, ◌==◌, nat_lt, nat_le, Bool, true, false, ◌&&◌, List, [], ◌∷◌, Option, Some, None}
 use Rattle.std.specs.List.{list_all}
 use Rattle.lb_imbalance.specs.declared.decision.Decision.{Decision}

@@ -2,6 +2,7 @@
 -- its lane's next entry, which is drawn by the queue where the row's task then stands, by the queue of
 -- the CPU that it ticks, or by the publisher; and its value is what the queue, as it then is, answers
 -- to the command, or the next version.
+-- Cited by the law `replies`; also by `lb`.
 use Rattle.std.specs.Prelude.{ℕ, ◌≡◌, ◌+◌, Bool, true, false, Option, Some, None, List, [], ◌∷◌, ◌++◌, length}
 use Rattle.lb_queue.specs.declared.answers.OutCause.TheVariants.{Wake as WakeOut}
 use Rattle.lb_queue.specs.declared.answers.Reply.{Reply}

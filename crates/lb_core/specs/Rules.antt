@@ -1,6 +1,8 @@
 -- Which rules an entry breaks by what its own step reads, the rule `stage` of its course among them.
 -- Each rule is a test of one field or two against the value that the course, the queue and the named
 -- figures fix.
+-- For the definitions of `Step`, and so for the laws `permitted`, `permitted_stays` and others; cited by `lb_cell`,
+-- `lb_due` and other crates.
 use Rattle.std.specs.Prelude.{ℕ, ◌+◌, max, ◌==◌, nat_lt, Bool, true, false, not, ◌&&◌, ◌||◌, Option, Some, None, is_some, is_none, List, map, length}
 use Rattle.std.specs.List.{list_any, list_all}
 use Rattle.lb_base.specs.declared.mask.Mask.{Mask}

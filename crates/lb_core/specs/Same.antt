@@ -1,5 +1,7 @@
 -- Equality of the plain values that entries are made of, as tests that can be computed: lists of
 -- numbers, owners, kinds of turns, replies, causes, outcomes, decisions, masks and places.
+-- For the definitions of `Elsewhere`, `Passes` and others, and so for the laws `permitted`, `placed` and others;
+-- cited by `lb_cell`, `lb_end` and other crates.
 use Rattle.std.specs.Prelude.{ℕ, ◌==◌, Bool, true, false, ◌&&◌, Option, Some, None, List, [], ◌∷◌}
 use Rattle.lb_base.specs.declared.mask.Mask.{Mask}
 use Rattle.lb_base.specs.declared.shape.Kind.{Kind}

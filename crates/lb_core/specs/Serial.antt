@@ -2,6 +2,7 @@
 -- next is taken up, and what a lane takes up or reads is always the newest: the last published
 -- version, and each queue's last figure. The law says that a trace has at most one: at each place the
 -- serial run has one entry to draw, and it ends at one place.
+-- Cited by the law `one_serial_history`; also by `lb`, `lb_ready` and `lb_serial`.
 use Rattle.std.specs.Prelude.{◌≡◌, ◌==◌, Bool, true, List, [], ◌∷◌, length}
 use Rattle.std.specs.List.{list_all}
 use Rattle.lb_trace.specs.declared.trace.Trace.{Trace}

@@ -1,6 +1,8 @@
 -- A sight is all that the step of one entry reads of its own: the header, the course of its lane,
 -- its owner's queue and how many entries its owner drew, and the masks or figures that it names.
 -- What an entry needs of the rest of the machine is no part of it.
+-- For the definitions of `CourseAfter`, `Leaving` and others, and so for the laws `permitted`, `choices` and others;
+-- cited by `lb_cell`, `lb_course` and other crates.
 use Rattle.std.specs.Prelude.{ℕ, ◌==◌, Option, Some, None, List, map, find}
 use Rattle.std.specs.List.{range_with_len}
 use Rattle.lb_base.specs.declared.mask.Mask.{Mask}

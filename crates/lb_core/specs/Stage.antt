@@ -1,6 +1,8 @@
 -- What a lane may draw next, and whose the entry is: the middle column of the table in
 -- docs/rules/lanes.md, by the forms of a course. The other fields of the entry are fixed by the rules that
 -- come after `stage`.
+-- For the definitions of `CourseAfter`, `Elsewhere` and `Rules`, and so for the laws `replies`, `one_serial_history`
+-- and others; cited by `lb_cell`, `lb_course` and other crates.
 use Rattle.std.specs.Prelude.{ℕ, ◌==◌, Bool, true, false, not, ◌&&◌, ◌||◌, if◌then◌else◌, Option, Some, None, is_some}
 use Rattle.lb_base.specs.declared.shape.Kind.{Kind}
 use Rattle.lb_base.specs.declared.shape.Kind.TheVariants.{Tick as TickTurn}

@@ -1,6 +1,8 @@
 -- One step of the machine: the first rule that an entry at the next ticket breaks, and the state that
 -- it leaves. An entry changes the last ticket, one course and that lane's last ticket, at most one
 -- queue with its figures, and the places of the tasks that it moves.
+-- For the definitions of `Legal`, `Passes` and others, and so for the laws `permitted`, `permitted_stays` and others;
+-- cited by `lb`, `lb_audit` and other crates.
 use Rattle.std.specs.Prelude.{ℕ, ◌+◌, Bool, true, ◌||◌, Option, Some, List, [], ◌∷◌, ◌++◌, length, find, slice_set}
 use Rattle.lb_base.specs.declared.mask.Mask.{Mask}
 use Rattle.lb_base.specs.declared.figure.Fig.{Fig}

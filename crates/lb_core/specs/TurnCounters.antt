@@ -1,6 +1,7 @@
 -- The law that counters fit the topology: after every legal front the version for which a queue keeps
 -- counters was published; its counters are as many as its CPU has domains in that version; and an open
 -- turn has counters, and balances positions of these domains alone.
+-- Cited by the law `turns_fit`; also by `lb_ready`.
 use Rattle.std.specs.Prelude.{ℕ, ◌≡◌, ◌≤◌, ◌<◌, true, IfSome, IsSome, List, length}
 use Rattle.lb_base.specs.Mask.{has}
 use Rattle.lb_domain.specs.Domains.{domains_of}

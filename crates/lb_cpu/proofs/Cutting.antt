@@ -1,4 +1,5 @@
 -- The seats of a new book, cut up by whose they are: the lists, and what is kept of each.
+-- For `cut` and `Blank::new`.
 use Rattle.std.proofs.Common.{ℕ, ◌≡◌, ◌+◌, ◌≤◌, List, [], ◌∷◌, ◌++◌, take, drop, length, refl, sym, ap, subst, ◌∙◌, arith}
 use Rattle.std.proofs.lemmas.List.{take-append-drop, length-append}
 use Rattle.atomic_table.specs.Seated.{TableId}

@@ -1,4 +1,5 @@
 -- By an `out` a course comes into flight, and has what left in its hand.
+-- For `take_at`, `leave_at` and `serve_at`.
 use Rattle.std.proofs.Common.{ℕ, ◌≡◌, ◌∙◌, ◌<◌, Bool, true, false, Option, Some, None, List, length, if◌then◌else◌, refl, sym, subst, ap}
 use Rattle.std.proofs.lemmas.Option.{same_Some}
 use Rattle.lb_detach.specs.declared.Env.{Env}

@@ -1,4 +1,5 @@
--- A row that a lane took up is in service.
+-- A row that a lane took up is in service: its command is that of the lane's course.
+-- For `Cpus::command` and `Cpus::take_up`.
 use Rattle.std.proofs.Common.{ℕ, ◌≡◌, ◌∙◌, ◌+◌, Some, Result, Ok, Err, IfOk, OnOk, All, List, [], slice_get, true, refl, sym, subst, ap}
 use Rattle.std.proofs.lemmas.Option.{same_Some, slice_get-get_or, slice_get_within}
 use base.Stored.{Coded}

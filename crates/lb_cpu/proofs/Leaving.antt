@@ -1,4 +1,5 @@
 -- What is left of the owners of lists, put together: the seats of all, and what is kept of their lists.
+-- For `Cpus::rest`.
 use Rattle.std.proofs.Common.{◌≤◌, ℕ, ◌≡◌, inl, inr, ◌+◌, ◌<◌, zero, suc, Bool, true, false, ◌&&◌, ◌==◌, Some, List, [], ◌∷◌, ◌++◌, map, length, slice_get, slice_index_or, get_or, All, refl, sym, ap, subst, ◌∙◌, arith}
 use Rattle.std.proofs.lemmas.Option.{slice_get-get_or, slice_get_within}
 use Rattle.std.proofs.lemmas.List.{length-append, get_or_past}
@@ -56,7 +57,8 @@ numbered_at t k (s ∷ ss) h =
 again : (t : TableId) (j k : ℕ) (ss : Seats) → j ≡ k → Numbered t j ss → Numbered t k ss
 again t j k ss e h = subst (λ (n : ℕ). Numbered t n ss) e h
 
-pub numbered_join : (t : TableId) (k : ℕ) (xs ys : Seats) → Numbered t k xs → Numbered t (k + length xs) ys → Numbered t k (xs ++ ys)
+pub numbered_join : (t : TableId) (k : ℕ) (xs ys : Seats) → Numbered t k xs → Numbered t (k + length xs) ys
+    → Numbered t k (xs ++ ys)
 numbered_join t k [] ys hx hy = again t (k + 0) k ys (omega arith) hy
 numbered_join t k (x ∷ xs) ys hx hy = (
   hx.0,
@@ -378,7 +380,8 @@ module _ (h : Header) (book : TableId) (board : List TableId) (versions : Book) 
         read = y.2.read;
         rows =
             ap (λ (es : List Entry). rows_drawn es)
-            (ap (λ (ds : List (Drawn Journal)). map (λ (d : ℕ × Journal). d.1.entry) (map pair ds)) (list_at all (k + 1) y.0 there)
+            (ap (λ (ds : List (Drawn Journal)). map (λ (d : ℕ × Journal). d.1.entry) (map pair ds))
+            (list_at all (k + 1) y.0 there)
             ∙ unpaired y.0.list)
             ∙ y.2.rows;
         rest = λ one form some. rests y.0 k l one form some y.2.last l.side.known.ticket refl;

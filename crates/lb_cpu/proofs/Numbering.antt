@@ -1,4 +1,5 @@
 -- What holds of each item with its number, as lists are cut, joined and taken from.
+-- For `end_lanes` and `new_lanes`.
 use Rattle.std.proofs.Common.{ℕ, ◌≡◌, ◌+◌, List, [], ◌∷◌, ◌++◌, length, subst, arith}
 use Rattle.lb_cpu.specs.Numbering.{EachFrom}
 
@@ -30,4 +31,8 @@ module _ {A : Type 0} where
   pub each_as : (P Q : ℕ → A → Type 0) (b k : ℕ) (xs : List A) → ((n : ℕ) (x : A) → P (b + n) x → Q n x)
       → EachFrom P (b + k) xs → EachFrom Q k xs
   each_as P Q b k [] f h = tt
-  each_as P Q b k (x ∷ xs) f h = (f k x h.0, each_as P Q b (k + 1) xs f (each_moved P (b + k + 1) (b + (k + 1)) xs (omega arith) h.1))
+  each_as P Q b k (x ∷ xs) f h = (
+    f k x h.0,
+    each_as P Q b (k + 1) xs f
+        (each_moved P (b + k + 1) (b + (k + 1)) xs (omega arith) h.1),
+  )

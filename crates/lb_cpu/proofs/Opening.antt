@@ -1,4 +1,5 @@
 -- What the cells and the lanes of an accepted trace are made of fits.
+-- For `Blank::new`.
 use Rattle.std.proofs.Common.{ℕ, ◌≡◌, ◌==◌, ◌+◌, ◌≤◌, ◌<◌, zero, suc, Bool, true, false, cond, Some, List, [], ◌∷◌, ◌++◌, map, replicate, length, slice_get, slice_index_or, refl, sym, ap, subst, ◌∙◌, arith}
 use Rattle.std.specs.List.{range_with_len, list_all}
 use Rattle.std.proofs.lemmas.Bool.{and_parts, eqb-true}

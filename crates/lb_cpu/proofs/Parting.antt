@@ -1,4 +1,5 @@
 -- A cell and a lane that were taken apart: what they kept is known of what is left.
+-- For `Cpus::rest`, `end_cell` and `end_lane`.
 use Rattle.std.proofs.Common.{◌≤◌, ℕ, zero, suc, true, ◌≡◌, inl, inr, ◌+◌, Option, Some, None, List, [], ◌∷◌, ◌++◌, map, length, slice_get, All, refl, sym, ap, subst, ◌∙◌, arith}
 use Rattle.std.proofs.lemmas.Option.{same_Some, slice_get_within}
 use Rattle.std.proofs.lemmas.List.{length-map}
@@ -57,7 +58,8 @@ left_cell h book board c cpu q s w eq log keeps is =
 
 -- ---- a lane
 lasts : (book : TableId) (left : Coded Left) (cpus lane : ℕ) (course : Course) (ticket : ℕ) (s : SeatIs Journal)
-    (known : List Fact) (o : Option NoteIs) → IsLast book left cpus lane course ticket o → (1 ≤ lane → s.known ≡ known ++ facts_of o)
+    (known : List Fact) (o : Option NoteIs) → IsLast book left cpus lane course ticket o
+    → (1 ≤ lane → s.known ≡ known ++ facts_of o)
     → (ticket ≡ 0 → s.list ≡ []) → KnowsLast left cpus lane course ticket s
 lasts book left cpus lane course ticket s known None h e first = record {
   none = λ z. (first z, h.1);

@@ -1,4 +1,5 @@
 -- The items of lists at their places: of joined, longer and mapped lists.
+-- For `end_cells` and `end_lanes`.
 use Rattle.std.proofs.Common.{ℕ, ◌≡◌, ◌⊎◌, inl, inr, ◌+◌, ◌<◌, zero, suc, Some, List, [], ◌∷◌, ◌++◌, map, length, slice_get, get_or, All, refl, sym, ap, subst, ◌∙◌, arith}
 use Rattle.std.proofs.lemmas.Option.{none-some, same_Some, slice_get-get_or, slice_get_within}
 use Rattle.lb_cpu.specs.Numbering.{EachOfTwo, EachOfThree}

@@ -1,4 +1,5 @@
 -- A machine comes to rest: what is left of its parts, put together.
+-- For `Cpus::rest`.
 use Rattle.std.proofs.Common.{refl, Option, ℕ, ◌≡◌, List, ◌∷◌, ◌++◌, map, length, slice_get, All, sym, ap, subst, ◌∙◌}
 use mathlib.Core.List.{IsPrefix}
 use base.Stored.{Coded}
@@ -58,21 +59,24 @@ pub versions_seen : (h : Header) (book : TableId) (versions : Book) (p p' : Publ
     (lookers : List VersionsSeen) → p' ≡ p → PublisherKeeps h book versions p → all ≡ p'.seat ∷ rest
     → All (λ l. IsPrefix l.topologies p'.publisher.topologies) lookers → VersionsAreSeen h book versions all lookers
 versions_seen h book versions p p' rest all lookers same keeps all_are seen =
-    let kept : PublisherKeeps h book versions p' = subst (λ (x : PublisherIs). PublisherKeeps h book versions x) (sym same) keeps in
+    let kept : PublisherKeeps h book versions p' = subst (λ (x : PublisherIs). PublisherKeeps h book versions x)
+    (sym same) keeps in
     record {
       topologies = p'.publisher.topologies;
       seat = p'.seat;
       there = ap (λ (ss : List (SeatIs Journal)). slice_get ss 0) all_are;
       kept =
           subst (λ (b : Book). PublisherKeeps h book versions
-          (record { publisher = record { book = b; topologies = p'.publisher.topologies }; seat = p'.seat })) kept.versions_are kept;
+          (record { publisher = record { book = b; topologies = p'.publisher.topologies }; seat = p'.seat }))
+          kept.versions_are kept;
       seen = seen;
     }
 
 -- the note of lane 0
 pub holds_first : (book : TableId) (left : Coded Left) (cpus : ℕ) (lanes : List LaneIs) (notes : List (Option NoteIs))
     → EachOfTwo (LeftNote book left cpus) lanes notes
-    → HoldsFirst book left cpus (map (λ (l : LaneIs). l.side.course) lanes) (map (λ (l : LaneIs). l.side.known.ticket) lanes) notes
+    → HoldsFirst book left cpus (map (λ (l : LaneIs). l.side.course) lanes)
+    (map (λ (l : LaneIs). l.side.known.ticket) lanes) notes
 holds_first book left cpus lanes notes of c t note at_c at_t at_n =
     let l = of_mapped (λ (l : LaneIs). l.side.course) lanes 0 c at_c in
     let m = of_mapped (λ (l : LaneIs). l.side.known.ticket) lanes 0 t at_t in

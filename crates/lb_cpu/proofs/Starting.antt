@@ -1,4 +1,5 @@
 -- What the cells and the lanes are made of is taken one by one, and fits.
+-- For `new_lanes` and `new_lane`.
 use Rattle.std.proofs.Common.{ℕ, ◌≡◌, ◌+◌, true, ◌&&◌, nat_lt, nat_le, List, ◌∷◌, length, All, ap, arith}
 use Rattle.std.specs.List.{list_all}
 use Rattle.std.proofs.lemmas.Bool.{and_parts}
@@ -99,4 +100,9 @@ declared_rows h rows e =
     (all_index (is_row h) rows e)
 
 pub can_be_read : (h : Header) → IsHeader h → CanBeRead h.cpus h.distances
-can_be_read h accepted = record { some = let s = accepted.some_cpu in omega arith; few = accepted.most_cpus; good = accepted.machine }
+can_be_read h accepted = record {
+  some = let s = accepted.some_cpu in omega arith;
+  few = accepted.most_cpus;
+  good =
+      accepted.machine;
+}

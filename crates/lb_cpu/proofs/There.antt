@@ -1,4 +1,5 @@
 -- An entry that a lane drew at a queue, or nothing, and that it then read the queue's list, are as every call says them.
+-- For `answer_at`, `close_at`, `serve_at` and others.
 use Rattle.std.proofs.Common.{ℕ, ◌≡◌, ◌∙◌, List, ◌++◌, map}
 use base.Stored.{Coded}
 use Rattle.atomic_table.specs.Seated.{TableId}

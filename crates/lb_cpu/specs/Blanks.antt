@@ -1,5 +1,6 @@
 -- What the locks and the lanes of a machine are made of, before any entry: of each CPU its queue, its seat and its
 -- writer; of each lane its rows, its seat, its reader and its looker; and the publisher with its seat.
+-- Cited by the contracts of `new_cells`, `new_lane` and `new_lanes`; also by `lb_thread_tests`.
 use Rattle.std.specs.Prelude.{ℕ, ◌≡◌, ◌+◌, ◌<◌, ◌≤◌, true, List, [], ◌∷◌, Some, length, slice_get, All}
 use Rattle.std.specs.List.{list_all}
 use Rattle.atomic_table.specs.Seated.{TableId}

@@ -1,5 +1,6 @@
 -- How a row of a lane is served: by the answer of a queue, by a wake that leaves one queue and lands at another, or by the
 -- publication of a version.
+-- Cited by the contracts of `answer_at`, `Cpus::command`, `Cpus::wake` and others; also by `lb_service`.
 use Rattle.std.specs.Prelude.{ℕ, ◌≡◌, ◌⊎◌, true, Some, List}
 use mathlib.Core.List.{IsPrefix}
 use base.Stored.{Coded}
@@ -43,7 +44,7 @@ pub record Answered (h : Header) (book : TableId) (board : List TableId) (code :
   pub answer : reply ≡ (answer_to l.side.course.command l.side.course.at there.before.queue.state).0
 
 -- the woken task, which has to wake where the hand goes, left the queue of a CPU in the hand
-pub record LeftToWake (h : Header) (book : TableId) (board : List TableId) (code : Coded Journal) (l l' : LaneIs)
+pub record DepartedToWake (h : Header) (book : TableId) (board : List TableId) (code : Coded Journal) (l l' : LaneIs)
     (hand : HandState) : Type 0 where
   pub cpu : ℕ
   pub there : DrewThere h book board code l l' cpu (Out Wake hand.to (ids hand.tasks))
@@ -55,7 +56,7 @@ pub record WokeElsewhere (h : Header) (book : TableId) (board : List TableId) (c
     (reply : Reply) : Type 0 where
   pub mid : LaneIs
   pub hand : HandState
-  pub left : LeftToWake h book board code l mid hand
+  pub left : DepartedToWake h book board code l mid hand
   pub landed : DrewThere h book board code mid l' hand.to (Landed (ids hand.tasks))
   pub answer : reply ≡ Done
 

@@ -1,5 +1,6 @@
 -- What the run queues of a machine behind their locks show to contracts, and keep: what a trace declares, the ticket book,
 -- the board, how many queues there are, and the seats of the lanes that the trace does not have.
+-- What contracts see of the type `Cpus`.
 use Rattle.std.specs.Prelude.{ℕ, ◌≡◌, ◌+◌, List, length}
 use Rattle.atomic_table.specs.Seated.{TableId}
 use Rattle.lb_levels.specs.Rows.{Layout, layout_of}

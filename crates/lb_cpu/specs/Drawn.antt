@@ -1,5 +1,7 @@
 -- One entry that a lane drew at the queue of a CPU behind its lock, or what it saw there. What stood behind the lock no
 -- clause can name; so the lane reads the queue's list in the same hold, and what a lane has read stands in the closed lists.
+-- Cited by the contracts of `Cpus::over`, `Cpus::land`, `over_at` and `land_at`; also by `lb_lane_laws`, `lb_pass`
+-- and `lb_service`.
 use Rattle.std.specs.Prelude.{ℕ, ◌≡◌, List, ◌++◌, map}
 use base.Stored.{Coded}
 use Rattle.atomic_table.specs.Seated.{TableId}

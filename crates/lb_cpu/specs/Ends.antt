@@ -1,5 +1,6 @@
 -- What is left of each cell and of each lane when the locks and the lanes of a machine are taken apart, and what is known of
 -- the lanes then.
+-- Cited by the contracts of `end_cells`, `end_lanes`, `Cpus::rest` and others; also by `lb_threads`.
 use Rattle.std.specs.Prelude.{ℕ, Option, ◌≤◌, ◌≡◌, ◌+◌, ◌<◌, true, false, List, [], ◌++◌, Some, length, map, take, slice_get, All}
 use mathlib.Core.List.{IsPrefix}
 use base.Stored.{Coded}

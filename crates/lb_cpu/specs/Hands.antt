@@ -1,4 +1,6 @@
 -- Tasks in the hand of a lane, on their way from the queue that they left to the one where they land.
+-- Cited by the contracts of `Cpus::land`, `Cpus::out_due`, `Cpus::take` and others; also by `lb_pass` and
+-- `lb_service`.
 use Rattle.std.specs.Prelude.{ℕ, ◌≡◌, ◌<◌, Option, Some, None, List, length}
 use base.Stored.{Coded}
 use Rattle.atomic_table.specs.Seated.{TableId}
@@ -33,7 +35,7 @@ pub record TookThere (h : Header) (book : TableId) (board : List TableId) (code 
   pub flies : InFlight h l'.side.course Pull hand
 
 -- what was due at the queue of the ticked CPU left it, or nothing was due there
-pub record LeftDue (h : Header) (book : TableId) (board : List TableId) (code : Coded Journal) (l l' : LaneIs) (cpu : ℕ)
+pub record DepartedDue (h : Header) (book : TableId) (board : List TableId) (code : Coded Journal) (l l' : LaneIs) (cpu : ℕ)
     (hand : HandState) : Type 0 where
   pub cause : OutCause
   pub there : DrewThere h book board code l l' cpu (Out cause hand.to (ids hand.tasks))
@@ -47,5 +49,5 @@ pub record NoneDue (h : Header) (book : TableId) (board : List TableId) (code : 
   pub none : out_target l.side.course saw.before.queue.state ≡ None
 
 abbrev pub OutDue : Header → TableId → List TableId → Coded Journal → LaneIs → LaneIs → ℕ → Option HandState → Type 0
-OutDue h book board code l l' cpu (Some hand) = LeftDue h book board code l l' cpu hand
+OutDue h book board code l l' cpu (Some hand) = DepartedDue h book board code l l' cpu hand
 OutDue h book board code l l' cpu None = NoneDue h book board code l l' cpu

@@ -1,4 +1,6 @@
 -- A fact about each item of a list and its number, or about those of two or three lists at one place.
+-- Cited by the contracts of `end_cells`, `end_lanes`, `Cpus::rest` and others; also by `lb_thread_tests` and
+-- `lb_threads`.
 use Rattle.std.specs.Prelude.{ℕ, ◌≡◌, ◌+◌, List, [], ◌∷◌, Some, length, slice_get}
 
 -- it holds of each item with its number; the first has the number k

@@ -1,4 +1,5 @@
--- A lane as it is made, before any entry.
+-- A lane as it is made, before any entry: its number, the opening course, and no entry in its list.
+-- Cited by the contracts of `Cpus::start`, `new_lane` and `new_lanes`; also by `lb_threads`.
 use Rattle.std.specs.Prelude.{ℕ, ◌≡◌, [], length}
 use Rattle.lb_trace.specs.declared.trace.Header.{Header}
 use Rattle.lb_core.specs.Course.{opening_course}

@@ -1,5 +1,6 @@
 -- What a lane draws in a turn of a CPU: the turn that it opens over a version which it chose, the close of a position, and
 -- what it asks of other queues.
+-- Cited by the contracts of `Cpus::close`, `Cpus::over`, `due_at` and others; also by `lb_pass` and `lb_service`.
 use Rattle.std.specs.Prelude.{ℕ, ◌≡◌, ◌<◌, List, length, unwrap_or}
 use base.Stored.{Coded}
 use Rattle.atomic_table.specs.Seated.{TableId}

@@ -1,3 +1,4 @@
+//! What lanes of a machine share: its queues and its publisher, each behind a lock, the ticket book and the board.
 use lb_board::Board;
 use lb_cell::{Cell, Names, Shared};
 use lb_journal::Journal;

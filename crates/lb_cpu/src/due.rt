@@ -1,3 +1,4 @@
+//! At which CPU a lane draws its next entry.
 ghost use Rattle.std.specs.Prelude.{◌≡◌};
 ghost use Rattle.lb_cpu.specs.Turns.{due_at};
 

@@ -3,7 +3,7 @@ ghost use Rattle.std.specs.Prelude.{◌≡◌, ◌<◌, [], Some, IfOk, IfSome, 
 ghost use Rattle.lb_cell.specs.Draws.{IsDueAt};
 ghost use Rattle.lb_cell.specs.Serving.{out_target};
 ghost use Rattle.lb_core.specs.declared.course.Form.TheVariants as form;
-ghost use Rattle.lb_cpu.specs.Hands.{LeftDue, NoneDue, OutDue};
+ghost use Rattle.lb_cpu.specs.Hands.{DepartedDue, NoneDue, OutDue};
 ghost use Rattle.lb_cpu.specs.Turns.{IsDue, due_at};
 
 use crate::booking::make_room;
@@ -31,7 +31,7 @@ fn serve_at<N: Names + Versions, R: Wait>(
     requires target { out_target lane.old.side.course cell.old.queue.state ≡ Some hand.old.to }
     requires hand { (hand.old.tasks ≡ []) × (0 < hand.old.room) }
     requires declared { hand.old.to < length N.header.cpus }
-    ensures ok { OnOk result (LeftDue N.header N.book N.board ⟦<Journal as Coding>⟧.coding lane.old lane.new
+    ensures ok { OnOk result (DepartedDue N.header N.book N.board ⟦<Journal as Coding>⟧.coding lane.old lane.new
         cell.old.log.writer.cpu hand.new) }
     ensures to { OnOk result (hand.new.to ≡ hand.old.to) }
     ensures refused { OnErr result ((lane.new ≡ lane.old) × (hand.new ≡ hand.old)) }
@@ -87,7 +87,7 @@ impl<N: Names + Versions> Cpus<N> {
         requires hand { (hand.old.tasks ≡ []) × (0 < hand.old.room) }
         requires declared { hand.old.to < length N.header.cpus }
         ensures left { IfOk result (λ b. MatchBool b
-            (LeftDue N.header N.book N.board ⟦<Journal as Coding>⟧.coding lane.old lane.new (due_at lane.old.side.course)
+            (DepartedDue N.header N.book N.board ⟦<Journal as Coding>⟧.coding lane.old lane.new (due_at lane.old.side.course)
             hand.new)
             ((lane.new ≡ lane.old) × (hand.new ≡ hand.old))) }
         ensures to { hand.new.to ≡ hand.old.to }
@@ -113,7 +113,7 @@ impl<N: Names + Versions> Cpus<N> {
         to: u32,
     ) -> Result<Option<Hand>, NoMemory>
         requires { IsDue N.header form.Serving lane.old.side.course }
-        ensures left { IfOk result (λ o. IfSome o (λ hand. LeftDue N.header N.book N.board ⟦<Journal as Coding>⟧.coding
+        ensures left { IfOk result (λ o. IfSome o (λ hand. DepartedDue N.header N.book N.board ⟦<Journal as Coding>⟧.coding
             lane.old lane.new (due_at lane.old.side.course) hand)) }
         ensures none { IfOk result (λ o. IfNone o (lane.new ≡ lane.old)) }
         ensures refused { OnErr result (lane.new ≡ lane.old) }

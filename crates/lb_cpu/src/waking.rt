@@ -2,7 +2,7 @@
 ghost use Rattle.std.specs.Prelude.{◌≡◌, ◌<◌, [], Some, IfOk, IfSome, IfNone, MatchBool, OnOk, OnErr, length};
 ghost use Rattle.lb_cell.specs.Hands.{WakesElsewhere};
 ghost use Rattle.lb_core.specs.declared.course.Form.TheVariants as form;
-ghost use Rattle.lb_cpu.specs.Commands.{LeftToWake, Woke, WokeElsewhere, IsWake, HereOrAway};
+ghost use Rattle.lb_cpu.specs.Commands.{DepartedToWake, Woke, WokeElsewhere, IsWake, HereOrAway};
 ghost use Rattle.lb_trace.specs.declared.trace.Command.TheVariants as command;
 
 use crate::booking::make_room;
@@ -38,7 +38,7 @@ fn leave_at<N: Names + Versions, R: Wait>(
     requires wake { WakesElsewhere cell.old.queue.state lane.old.side.course hand.old.to }
     requires hand { (hand.old.tasks ≡ []) × (0 < hand.old.room) }
     requires declared { hand.old.to < length N.header.cpus }
-    ensures ok { OnOk result (LeftToWake N.header N.book N.board ⟦<Journal as Coding>⟧.coding lane.old lane.new hand.new) }
+    ensures ok { OnOk result (DepartedToWake N.header N.book N.board ⟦<Journal as Coding>⟧.coding lane.old lane.new hand.new) }
     ensures to { OnOk result (hand.new.to ≡ hand.old.to) }
     ensures refused { OnErr result ((lane.new ≡ lane.old) × (hand.new ≡ hand.old)) }
 {
@@ -86,7 +86,7 @@ impl<N: Names + Versions> Cpus<N> {
         requires hand { (hand.old.tasks ≡ []) × (0 < hand.old.room) }
         requires declared { hand.old.to < length N.header.cpus }
         ensures left { IfOk result (λ b. MatchBool b
-            (LeftToWake N.header N.book N.board ⟦<Journal as Coding>⟧.coding lane.old lane.new hand.new)
+            (DepartedToWake N.header N.book N.board ⟦<Journal as Coding>⟧.coding lane.old lane.new hand.new)
             ((lane.new ≡ lane.old) × (hand.new ≡ hand.old))) }
         ensures refused { OnErr result ((lane.new ≡ lane.old) × (hand.new ≡ hand.old)) }
     {

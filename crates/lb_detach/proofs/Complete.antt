@@ -1,4 +1,5 @@
 -- What the rule takes is picked, and the examination ends at the least place at which it may.
+-- For the law `picked_is_complete`.
 use Rattle.std.proofs.Common.{◌≡◌, ℕ, ◌+◌, ◌<◌, ◌≤◌, true, false, not, List, length, get_or, sym, ◌∙◌, ap, arith}
 use Rattle.std.specs.List.{range_with_len}
 use Rattle.std.proofs.lemmas.Bool.{not-true, not-false}

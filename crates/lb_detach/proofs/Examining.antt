@@ -1,4 +1,5 @@
 -- What a loop over the places keeps, one place after another, and what it has at its end.
+-- For `picks`.
 use Rattle.std.proofs.Common.{◌≡◌, ℕ, ◌+◌, ◌-◌, ◌<◌, ◌≤◌, Bool, true, false, not, cond, eqb, ltb, leb, ◌&&◌, ◌||◌, List, [], ◌∷◌, ◌++◌, length, get_or, take, below_more, refl, sym, ◌∙◌, ap, arith, add-one}
 use Rattle.std.specs.Prelude.{map, reverse}
 use Rattle.std.specs.List.{range_with_len}
@@ -34,7 +35,8 @@ HasExamined-none env list = record {
 -- the test of the loop is the rule
 pub ends_is : (env : Env) (list : List TaskView) (ids order : List ℕ) (n allowed left took : ℕ)
     → HasExamined env list ids order n allowed left → took ≡ length ids →
-    ends env list n ≡ (eqb left 0 || (env.idle && leb (length list - took) 1) || (env.newly && ltb 0 took) || (leb 32 n && ltb 0 allowed))
+    ends env list n ≡ (eqb left 0 || (env.idle && leb (length list - took) 1) || (env.newly && ltb 0 took) ||
+    (leb 32 n && ltb 0 allowed))
 unfolding ends ids_at
 ends_is env list ids order n allowed left took h e =
     let count : took ≡ length (taken env list n) = e ∙ ap length h.ids_are ∙ length-map (taken env list n) _ in
@@ -104,7 +106,8 @@ unfolding ids_at
 turned list [] = refl
 turned list (n ∷ ns) =
     ap (ids_at list) (reverse-append (n ∷ []) ns) ∙ ids_more list (reverse ns) n
-    ∙ ap (λ (r : List ℕ). r ++ (task_at list n).id ∷ []) (turned list ns) ∙ sym (reverse-append ((task_at list n).id ∷ []) (ids_at list ns))
+    ∙ ap (λ (r : List ℕ). r ++ (task_at list n).id ∷ []) (turned list ns) ∙ sym
+    (reverse-append ((task_at list n).id ∷ []) (ids_at list ns))
 
 pub kept_are : (env : Env) (list : List TaskView) (order rest : List ℕ) (e : ℕ) → examined env list ≡ e
     → order ≡ ids_at list (refused env list e) → rest ≡ map (λ (t : TaskView). t.id) (take (length list - e) list)

@@ -1,4 +1,5 @@
 -- What the flags say of the masks of the examined tasks.
+-- For the law `flags_tell_pinned`.
 use Rattle.std.proofs.Common.{◌≡◌, ℕ, ◌<◌, true, not, ◌&&◌, ◌==◌, ltb, List, length, refl, ap}
 use Rattle.std.proofs.lemmas.Bool.{not-false, ltb-true, lt-ltb, eqb-true, and_parts}
 use Rattle.lb_base.specs.declared.view.TaskView.{TaskView}

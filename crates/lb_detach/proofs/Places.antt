@@ -1,5 +1,7 @@
 -- The places below a number that pass a test: one place more, what holds of each of them, and how
 -- many they are.
+-- For the lemmas of `Complete`, `Examining` and other files, and so for the laws `picked_is_complete`,
+-- `flags_tell_pinned` and others.
 use Rattle.std.proofs.Common.{◌≡◌, ℕ, zero, suc, ◌+◌, ◌<◌, ◌≤◌, Bool, true, false, cond, List, [], ◌∷◌, ◌++◌, length, refl, sym, ◌∙◌, ap, subst, arith, add-one, inl, inr, length-append}
 use Rattle.std.specs.Prelude.{All, Contains, filter}
 use Rattle.std.specs.List.{range_with_len}
@@ -31,7 +33,8 @@ pub each_below : (p : ℕ → Bool) (n : ℕ) → All (λ i. i < n) (places p n)
 each_below p n =
     All-filter p (λ i. i < n) (range_with_len 0 n)
     (All-from_get_or (λ i. i < n) (range_with_len 0 n) 0
-    (λ i lt. let inside : i < n = rw (length-range_with_len 0 n) at lt in rw (get_or-range_with_len 0 n i 0 inside) (omega arith)))
+    (λ i lt. let inside : i < n = rw (length-range_with_len 0 n) at lt in rw (get_or-range_with_len 0 n i 0 inside)
+    (omega arith)))
 
 pub places_contain : (p : ℕ → Bool) (n i : ℕ) → i < n → p i ≡ true → Contains (places p n) i
 places_contain p zero i lt h = absurd (omega arith)
@@ -69,7 +72,13 @@ weaker_one false b h = omega arith
 -- a weaker test passes at no fewer places
 pub no_fewer : (p q : ℕ → Bool) (n : ℕ) → ((i : ℕ) → p i ≡ true → q i ≡ true) → length (places p n) ≤ length (places q n)
 no_fewer p q zero h = omega arith
-no_fewer p q (suc n) h = omega (arith, length-places_suc p n, length-places_suc q n, weaker_one (p n) (q n) (h n), no_fewer p q n h)
+no_fewer p q (suc n) h = omega (
+  arith,
+  length-places_suc p n,
+  length-places_suc q n,
+  weaker_one (p n) (q n) (h n),
+  no_fewer p q n h,
+)
 
 -- where one place fails, fewer pass than there are
 pub fewer : (p : ℕ → Bool) (n i : ℕ) → i < n → p i ≡ false → length (places p n) < n

@@ -1,4 +1,5 @@
 -- What is picked is taken by the rule.
+-- For the law `picked_is_sound`.
 use Rattle.std.proofs.Common.{◌≡◌, ℕ, zero, suc, ◌+◌, ◌<◌, ◌≤◌, Bool, true, false, not, leb, ltb, ◌&&◌, List, length, refl, arith}
 use Rattle.std.specs.Prelude.{All}
 use Rattle.std.proofs.lemmas.List.{length-map}
@@ -26,7 +27,8 @@ not_running env list i h = (or_parts _ _ (or_parts _ _ (or_parts _ _ h).0).0).1
 by_rule : (env : Env) (list : List TaskView) (n : ℕ) → All (λ i. refused_at env list i ≡ false) (taken env list n)
 unfolding taken
 by_rule env list n =
-    All-weaker (λ i. not (refused_at env list i) ≡ true) (λ i. refused_at env list i ≡ false) (λ i t. not-true (refused_at env list i) t)
+    All-weaker (λ i. not (refused_at env list i) ≡ true) (λ i. refused_at env list i ≡ false)
+    (λ i t. not-true (refused_at env list i) t)
     (taken env list n) (each_passes (λ i. not (refused_at env list i)) n)
 
 -- each task that is taken may run at the destination, so no more are taken
@@ -47,7 +49,12 @@ none_free env list n long on = none_of (leb 32 n) (length (free env list n)) (le
 
 taken_suc : (env : Env) (list : List TaskView) (n : ℕ) → length (taken env list (suc n)) ≤ length (taken env list n) + 1
 unfolding taken
-taken_suc env list n = omega (arith, length-places_suc (λ i. not (refused_at env list i)) n, at_most_one (not (refused_at env list n)))
+taken_suc env list n = omega (
+  arith,
+  length-places_suc (λ i. not (refused_at env list i)) n,
+  at_most_one
+      (not (refused_at env list n)),
+)
 
 few_long : (env : Env) (list : List TaskView) (n : ℕ) (b : Bool) → leb 32 n ≡ b → ends env list n ≡ false
     → length (taken env list (suc n)) ≤ 32
@@ -70,5 +77,6 @@ sound env list = record {
       (not_running env list) (picked_places env list) (by_rule env list (examined env list));
   by_rule = by_rule env list (examined env list);
   inside = each_below (λ i. not (refused_at env list i)) (examined env list);
-  few = rw (length-map (picked_places env list) (λ (i : ℕ). (task_at list i).id)) (few env list (examined env list) (goes_on env list));
+  few = rw (length-map (picked_places env list) (λ (i : ℕ). (task_at list i).id))
+      (few env list (examined env list) (goes_on env list));
 }

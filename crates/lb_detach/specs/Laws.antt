@@ -1,5 +1,7 @@
 -- What the picked list promises, whatever the list and the pull: nothing is taken that the rule leaves,
 -- nothing is left that the rule takes, and no task is lost or doubled.
+-- Cited by the laws `picked_is_sound`, `picked_is_complete`, `picked_and_kept_are_the_list` and `flags_tell_pinned`;
+-- also by `lb_queue`.
 use Rattle.std.specs.Prelude.{◌≡◌, ℕ, ◌<◌, ◌≤◌, ◌↔◌, true, false, IsTrue, List, ◌++◌, length, map, All, Contains, IsPermutation}
 use Rattle.lb_base.specs.declared.view.TaskView.{TaskView}
 use Rattle.lb_base.specs.Mask.{has}

@@ -1,6 +1,8 @@
 -- The picked list of a pull. Tasks are named by their place from the back of the queue's list, from 0;
 -- each place is judged with what is left to move before it, and the examination ends at the first
 -- place at which one of its four reasons holds.
+-- Cited by the contracts of `picks`, `is_over`, `is_all_pinned` and `examine`; also by `lb_act`, `lb_cell` and other
+-- crates.
 use Rattle.std.specs.Prelude.{ℕ, zero, suc, ◌-◌, ◌==◌, nat_lt, nat_le, Bool, false, not, ◌&&◌, ◌||◌, if◌then◌else◌, List, ◌++◌, length, take, map, filter, reverse}
 use Rattle.std.specs.List.{range_with_len, slice_index_or, position_or_len}
 use Rattle.lb_base.specs.declared.view.TaskView.{TaskView}

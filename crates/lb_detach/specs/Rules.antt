@@ -1,5 +1,6 @@
 -- When a pull leaves a task where it is, and what taking it moves: its mask lacks the destination, it
 -- is running, it is cache-hot, or it is more than what is left to move.
+-- Cited by the contracts of `is_refused`, `amount` and `examine`; also by `lb_journal_rows` and `lb_rows`.
 use Rattle.std.specs.Prelude.{ℕ, ◌/◌, ◌^◌, min, max, nat_lt, nat_le, Bool, false, not, ◌&&◌, ◌||◌}
 use Rattle.lb_base.specs.declared.view.TaskView.{TaskView}
 use Rattle.lb_base.specs.declared.view.MoveKind.{MoveKind}

@@ -1,5 +1,6 @@
 -- The spans of a machine cut to a partition mask: at each level they fall into those of the level
 -- below, and from level to level they grow.
+-- For the lemmas of `Growing`, and so for the laws `groups_part_the_span` and `spans_grow`.
 use Rattle.std.proofs.Common.{◌≡◌, ℕ, zero, suc, ◌<◌, ◌≤◌, eqb, true, List, length, refl, sym, ◌∙◌, ap, arith}
 use Rattle.std.proofs.lemmas.Bool.{and_parts, and_from, eqb-true, eq-eqb}
 use Rattle.std.proofs.lemmas.Nat.{one_shl}
@@ -31,7 +32,8 @@ in_cut : (cpus : List CpuRow) (table : List (List ℕ)) (part : Mask) (level cpu
     → has (cut_span cpus table part (level_at table level) cpu) k ≡ true
     → (has (span_of cpus table (level_at table level) cpu) k ≡ true) × (has part k ≡ true)
 unfolding cut_span
-in_cut cpus table part level cpu k there = and_parts _ _ (sym (has_both (span_of cpus table (level_at table level) cpu) part k) ∙ there)
+in_cut cpus table part level cpu k there = and_parts _ _
+    (sym (has_both (span_of cpus table (level_at table level) cpu) part k) ∙ there)
 
 cut_from : (cpus : List CpuRow) (table : List (List ℕ)) (part : Mask) (level cpu k : ℕ)
     → has (span_of cpus table (level_at table level) cpu) k ≡ true → has part k ≡ true

@@ -1,4 +1,6 @@
 -- Filters of numbers, and the CPUs of a mask as a filter of those of another.
+-- For the lemmas of `Groupings`, `Rings` and `Sizes`, and so for the laws `domains_are_few`, `groups_part_the_span`
+-- and others.
 use Rattle.std.proofs.Common.{◌≡◌, ℕ, zero, suc, ◌+◌, ◌<◌, ◌≤◌, leb, ltb, Bool, ◌&&◌, not, List, [], ◌∷◌, refl, sym, ◌∙◌, ap, arith, inl, inr}
 use Rattle.std.specs.Prelude.{filter}
 use Rattle.std.specs.List.{range_with_len}
@@ -28,7 +30,8 @@ filter_congr p q a (suc n) same =
     ])
 
 -- the CPUs of a that pass a test
-pub members_passing : (m a : Mask) (q : ℕ → Bool) → ((k : ℕ) → k < 64 → has m k ≡ (has a k && q k)) → members m ≡ filter q (members a)
+pub members_passing : (m a : Mask) (q : ℕ → Bool) → ((k : ℕ) → k < 64 → has m k ≡ (has a k && q k))
+    → members m ≡ filter q (members a)
 unfolding members members_below
 members_passing m a q is =
     filter_congr (has m) (λ k. has a k && q k) 0 64 (λ k lo hi. is k (omega (arith, hi)))

@@ -1,5 +1,6 @@
 -- How the CPUs of a span fall into groups: each CPU is in its own, the CPUs of a group have that
 -- group, and it lies in the span. So the groups in ring order part the span.
+-- For the lemmas of `CutSpans` and `Growing`, and so for the laws `groups_part_the_span` and `spans_grow`.
 use Rattle.std.proofs.Common.{◌≡◌, ℕ, zero, suc, ◌+◌, ◌<◌, ◌≤◌, leb, ltb, Bool, true, false, ◌&&◌, ◌||◌, List, [], ◌∷◌, ◌++◌, map, Option, Some, None, refl, sym, ◌∙◌, ap, subst, arith, inl, inr}
 use Rattle.std.specs.Prelude.{filter, unwrap_or}
 use Rattle.std.specs.List.{range_with_len, slice_index_or, list_all, list_any}
@@ -55,7 +56,8 @@ record IsLeader (group : ℕ → Mask) (span : Mask) (cpu f : ℕ) : Type 0 wher
   small : f < 64
   leading : leads group span f ≡ true
 
-leader : (group : ℕ → Mask) (span : Mask) (cpu : ℕ) → IsGrouping group span → has span cpu ≡ true → (f : ℕ) × IsLeader group span cpu f
+leader : (group : ℕ → Mask) (span : Mask) (cpu : ℕ) → IsGrouping group span → has span cpu ≡ true
+    → (f : ℕ) × IsLeader group span cpu f
 unfolding leads
 leader group span cpu g there =
     let at = least_there (group cpu) cpu (g.small cpu there) (g.own cpu there) in
@@ -165,11 +167,13 @@ unfolding firsts members members_below leading leads
 ring_parts group span cpu f own =
     let lead : ℕ → Bool = λ k. is_first (least (group k)) k in
     let all = range_with_len 0 64 in
-    let kept : (test : ℕ → Bool) → filter test (filter lead (filter (has span) all)) ≡ filter (λ k. (has span k && lead k) && test k) all =
+    let kept : (test : ℕ → Bool) → filter test (filter lead (filter (has span) all)) ≡ filter
+    (λ k. (has span k && lead k) && test k) all =
     λ test. ap (filter test) (filter-filter (has span) lead all) ∙ filter-filter (λ k. has span k && lead k) test all in
     ap (λ (o : Option ℕ). map group (filter (leb (unwrap_or o 0)) (filter lead (filter (has span) all)) ++ filter
     (λ k. ltb k (unwrap_or o 0)) (filter lead (filter (has span) all)))) own
-    ∙ map-append group (filter (leb f) (filter lead (filter (has span) all))) (filter (λ k. ltb k f) (filter lead (filter (has span) all)))
+    ∙ map-append group (filter (leb f) (filter lead (filter (has span) all)))
+    (filter (λ k. ltb k f) (filter lead (filter (has span) all)))
     ∙ ap (λ (ks : List ℕ). map group ks ++ map group (filter (λ k. ltb k f) (filter lead (filter (has span) all)))) (kept (leb f))
     ∙ ap (λ (ks : List ℕ). map group (filter (λ k. (has span k && lead k) && leb f k) all) ++ map group ks) (kept (λ k. ltb k f))
 

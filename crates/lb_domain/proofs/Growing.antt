@@ -1,5 +1,6 @@
 -- What holds of every domain of a CPU, from what holds level by level: its groups part its span,
 -- and from domain to domain the span grows.
+-- For the laws `groups_part_the_span` and `spans_grow`.
 use Rattle.std.proofs.Common.{◌≡◌, ℕ, zero, suc, ◌<◌, eqb, Bool, true, false, List, [], ◌∷◌, length, Option, Some, None, refl, sym, ◌∙◌, ap, subst, arith, inl, inr}
 use Rattle.std.specs.List.{slice_index_or}
 use Rattle.std.proofs.lemmas.Bool.{cases_Bool, both_ways, and_parts, not-true, eq-eqb}
@@ -65,15 +66,18 @@ all_parted span_at cpu group below (level ∷ levels) falls position within =
   where
     here : ((p : ℕ) → p < length (domains_from span_at cpu (span_at level)
         (Some (shape_above below level (span_at level cpu))) levels)
-        → IsParted cpu (domain_at (domains_from span_at cpu (span_at level) (Some (shape_above below level (span_at level cpu))) levels) p))
-        → (p : ℕ) → p < suc (length (domains_from span_at cpu (span_at level) (Some (shape_above below level (span_at level cpu))) levels))
+        → IsParted cpu (domain_at (domains_from span_at cpu (span_at level)
+        (Some (shape_above below level (span_at level cpu))) levels) p))
+        → (p : ℕ) → p < suc (length (domains_from span_at cpu (span_at level)
+        (Some (shape_above below level (span_at level cpu))) levels))
         → IsParted cpu (domain_at (record {
           shape = shape_above below level (span_at level cpu);
           groups = groups_of group (span_at level cpu) cpu;
         } ∷ domains_from span_at cpu (span_at level)
         (Some (shape_above below level (span_at level cpu))) levels) p)
     here rest zero within = let at = falls zero (omega arith) in
-        from_part group cpu (shape_above below level (span_at level cpu)) (groups_part group (span_at level cpu) cpu at.falls at.there)
+        from_part group cpu (shape_above below level (span_at level cpu))
+        (groups_part group (span_at level cpu) cpu at.falls at.there)
     here rest (suc p) within = rest p (omega (arith, within))
 
 -- ---- spans
@@ -126,7 +130,8 @@ above_below span_at cpu group below (level ∷ levels) grow inside position with
         → ((p : ℕ) → p < length (domains_from span_at cpu (span_at level)
         (Some (shape_above (Some below) level (span_at level cpu))) levels)
         → IsWithin (span_at level cpu) (domain_at
-        (domains_from span_at cpu (span_at level) (Some (shape_above (Some below) level (span_at level cpu))) levels) p).shape.span)
+        (domains_from span_at cpu (span_at level) (Some (shape_above (Some below) level (span_at level cpu))) levels)
+        p).shape.span)
         → (p : ℕ) → p < suc (length (domains_from span_at cpu (span_at level)
         (Some (shape_above (Some below) level (span_at level cpu))) levels))
         → IsWithin below.span (domain_at
@@ -201,7 +206,8 @@ parted_in cpus table (Some part) s cpu in_cpus in_part position within =
 
 grow_in : (cpus : List CpuRow) (table : List (List ℕ)) (part : Option Mask) → IsSound cpus table → (cpu : ℕ)
     → cpu < length cpus → (lower upper : ℕ) → lower < upper → upper < length (domains_in cpus table part cpu)
-    → IsWithin (domain_at (domains_in cpus table part cpu) lower).shape.span (domain_at (domains_in cpus table part cpu) upper).shape.span
+    → IsWithin (domain_at (domains_in cpus table part cpu) lower).shape.span
+    (domain_at (domains_in cpus table part cpu) upper).shape.span
 grow_in cpus table None s cpu in_cpus lower upper lt within = absurd (omega (arith, within))
 grow_in cpus table (Some part) s cpu in_cpus lower upper lt within =
     all_grow (cut_span cpus table part) cpu only None (levels_of table)
@@ -216,7 +222,8 @@ domains_parted cpus table parts s cpu position in_cpus within =
 
 pub domains_grow : (cpus : List CpuRow) (table : List (List ℕ)) (parts : List Mask) → IsSound cpus table
     → (cpu lower upper : ℕ) → cpu < length cpus → lower < upper → upper < length (domains_of cpus table parts cpu)
-    → IsWithin (domain_at (domains_of cpus table parts cpu) lower).shape.span (domain_at (domains_of cpus table parts cpu) upper).shape.span
+    → IsWithin (domain_at (domains_of cpus table parts cpu) lower).shape.span
+    (domain_at (domains_of cpus table parts cpu) upper).shape.span
 unfolding domains_of
 domains_grow cpus table parts s cpu lower upper in_cpus lt within =
     grow_in cpus table (part_of parts cpu) s cpu in_cpus lower upper lt within

@@ -1,4 +1,5 @@
--- One level of a CPU's domains.
+-- One level more of a CPU: it is dropped, or it adds the next domain to those below it.
+-- For `domain_at` and `domains_in`.
 use Rattle.std.proofs.Common.{◌≡◌, ℕ, suc, ◌+◌, ◌<◌, ◌≤◌, true, false, List, [], ◌++◌, length, drop, Option, Some, None, refl, sym, ◌∙◌, ap, arith, inl, inr, add-one}
 use Rattle.std.specs.List.{cons_option}
 use Rattle.std.proofs.lemmas.Bool.{cases_Bool}
@@ -39,7 +40,8 @@ position_next group cpu below level span n at =
 -- one level on
 pub level_more : (cpus : List CpuRow) (table : List (List ℕ)) (part : Mask) (cpu level : ℕ) (below : Option Shape)
     (domains : List Domain) → level < length (levels_of table)
-    → domains ++ domains_from (cut_span cpus table part) cpu (step_span cpus table part level) below (drop level (levels_of table))
+    → domains ++ domains_from (cut_span cpus table part) cpu (step_span cpus table part level) below
+    (drop level (levels_of table))
     ≡ (domains ++ cons_option (kept_domain (step_span cpus table part level) cpu below (level_at table level)
     (cut_span cpus table part (level_at table level) cpu)) [])
     ++ domains_from (cut_span cpus table part) cpu (step_span cpus table part (level + 1))

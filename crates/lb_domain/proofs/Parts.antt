@@ -1,4 +1,5 @@
 -- The part of each CPU, where no two parts share one.
+-- For `topology_of`.
 use Rattle.std.proofs.Common.{◌≡◌, ℕ, zero, suc, ◌<◌, ◌≤◌, ◌+◌, ◌/◌, ◌%◌, ◌^◌, eqb, true, not, List, [], ◌∷◌, length, map, Option, Some, None, refl, sym, ◌∙◌, ap, arith, inl, inr}
 use Rattle.std.specs.Prelude.{filter}
 use Rattle.std.specs.List.{range_with_len, slice_index_or, list_all}
@@ -39,7 +40,8 @@ pub length-own_parts : (n : ℕ) (parts : List Mask) → length (own_parts n par
 unfolding own_parts
 length-own_parts n parts = length-map (range_with_len 0 n) (part_of parts) ∙ length-range_with_len 0 n
 
-pub own_part_at : (n : ℕ) (parts : List Mask) (cpu : ℕ) → cpu < n → slice_index_or (own_parts n parts) cpu None ≡ part_of parts cpu
+pub own_part_at : (n : ℕ) (parts : List Mask) (cpu : ℕ) → cpu < n → slice_index_or (own_parts n parts) cpu
+    None ≡ part_of parts cpu
 unfolding own_parts
 own_part_at n parts cpu lt =
     let none : Option Mask = None in
@@ -79,7 +81,8 @@ same_part (m ∷ ms) cpu k part apart is small there =
           let rest : part_of ms cpu ≡ Some part = sym (rw later refl) ∙ is in
           let parts = and_parts _ _ apart in
           elim (cases_Bool (has m k)) [
-            | inl in_m ↦ absurd (both_ways (has part k) (apart_at m part (part_apart m ms cpu part parts.0 rest) k small in_m) there)
+            | inl in_m ↦ absurd (both_ways (has part k)
+                (apart_at m part (part_apart m ms cpu part parts.0 rest) k small in_m) there)
             | inr not_in ↦ rw not_in (same_part ms cpu k part parts.1 rest small there)
           ]
     ]
@@ -103,7 +106,8 @@ pub own_parts_live : (n : ℕ) (parts : List Mask) → own_parts n (filter (λ m
 unfolding own_parts
 own_parts_live n parts = map_same (part_of (filter (λ m. not (eqb m.bits 0)) parts)) (part_of parts) (live_part_of parts) 0 n
   where
-    map_same : {X : Type 0} (f g : ℕ → X) → ((k : ℕ) → f k ≡ g k) → (a n : ℕ) → map f (range_with_len a n) ≡ map g (range_with_len a n)
+    map_same : {X : Type 0} (f g : ℕ → X) → ((k : ℕ) → f k ≡ g k) → (a n : ℕ) → map f (range_with_len a n) ≡ map g
+        (range_with_len a n)
     map_same f g same a zero = refl
     map_same f g same a (suc n) = rw (same a, map_same f g same (a + 1) n) refl
 

@@ -1,4 +1,5 @@
 -- The domain at a position of a CPU: its position, and where its span lies.
+-- For the laws `spans_lie_inside` and `domains_stand_in_order`.
 use Rattle.std.proofs.Common.{◌≡◌, ℕ, zero, suc, ◌+◌, ◌<◌, List, [], ◌∷◌, length, Option, Some, None, refl, arith, inl, inr}
 use Rattle.std.proofs.lemmas.Bool.{cases_Bool}
 use Rattle.lb_base.specs.declared.mask.Mask.{Mask}
@@ -46,7 +47,8 @@ pub at_position : (cpus : List CpuRow) (table : List (List ℕ)) (parts : List M
 unfolding domains_of
 at_position cpus table parts cpu p within = by_part (part_of parts cpu) within
   where
-    by_part : (o : Option Mask) → p < length (domains_in cpus table o cpu) → (domain_at (domains_in cpus table o cpu) p).shape.position ≡ p
+    by_part : (o : Option Mask) → p < length (domains_in cpus table o cpu)
+        → (domain_at (domains_in cpus table o cpu) p).shape.position ≡ p
     by_part None within = absurd (omega (arith, within))
     by_part (Some part) within =
         at_each (λ n d. d.shape.position ≡ n) (cut_span cpus table part) cpu (λ below group level. refl)

@@ -1,4 +1,5 @@
 -- The CPUs that lead in a span, and the spans step by step.
+-- For `ring`, `step_span`, `domain_at` and `push_spans`.
 use Rattle.std.proofs.Common.{◌≡◌, ℕ, zero, suc, ◌+◌, ◌-◌, ◌<◌, leb, ltb, Bool, true, false, ◌&&◌, not, List, [], ◌∷◌, ◌++◌, length, map, Option, refl, sym, ◌∙◌, ap, arith, inl, inr, add-one}
 use Rattle.std.specs.Prelude.{filter, unwrap_or}
 use Rattle.std.specs.List.{slice_index_or}
@@ -48,7 +49,8 @@ in_span cpus table part level cpu k there =
 pub leaders_first : (cpus : List CpuRow) (table : List (List ℕ)) (part : Mask) (leaders : List Mask) (step : ℕ)
     (level : LevelName) (cpu : ℕ) (m : Mask) → LeadWithin cpus table part leaders → step < length leaders
     → ((k : ℕ) → has m k ≡ (has (slice_index_or leaders step no_cpus) k && has
-    (cut_span cpus table part level cpu) k)) → members m ≡ firsts (step_span cpus table part step) (cut_span cpus table part level cpu)
+    (cut_span cpus table part level cpu) k)) → members m ≡ firsts (step_span cpus table part step)
+    (cut_span cpus table part level cpu)
 unfolding firsts
 leaders_first cpus table part leaders step level cpu m lead within is =
     members_passing m (cut_span cpus table part level cpu) (λ k. is_first (least (step_span cpus table part step k)) k)
@@ -70,11 +72,13 @@ leaders_first cpus table part leaders step level cpu m lead within is =
 
 -- what is pushed when the walk goes on from a CPU
 pub walk_on : (f : ℕ → Mask) (m : Mask) (base groups : List Mask) (cpu : ℕ) (o : Option ℕ) → IsAt m cpu
-    → groups ≡ base ++ map f (members_below m cpu) → Finds m (cpu + 1) o → groups ++ f cpu ∷ [] ≡ base ++ map f (members_below m (passed o))
+    → groups ≡ base ++ map f (members_below m cpu) → Finds m (cpu + 1) o → groups ++ f cpu ∷ [] ≡ base ++ map f
+    (members_below m (passed o))
 walk_on f m base groups cpu o at pushed next =
     ap (λ (g : List Mask). g ++ f cpu ∷ []) pushed
     ∙ append_assoc base (map f (members_below m cpu)) (f cpu ∷ [])
-    ∙ ap (λ (g : List Mask). base ++ g) (sym (map_push f (members_below m cpu) cpu) ∙ ap (map f) (sym (walk_steps m cpu o at next)))
+    ∙ ap (λ (g : List Mask). base ++ g) (sym (map_push f (members_below m cpu) cpu) ∙ ap (map f)
+    (sym (walk_steps m cpu o at next)))
 
 pub walk_from : (f : ℕ → Mask) (m : Mask) (base : List Mask) (o : Option ℕ) → Finds m 0 o
     → base ≡ base ++ map f (members_below m (passed o))

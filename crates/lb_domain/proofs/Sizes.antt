@@ -1,4 +1,6 @@
 -- How many domains a CPU has, and how many groups a domain. For callers too.
+-- For the law `domains_are_few`, and `Topology::build` and `topology_of`; cited by `lb_lane`, `lb_ready` and
+-- `lb_turn` too.
 use Rattle.std.proofs.Common.{◌≡◌, ℕ, zero, suc, ◌<◌, ◌≤◌, leb, ltb, Bool, true, false, not, List, [], ◌∷◌, ◌++◌, length, Option, Some, None, refl, sym, ◌∙◌, ap, arith, inl, inr}
 use Rattle.std.specs.Prelude.{filter, unwrap_or}
 use Rattle.std.specs.List.{range_with_len, slice_index_or}
@@ -75,7 +77,8 @@ few_groups span_at cpu group below (level ∷ levels) position lt =
         (Some (shape_above below level (span_at level cpu))) levels)
         → length (domain_at (domains_from span_at cpu (span_at level)
         (Some (shape_above below level (span_at level cpu))) levels) p).groups ≤ 64)
-        → (p : ℕ) → p < suc (length (domains_from span_at cpu (span_at level) (Some (shape_above below level (span_at level cpu))) levels))
+        → (p : ℕ) → p < suc (length (domains_from span_at cpu (span_at level)
+        (Some (shape_above below level (span_at level cpu))) levels))
         → length (slice_index_or (record {
           shape = shape_above below level (span_at level cpu);
           groups = groups_of group (span_at level cpu) cpu;
@@ -108,9 +111,11 @@ in_few cpus table None cpu = omega arith
 in_few cpus table (Some part) cpu = few_domains (cut_span cpus table part) cpu only None (levels_of table)
 
 in_groups : (cpus : List CpuRow) (table : List (List ℕ)) (part : Option Mask) (cpu position : ℕ)
-    → position < length (domains_in cpus table part cpu) → length (domain_at (domains_in cpus table part cpu) position).groups ≤ 64
+    → position < length (domains_in cpus table part cpu)
+    → length (domain_at (domains_in cpus table part cpu) position).groups ≤ 64
 in_groups cpus table None cpu position lt = absurd (omega (arith, lt))
-in_groups cpus table (Some part) cpu position lt = few_groups (cut_span cpus table part) cpu only None (levels_of table) position lt
+in_groups cpus table (Some part) cpu position lt = few_groups (cut_span cpus table part) cpu only None (levels_of table)
+    position lt
 
 pub domains_few : (cpus : List CpuRow) (table : List (List ℕ)) (parts : List Mask) (cpu : ℕ)
     → length (domains_of cpus table parts cpu) ≤ length (levels_of table)
@@ -118,7 +123,8 @@ unfolding domains_of
 domains_few cpus table parts cpu = in_few cpus table (part_of parts cpu) cpu
 
 pub groups_few : (cpus : List CpuRow) (table : List (List ℕ)) (parts : List Mask) (cpu position : ℕ)
-    → position < length (domains_of cpus table parts cpu) → length (domain_at (domains_of cpus table parts cpu) position).groups ≤ 64
+    → position < length (domains_of cpus table parts cpu)
+    → length (domain_at (domains_of cpus table parts cpu) position).groups ≤ 64
 unfolding domains_of
 groups_few cpus table parts cpu position lt = in_groups cpus table (part_of parts cpu) cpu position lt
 

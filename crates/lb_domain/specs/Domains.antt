@@ -1,6 +1,8 @@
 -- The scheduling domains of a CPU from scratch, from the spans of the machine alone: the spans cut
 -- to the CPU's partition mask, the levels that are kept of them, and the groups of each kept one in
 -- ring order.
+-- Cited by the contracts of `topology_of`, `ring`, `Topology::domains` and others; also by `lb_core`,
+-- `lb_journal_rows` and other crates.
 use Rattle.std.specs.Prelude.{ℕ, ◌+◌, ◌==◌, nat_lt, nat_le, Bool, false, not, ◌&&◌, if◌then◌else◌, Option, Some, None, unwrap_or, List, [], ◌∷◌, ◌++◌, length, map, filter, find}
 use Rattle.std.specs.List.{range_with_len, slice_index_or, cons_option}
 use Rattle.lb_base.specs.declared.mask.Mask.{Mask}

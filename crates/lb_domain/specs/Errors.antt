@@ -1,4 +1,5 @@
 -- The refusals of a topology: the faults of its masks.
+-- Cited by the contract of `Topology::build`.
 use Rattle.lb_levels.specs.declared.faults.PartsFault.{PartsFault}
 use Rattle.lb_levels.specs.declared.faults.PartsFault.TheVariants as fault
 use Rattle.lb_domain.specs.declared.topology.BuildError.{BuildError}

@@ -1,4 +1,6 @@
 -- What holds of the domains of a CPU, for every machine and all masks.
+-- Cited by the laws `domains_are_few`, `domains_stand_in_order`, `spans_lie_inside` and others; also by `lb_core`,
+-- `lb_lane` and other crates.
 use Rattle.std.specs.Prelude.{◌≡◌, ℕ, ◌<◌, ◌≤◌, true, List, length}
 use Rattle.lb_base.specs.declared.mask.Mask.{Mask}
 use Rattle.lb_levels.specs.declared.cpu_row.CpuRow.{CpuRow}

@@ -1,5 +1,7 @@
 -- What the domains of a CPU keep to: the groups of each part its span, which lies within the machine
 -- and the CPU's mask, and within the span of the next domain, which has more CPUs.
+-- For the definitions of `Laws`, and so for the laws `domains_are_few`, `domains_stand_in_order` and others; cited by
+-- `lb_lane` and `lb_ready`.
 use Rattle.std.specs.Prelude.{◌≡◌, ℕ, ◌<◌, true, Option, IsSomeAnd, List, length}
 use Rattle.std.specs.List.{list_any}
 use Rattle.lb_base.specs.declared.mask.Mask.{Mask}

@@ -1,6 +1,7 @@
 -- The levels counted as the code counts them: step 0 are the single CPUs, and each step above it is
 -- a level, from the bottom. Which CPUs come first in their spans is kept for all parts at once, each
 -- CPU within its own part.
+-- Cited by the contracts of `topology_of`, `step_span`, `all_leaders` and others.
 use Rattle.std.specs.Prelude.{◌≡◌, ℕ, zero, suc, ◌<◌, ◌≤◌, nat_lt, Bool, true, false, ◌&&◌, Option, Some, None, List, length, map}
 use Rattle.std.specs.List.{range_with_len, slice_index_or}
 use Rattle.lb_base.specs.declared.mask.Mask.{Mask}

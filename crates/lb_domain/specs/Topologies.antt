@@ -1,5 +1,7 @@
 -- What a topology shows: the domains of every CPU, and the masks that they are within. How large it
 -- can be.
+-- Cited by the contracts of `topology_of`, `Topology::build`, `Topology::of` and `Topology::domains`; also by
+-- `lb_cpu`, `lb_engine` and other crates.
 use Rattle.std.specs.Prelude.{ℕ, ◌<◌, ◌≤◌, List, length}
 use Rattle.lb_base.specs.declared.mask.Mask.{Mask}
 use Rattle.lb_base.specs.declared.mask.TheConstants.{MAX_CPUS}

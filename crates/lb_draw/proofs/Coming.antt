@@ -1,4 +1,5 @@
 -- The entry that a lane draws next may be added, the queue that draws it is there, and what its call asks is met.
+-- For `next_entry`, `what_next` and `next_of`.
 use Rattle.std.proofs.Common.{arith, ◌≡◌, ℕ, ◌<◌, Bool, true, false, not, ◌||◌, cond, List, length, Option, Some, None, is_some, refl, sym, ◌∙◌, ap, subst, ltb, Bor}
 use Rattle.std.specs.Prelude.{IfSome, option_map, unwrap_or}
 use Rattle.std.proofs.lemmas.Bool.{lt-ltb}
@@ -56,7 +57,8 @@ pub next_at_rest : (m : MachineState) (lane : ℕ) (row o : Option Row) → m.en
     → (course_at m.courses lane).form ≡ Rest → row ≡ o → at_rest o m lane (course_at m.courses lane) ≡ next_entry m lane row
 next_at_rest m lane row o live lt f e =
     let c = course_at m.courses lane in
-    sym (next_live m lane row live lt ∙ ap (λ (g : Form). next_in g row m lane c) f ∙ ap (λ (x : Option Row). at_rest x m lane c) e)
+    sym (next_live m lane row live lt ∙ ap (λ (g : Form). next_in g row m lane c) f ∙ ap
+    (λ (x : Option Row). at_rest x m lane c) e)
 
 -- and there is none after the end
 pub none_after : (m : MachineState) (lane : ℕ) (row : Option Row) → m.ended ≡ true → None ≡ next_entry m lane row
@@ -79,7 +81,8 @@ own_row (Some r) lane h = h
 -- and it may be added
 pub may_come : NextIsSerial → (m : MachineState) (lane : ℕ) (f : Form) → IsReady m → m.ended ≡ false
     → lane < length m.courses → (course_at m.courses lane).form ≡ f → is_rest f ≡ false →
-    (f ≡ Asked → is_answerable (course_at m.courses lane).command m ≡ true) → MayBeAdded m (entry_due f m lane (course_at m.courses lane))
+    (f ≡ Asked → is_answerable (course_at m.courses lane).command m ≡ true)
+    → MayBeAdded m (entry_due f m lane (course_at m.courses lane))
 may_come serial m lane f k live lt e busy can =
     let c = course_at m.courses lane in
     let next : next_entry m lane None ≡ Some (entry_due f m lane c) =
@@ -163,7 +166,8 @@ queue_there stand m lane f r e = by_form f (subst (λ (g : Form). FitsForm m.end
 
 -- ---- what the calls ask
 turn_with : (m : MachineState) (lane cpu : ℕ) (b : Bool) (ps : Mask)
-    → TrialAsks (cond b Shut (Turn ps)) (sight m (drawn m lane (owner_of (cond b Shut (Turn ps)) lane cpu) (cond b Shut (Turn ps)))) →
+    → TrialAsks (cond b Shut (Turn ps)) (sight m
+    (drawn m lane (owner_of (cond b Shut (Turn ps)) lane cpu) (cond b Shut (Turn ps)))) →
     TurnAsks (bare m (course_at m.courses lane) (queue_at m.queues cpu))
 unfolding sight
 turn_with m lane cpu true ps t = record { few = t.few; in_order = t.in_order; fit = t.fit }

@@ -1,4 +1,5 @@
 -- The entry that the form of a lane's course draws, where it draws one.
+-- Cited by the contracts of `ending`, `at_work` and `entry_due`.
 use Rattle.std.specs.Prelude.{ℕ}
 use Rattle.lb_core.specs.declared.course.Course.{Course}
 use Rattle.lb_core.specs.declared.course.Form.{Form}

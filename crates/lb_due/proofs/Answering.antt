@@ -1,4 +1,5 @@
 -- What a queue replies to the command of a lane, by the place of the task that the command is about.
+-- For `reply_due`.
 use Rattle.std.proofs.Common.{◌≡◌, ℕ, ℤ, ◌<◌, ◌||◌, Bool, true, false, not, cond, length, Option, Some, None, is_some, refl, sym, ap, subst}
 use Rattle.lb_base.specs.declared.mask.Mask.{Mask}
 use Rattle.lb_base.specs.Sets.{is_empty, is_below}

@@ -1,4 +1,5 @@
 -- Where no turn is open, the turn that is due opens.
+-- For `positions_due`.
 use Rattle.std.proofs.Common.{◌≡◌, ℕ, false, List, is_some}
 use Rattle.lb_base.specs.declared.mask.Mask.{Mask}
 use Rattle.lb_base.specs.declared.shape.Kind.{Kind}

@@ -1,4 +1,5 @@
 -- The ids of the tasks that leave by a wake and by a stop request.
+-- For `out_of_queue`, `wake_due` and `stop_due`.
 use Rattle.std.proofs.Common.{◌≡◌, ℕ, ◌==◌, Bool, true, false, cond, Option, Some, None, List, [], ◌∷◌, refl, ◌∙◌, ap}
 use Rattle.std.proofs.lemmas.Bool.{eqb-true}
 use Rattle.lb_queue.specs.declared.awake.Awake.{Awake}
@@ -52,12 +53,14 @@ wake_ids q at id to g = asleep_ids_of q at id (task_with id q.asleep) to g
 
 -- the wake that is due
 pub wake_is : (command : Option Command) (q : QueueState) (at id to : ℕ) (list : List ℕ) → command ≡ Some (Wake id)
-    → away q id ≡ Some to → list ≡ id ∷ [] → Some (record { cause = WakeOut; to = to; ids = list }) ≡ out_due (wake_out command at q)
+    → away q id ≡ Some to → list ≡ id ∷ [] → Some (record { cause = WakeOut; to = to; ids = list }) ≡ out_due
+    (wake_out command at q)
 wake_is command q at id to list c a l = let e = wake_ids q at id to a in rw (c, a, e, l) refl
 
 -- the stop that is due
 pub stop_is : (o : Option Stop) (q : QueueState) (at : ℕ) (s : Stop) (list : List ℕ) → o ≡ Some s
-    → stop_to q s.id ≡ Some s.to → list ≡ s.id ∷ [] → Some (record { cause = StopOut; to = s.to; ids = list }) ≡ out_due (stop_out o at q)
+    → stop_to q s.id ≡ Some s.to → list ≡ s.id ∷ [] → Some (record { cause = StopOut; to = s.to; ids = list }) ≡ out_due
+    (stop_out o at q)
 stop_is o q at s list e g l = let i = stop_ids q at s.id s.to g in rw (e, i, l) refl
 
 -- at a tick an owed stop comes first

@@ -1,4 +1,5 @@
 -- The task of a push: the one that is picked is awake, so it leaves.
+-- For `push_due`.
 use Rattle.std.proofs.Common.{◌≡◌, ℕ, ◌==◌, Bool, true, false, cond, List, [], ◌∷◌, map, filter, Option, Some, None, is_some, refl, sym, ◌∙◌, ap, inl, inr, ◌⊎◌}
 use Rattle.std.specs.Prelude.{option_map}
 use Rattle.std.specs.List.{last_or}
@@ -25,7 +26,8 @@ some_here : (b : Bool) (x : Awake) (o : Option Awake) → b ≡ true → is_some
 some_here true x o h = refl
 some_here false x o h = absurd (let y : ⊥ = cc in y)
 
-last_step : {X : Type 0} (o : Option X) (x : X) (f : List X) (b : Bool) → last_or o (cond b (x ∷ f) f) ≡ last_or (cond b (Some x) o) f
+last_step : {X : Type 0} (o : Option X) (x : X) (f : List X) (b : Bool) → last_or o (cond b (x ∷ f) f) ≡ last_or
+    (cond b (Some x) o) f
 last_step o x f true = refl
 last_step o x f false = refl
 
@@ -69,7 +71,8 @@ named_ids q at id (Some a) e h = ap (λ (n : ℕ). n ∷ [])
 push_ids : (q : QueueState) (at to : ℕ) (o : Option ℕ) → pick_of (views q at) to ≡ o → ids (take_push q at to).0 ≡ picked_ids o
 unfolding take_push pushed views
 push_ids q at to None e = rw e refl
-push_ids q at to (Some id) e = rw e (named_ids q at id (awake_with id q.awake) refl (picked_awake to (clock_at q at) q.awake id _ refl e))
+push_ids q at to (Some id) e = rw e (named_ids q at id (awake_with id q.awake) refl
+    (picked_awake to (clock_at q at) q.awake id _ refl e))
 
 -- the push that is due
 pub push_is : (q : QueueState) (at to : ℕ) (o : Option ℕ) (list : List ℕ) → q.active ≡ Some to

@@ -1,4 +1,5 @@
--- Tests that fail together.
+-- Two tests that fail together pass together.
+-- For `is_in` and `is_apart`.
 use Rattle.std.proofs.Common.{not, ◌≡◌, Bool, true, false, refl}
 
 -- they pass together, too

@@ -1,4 +1,5 @@
 -- What is replied to a command, by the place of its task.
+-- Cited by the contracts of `reply_due` and `done_unless_gone`; also by `lb_draw` and `lb_judge`.
 use Rattle.std.specs.Prelude.{◌≡◌, ℕ, Bool, if◌then◌else◌, Option, Some, None}
 use Rattle.lb_queue.specs.declared.answers.Reply.{Reply}
 use Rattle.lb_queue.specs.declared.answers.Reply.TheVariants.{Done, BadMask, Gone, NotHere}

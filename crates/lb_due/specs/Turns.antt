@@ -1,4 +1,5 @@
 -- What is asked of a course where the domains of its turn are looked at, and what a look over named figures reads.
+-- Cited by the contract of `decision_among`; also by `lb_draw` and `lb_judge`.
 use Rattle.std.specs.Prelude.{List, []}
 use Rattle.lb_core.specs.declared.course.Course.{Course}
 use Rattle.lb_core.specs.declared.course.Form.{Form}

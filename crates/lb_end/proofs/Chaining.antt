@@ -1,4 +1,5 @@
 -- Seats that follow one another, by the numbers of their owners.
+-- For `Ended::lead` and `Ended::follow`.
 use Rattle.std.proofs.Common.{ℕ, ◌≡◌, ◌<◌, ◌≤◌, List, [], Some, length, zero, suc, map, get_or, set, sym, subst, ap, ◌∙◌, All, arith}
 use Rattle.std.specs.Prelude.{slice_get}
 use Rattle.std.proofs.lemmas.List.{set-get_or, map-set, get_or-map, get_or-set_same, get_or-set_other, length-map}

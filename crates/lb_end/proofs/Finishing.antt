@@ -1,4 +1,5 @@
 -- The end, drawn above all others where no stop request is pending, closes the history.
+-- For `Ended::finish`.
 use Rattle.std.proofs.Common.{ℕ, ◌≡◌, ◌+◌, ◌-◌, ◌<◌, ◌≤◌, ◌&&◌, ◌||◌, Bool, true, false, is_some, ltb, List, [], ◌∷◌, ◌++◌, Option, None, Some, find, length, map, get_or, refl, sym, subst, ap, ◌∙◌, arith, inl, inr}
 use Rattle.std.specs.Prelude.{slice_get}
 use Rattle.std.specs.List.{list_any, range_with_len}
@@ -128,7 +129,8 @@ module _ (h : Header) (e0 e1 e2 e3 e4 : EndedIs) (c c' : Course) (t : ℕ) (u : 
       let cut = next_at e1.seats 1 - 1 in
       let begun : IsClosing h cut e1 =
       starts start h e1
-      (subst (λ (l : List (List (Drawn Journal))). InAll (λ d. (closing_out d.item ≡ false) × (is_end d.item.entry.what ≡ false)) l)
+      (subst (λ (l : List (List (Drawn Journal))). InAll
+      (λ d. (closing_out d.item ≡ false) × (is_end d.item.entry.what ≡ false)) l)
       (sym lists1) nothing) above in
       let ready : IsClosing h cut e3 = closing_same h e2 e3 lists3 nexts3 ticket3 cut (on.closing cut begun) in
       let none3 : pending_now h e3 ≡ None =

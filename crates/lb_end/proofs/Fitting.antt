@@ -1,4 +1,5 @@
 -- The entries that close a history fit the lists of their owners: the `out` and the `in` of a stop request, and the end.
+-- For `draw_end`, `draw_out` and `draw_in`.
 use Rattle.std.proofs.Common.{ℕ, ◌≡◌, ◌+◌, ◌<◌, ◌&&◌, true, false, not, Option, Some, None, List, [], ◌∷◌, length, map, refl, sym, subst, ap, ◌∙◌, arith, All}
 use Rattle.std.proofs.lemmas.Bool.{lt-ltb}
 use Rattle.std.proofs.lemmas.List.{length-map}

@@ -1,4 +1,5 @@
 -- What a machine keeps, as one seat follows another, and as lane 0 draws an entry.
+-- For `Ended::reserve`, `Ended::follow` and `Ended::end`.
 use Rattle.std.proofs.Common.{ℕ, zero, suc, ◌≡◌, ◌+◌, ◌<◌, ◌≤◌, List, [], ◌∷◌, ◌++◌, Option, Some, length, map, get_or, set, refl, sym, subst, ap, ◌∙◌, ◌⊎◌, arith, inl, inr, All, append-nil}
 use Rattle.std.specs.Prelude.{slice_get}
 use Rattle.std.proofs.lemmas.Bool.{cases_eq}
@@ -168,7 +169,8 @@ replays_drawn growth h cpu ss s s' d queues q q' here list there step r c x e =
           let ds : List (ℕ × Journal) = map pair s.list in
           let old : queue_list (lists_of ss) cpu ≡ ds = ap (map pair) (list_is ss (17 + cpu) s here) in
           let new : queue_list (lists_of (set ss (17 + cpu) s')) cpu ≡ ds ++ (d.ticket, d.item) ∷ [] =
-          ap (map pair) (list_is (set ss (17 + cpu) s') (17 + cpu) s' (changed_at ss (17 + cpu) s' (slice_get_within ss (17 + cpu) s here)))
+          ap (map pair) (list_is (set ss (17 + cpu) s') (17 + cpu) s'
+          (changed_at ss (17 + cpu) s' (slice_get_within ss (17 + cpu) s here)))
           ∙ (ap (map pair) list ∙ map-append pair s.list (d ∷ [])) in
           let state : x.state ≡ replay h cpu (ds ++ (d.ticket, d.item) ∷ []) =
           ap (λ (y : BookedQueue). y.state) now.1
@@ -259,7 +261,8 @@ keeps_followed stay h book code left e a b ss' f k =
     })
 
 -- lane 0 draws an entry in a list, and holds it
-module _ (h : Header) (book : TableId) (code : Coded Journal) (left : Coded Left) (e : EndedIs) (keep : EndedKeeps h book code left e)
+module _ (h : Header) (book : TableId) (code : Coded Journal) (left : Coded Left) (e : EndedIs)
+    (keep : EndedKeeps h book code left e)
     (k : ℕ) (s s' : SeatIs Journal) (d : Drawn Journal) (here : slice_get e.seats k ≡ Some s)
     (list : s'.list ≡ s.list ++ d ∷ []) (same : (s'.table ≡ s.table) × (s'.number ≡ s.number)) (read : s'.read ≡ s.read)
     (header : d.item.header ≡ h) (uses : UsesVersion h code s.read d.ticket d.item d.item.entry.what)

@@ -1,4 +1,5 @@
 -- The task of a stop request leaves its queue in a hand.
+-- For `draw_out`.
 use Rattle.std.proofs.Common.{ℕ, ◌≡◌, Bool, true, false, eqb, if◌then◌else◌, Option, Some, None, List, [], ◌∷◌, ◌++◌, length, map, refl, sym, ap, ◌∙◌, arith, inl, inr}
 use Rattle.std.proofs.lemmas.Bool.{cases_Bool, eqb-true}
 use Rattle.lb_queue.specs.declared.answers.OutCause.TheVariants as causes

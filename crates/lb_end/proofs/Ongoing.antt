@@ -1,4 +1,5 @@
 -- The closing goes on by an entry of lane 0 that is drawn above all others.
+-- For `Ended::serve_all`, `Ended::arrive`, `Ended::depart` and others.
 use Rattle.std.proofs.Common.{ℕ, zero, suc, ◌≡◌, ◌+◌, ◌-◌, ◌<◌, ◌≤◌, List, [], ◌∷◌, ◌++◌, Some, length, map, get_or, set, refl, sym, subst, ap, ◌∙◌, true, arith, inl, inr, All}
 use Rattle.std.specs.Prelude.{slice_get}
 use mathlib.Core.List.{IsPrefix}

@@ -1,4 +1,5 @@
 -- The parts of a machine that an entry of a queue is drawn upon, and the machine once it was drawn.
+-- For `Ended::next_stop`, `Ended::arrive`, `Ended::reserve` and others.
 use Rattle.std.proofs.Common.{ℕ, ◌≡◌, ◌+◌, ◌<◌, ◌≤◌, List, [], Option, Some, length, map, get_or, set, sym, subst, ap, ◌∙◌, arith, inl, inr, All, refl}
 use Rattle.std.specs.Prelude.{slice_get}
 use Rattle.std.proofs.lemmas.List.{length-set, map-set, set-get_or, get_or-map, get_or-set_same}
@@ -32,7 +33,8 @@ pub record FirstIs (h : Header) (left : Coded Left) (e : EndedIs) (c : Course) (
   pub quiet : IsFirstCourse h c
   pub last : IsLast e.book.table left (length h.cpus) 0 c t n
 
-pub first_is : (h : Header) (book : TableId) (code : Coded Journal) (left : Coded Left) (e : EndedIs) → EndedKeeps h book code left e
+pub first_is : (h : Header) (book : TableId) (code : Coded Journal) (left : Coded Left) (e : EndedIs)
+    → EndedKeeps h book code left e
     → (c : Course) (t : ℕ) (n : Option NoteIs) → c ≡ get_or e.courses 0 c → t ≡ get_or e.tickets 0 t → n ≡ get_or e.notes 0 n
     → FirstIs h left e c t n
 first_is h book code left e k c t n ec et en =
@@ -61,7 +63,8 @@ pub record QueueIs (h : Header) (e : EndedIs) (cpu : ℕ) (q : BookedQueue) (s :
   pub list : list_at e.seats (17 + cpu) ≡ s.list
   pub headers : All (λ d. d.item.header ≡ h) s.list
 
-pub queue_is : (h : Header) (book : TableId) (code : Coded Journal) (left : Coded Left) (e : EndedIs) → EndedKeeps h book code left e
+pub queue_is : (h : Header) (book : TableId) (code : Coded Journal) (left : Coded Left) (e : EndedIs)
+    → EndedKeeps h book code left e
     → (cpu : ℕ) → cpu < length h.cpus → (q : BookedQueue) (s : SeatIs Journal) → q ≡ get_or e.queues cpu q
     → s ≡ get_or e.seats (17 + cpu) s → QueueIs h e cpu q s
 queue_is h book code left e k cpu lt q s eq es =
@@ -84,7 +87,8 @@ queue_is h book code left e k cpu lt q s eq es =
       headers = header_at h code e.seats (17 + cpu) s seat k.lists;
     }
 
-pub state_is : (h : Header) (book : TableId) (code : Coded Journal) (left : Coded Left) (e : EndedIs) → EndedKeeps h book code left e
+pub state_is : (h : Header) (book : TableId) (code : Coded Journal) (left : Coded Left) (e : EndedIs)
+    → EndedKeeps h book code left e
     → (cpu : ℕ) → cpu < length h.cpus → (q : BookedQueue) → q ≡ get_or e.queues cpu q → q.state ≡ state_at h e cpu
 state_is h book code left e k cpu lt q eq =
     k.replays cpu q (there e.queues cpu q (let a = k.all_queues in omega (arith, a, lt)) eq)
@@ -131,7 +135,8 @@ pub lanes_before : (h : Header) (book : TableId) (code : Coded Journal) (left : 
     → EndedKeeps h book code left e → (cpu lane : ℕ) → 1 ≤ lane → lane < h.lanes → lane + 1 ≡ 17 + cpu → ⊥
 lanes_before h book code left e k cpu lane one lt is = let most = k.accepted.most_lanes in omega (arith, is, lt, most)
 
-pub keeps_at_queue : GrowthKeeps → QueueGrows → (h : Header) (book : TableId) (code : Coded Journal) (left : Coded Left) (e : EndedIs)
+pub keeps_at_queue : GrowthKeeps → QueueGrows → (h : Header) (book : TableId) (code : Coded Journal) (left : Coded Left)
+    (e : EndedIs)
     → (keep : EndedKeeps h book code left e) → (cpu : ℕ) (q q' : BookedQueue) (s s' : SeatIs Journal) (item : Journal) (t : ℕ)
     (n : Option NoteIs) → QueueIs h e cpu q s → DrewItem e.book.table left item s s' t n → item.header ≡ h → item.figs ≡ []
     → item.entry.lane ≡ 0 → UsesVersion h code s.read t item item.entry.what

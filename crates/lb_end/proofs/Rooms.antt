@@ -1,4 +1,5 @@
 -- A machine keeps what it keeps as room is made for an entry, and as a landing is booked.
+-- For `Ended::reserve` and `Ended::book`.
 use Rattle.std.proofs.Common.{ℕ, ◌≡◌, ◌+◌, ◌<◌, ◌≤◌, List, [], Option, Some, length, map, get_or, set, refl, sym, subst, ap, ◌∙◌, arith, inl, inr, All}
 use Rattle.std.specs.Prelude.{slice_get}
 use Rattle.std.proofs.lemmas.Bool.{cases_eq}

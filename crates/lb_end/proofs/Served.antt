@@ -1,4 +1,5 @@
 -- A stop request served whole: its task lands where it may, lane 0 is at rest again, and the closing goes on.
+-- For `Ended::move_task` and `Ended::serve`.
 use Rattle.std.proofs.Common.{ℕ, ◌≡◌, ◌+◌, ◌≤◌, ◌<◌, eqb, if◌then◌else◌, Bool, true, false, List, [], ◌∷◌, length, map, set, get_or, refl, sym, subst, ap, ◌∙◌, arith, All}
 use Rattle.std.specs.Prelude.{slice_get}
 use Rattle.std.proofs.lemmas.List.Elements.{All-nil, All-cons, All-head, All-tail}

@@ -1,4 +1,5 @@
 -- The closing of a history entry by entry: what is known between two entries of it, and how one leads to the next.
+-- Cited by the contracts of `Ended::next_stop`, `Ended::serve_all`, `Ended::depart` and others.
 use Rattle.std.specs.Prelude.{ℕ, ◌≡◌, ◌+◌, ◌-◌, ◌<◌, ◌≤◌, Option, List, find, length, slice_get}
 use Rattle.std.specs.List.{range_with_len}
 use mathlib.Core.List.{IsPrefix}

@@ -1,5 +1,6 @@
 -- One entry that lane 0 draws when all lanes are at rest: the `out` and the `in` of a stop request in a queue's list, and
 -- the end in its own.
+-- Cited by the contracts of `Ended::next_stop`, `Ended::wait_until_served`, `Ended::make_room` and others.
 use Rattle.std.specs.Prelude.{ℕ, ◌≡◌, ◌+◌, ◌^◌, ◌<◌, ◌≤◌, true, false, Option, [], ◌∷◌, ◌++◌, map, length, slice_get, slice_set, All}
 use Rattle.std.specs.List.{slice_index_or}
 use base.Stored.{Coded}

@@ -1,5 +1,7 @@
 -- A machine whose lanes are done, out of its locks: the seats of all owners with their lists, the queues, and of each
 -- lane its course and its last ticket. Of the lists it keeps what their merge asks of the owners, but for the closing.
+-- Cited by the contracts of `Ended::new`, `Ended::keeps`, `Ended::close` and others; also by `lb_cpu` and
+-- `lb_threads`.
 use Rattle.std.specs.Prelude.{ℕ, Option, ◌≤◌, ◌≡◌, ◌+◌, ◌<◌, false, List, [], Some, length, map, slice_get, All}
 use base.Stored.{Coded}
 use Rattle.atomic_table.specs.Seated.{TableId}

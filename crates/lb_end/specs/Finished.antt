@@ -1,4 +1,6 @@
 -- The entries that close a history: what has been drawn once the pending stop requests are served and the end stands.
+-- Cited by the contracts of `Ended::finish`, `Ended::serve_all`, `Ended::move_task` and `Ended::serve`; also by
+-- `lb_threads`.
 use Rattle.std.specs.Prelude.{ℕ, ◌≡◌, ◌+◌, ◌<◌, ◌≤◌, ◌++◌, [], ◌∷◌, Some, List, slice_get, All}
 use mathlib.Core.List.{IsPrefix}
 use Rattle.std.specs.List.{slice_index_or}

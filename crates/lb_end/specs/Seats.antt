@@ -1,5 +1,6 @@
 -- The seats of a machine by the numbers of their owners: what each drew, where its next ticket stands and its room; and
 -- one seat that reads what another drew.
+-- Cited by the contracts of `Ended::can_grow`, `Ended::reserve`, `Ended::make_room` and others.
 use Rattle.std.specs.Prelude.{ℕ, ◌≡◌, ◌<◌, ◌≤◌, ◌++◌, [], Some, List, map, slice_get, slice_set, All}
 use Rattle.std.specs.List.{slice_index_or}
 use base.Stored.{Coded}

@@ -1,4 +1,5 @@
 -- The map of places tells whether the task of a command is awake.
+-- For `Engine::take_answer`.
 use Rattle.std.proofs.Common.{ℕ, ◌≡◌, Bool, Option, Some, None, IfSome, List, length, slice_index_or, ap, sym, ◌∙◌}
 use Rattle.lb_queue.specs.Queue.{QueueState, is_awake}
 use Rattle.lb_core.specs.declared.place.Place.{Place}

@@ -1,5 +1,6 @@
 -- The step of an entry of a lane or of the publisher: it is the same whichever of them owns it, and no task
 -- leaves or lands.
+-- For `Engine::take_beside` and `Engine::step`.
 use Rattle.std.proofs.Common.{ℕ, ◌≡◌, ◌<◌, false, None, List, length, slice_set, refl, ap, sym, ◌∙◌}
 use Rattle.lb_base.specs.declared.mask.Mask.{Mask}
 use Rattle.lb_base.specs.declared.shape.Kind.{Kind}

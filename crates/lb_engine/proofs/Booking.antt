@@ -1,4 +1,5 @@
 -- Landings that are booked at a queue, and used there.
+-- For `Engine::book`.
 use Rattle.std.proofs.Common.{ℕ, ◌≡◌, ◌+◌, ◌<◌, List, length, slice_set, slice_index_or, sym, ap, subst, ◌∙◌}
 use Rattle.std.proofs.Math.Seq.{map-set_same}
 use Rattle.std.proofs.lemmas.List.{length-map, get_or-map}

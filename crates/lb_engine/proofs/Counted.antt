@@ -1,4 +1,5 @@
 -- As many landings are booked at a queue as fit: no more than all lanes have tasks in hand.
+-- For `Engine::serve`.
 use Rattle.std.proofs.Common.{arith, ◌≡◌, ℕ, suc, ◌+◌, ◌<◌, ◌≤◌, List, [], ◌∷◌, length, Option, Some, None, if◌then◌else◌, ◌==◌, Bool, true, false, ap}
 use Rattle.std.proofs.lemmas.List.Sums.{sum_by-cons}
 use Rattle.lb_queue.specs.Hands.{HandState}

@@ -1,4 +1,5 @@
 -- Hands that land one after the other, before the queues are let go.
+-- For `land_last`.
 use Rattle.std.proofs.Common.{ℕ, ◌≡◌, ◌≢◌, ◌<◌, ◌≤◌, ◌+◌, ◌-◌, ◌==◌, Bool, true, false, cond, Option, Some, None, IfSome, is_some, find, All, List, [], ◌∷◌, ◌++◌, length, map, slice_set, slice_index_or, inl, inr, refl, ap, sym, ◌∙◌, subst, arith}
 use Rattle.std.proofs.Math.ListN.{length-set, get_or-append}
 use Rattle.std.proofs.lemmas.Bool.{cases_eq}

@@ -1,5 +1,6 @@
 -- The figures of the queues, in lists with room: room that is made changes no figure, and a queue publishes
 -- one more.
+-- For `Engine::make_room` and `Engine::publish_figure`.
 use Rattle.std.proofs.Common.{ℕ, ◌≡◌, ◌<◌, ◌+◌, List, [], ◌∷◌, ◌++◌, map, length, slice_set, slice_index_or, ap, sym, subst, ◌∙◌}
 use Rattle.std.proofs.Math.Seq.{map-set_same}
 use Rattle.std.proofs.lemmas.List.{map-set, get_or-map, get_or-set_same, length-map}

@@ -1,5 +1,6 @@
 -- Hands and bookings go with the machine after each step: where tasks left, where they landed, and where
 -- neither did.
+-- For the lemmas of `Beside`, `Ending` and `Taking`, and so for `Engine::take_beside`, `Engine::step` and others.
 use Rattle.std.proofs.Common.{ℕ, ◌≡◌, ◌≢◌, ◌<◌, ◌≤◌, ◌+◌, ◌-◌, Bool, true, false, cond, Option, Some, None, IsSomeAnd, List, length, slice_set, inl, inr, refl, ap, sym, ◌∙◌, subst, arith}
 use Rattle.std.proofs.Math.ListN.{length-set}
 use Rattle.std.proofs.lemmas.Bool.{eq-eqb, ne_eqb, cases_eq}

@@ -1,4 +1,5 @@
 -- The `out` that is due at a queue, and the hands of lanes, where the fields of the engine show the machine.
+-- For `Engine::take_landing` and `Engine::take_off`.
 use Rattle.std.proofs.Common.{ℕ, ◌≡◌, ◌<◌, ◌-◌, Option, Some, None, IsSomeAnd, List, length, slice_set, slice_index_or, ap, sym, refl, subst, ◌∙◌}
 use Rattle.std.proofs.lemmas.List.{get_or_default}
 use Rattle.lb_detach.specs.declared.Env.{Env}

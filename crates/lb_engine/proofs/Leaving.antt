@@ -1,4 +1,5 @@
--- Tasks that left a queue, by each of the causes.
+-- Tasks that left a queue by a wake, a stop, a push or a pull: the step of the engine, cause by cause.
+-- For `leave_by_stop`, `leave_by_push`, `leave_asleep` and others.
 use Rattle.std.proofs.Common.{ℕ, ◌≡◌, Option, Some, None, List, [], ◌++◌, length, refl, ap, sym, ◌∙◌, subst}
 use Rattle.lb_detach.specs.declared.Env.{Env}
 use Rattle.lb_queue.specs.declared.record.TaskRecord.{TaskRecord}

@@ -1,4 +1,5 @@
 -- The step of a queue's entry is what the entry itself changes, and then its figure.
+-- For the lemmas of `Taking`, and so for `Engine::take_of_queue`.
 use Rattle.std.proofs.Common.{ℕ, ◌≡◌, ◌<◌, ◌≤◌, ◌+◌, ◌-◌, List, [], ◌∷◌, ◌++◌, length, slice_set, ap, ◌∙◌, arith}
 use Rattle.std.proofs.lemmas.List.{get_or-set_same, set-set}
 use Rattle.lb_queue.specs.Queue.{QueueState}

@@ -1,4 +1,5 @@
 -- The states and the bookings of a list of queues, as contracts see them.
+-- For `Engine::start`, `land_all` and `land_last`.
 use Rattle.std.proofs.Common.{ℕ, ◌≡◌, ◌<◌, List, map, length, slice_set, slice_index_or}
 use Rattle.std.proofs.lemmas.List.{map-set, get_or-map}
 use Rattle.lb_queue.specs.Queue.{QueueState, BookedQueue}

@@ -1,5 +1,6 @@
 -- The step of a queue's entry, from what the code changed: the queue of its CPU, the course of its lane,
 -- and the places of tasks.
+-- For `Engine::take_landing`, `Engine::take_kick`, `Engine::take_close` and others.
 use Rattle.std.proofs.Common.{ℕ, ◌≡◌, ◌<◌, Bool, List, length, slice_set, slice_index_or, ap, sym, refl, subst, ◌∙◌}
 use Rattle.std.proofs.Math.Seq.{map-set_same}
 use Rattle.std.proofs.lemmas.List.{get_or_default, length-map}

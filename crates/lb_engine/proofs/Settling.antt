@@ -1,5 +1,7 @@
 -- What an entry leaves of the course of its lane: it is in flight after an `out` alone, and as many numbers
 -- are kept as before.
+-- For the lemmas of `Beside` and `Taking`, and so for `Engine::take_beside`, `Engine::step` and
+-- `Engine::take_of_queue`.
 use Rattle.std.proofs.Common.{ℕ, ◌≡◌, nat_lt, Bool, true, false, cond, ◌&&◌, Option, Some, None, List, [], ◌∷◌, length, slice_set, refl, ap, ◌∙◌}
 use Rattle.std.proofs.Math.ListN.{length-set}
 use Rattle.lb_base.specs.declared.shape.Kind.{Kind}

@@ -1,4 +1,5 @@
 -- The engine before any entry: the machine of the header, and no lane with a hand.
+-- For `Engine::start`.
 use Rattle.std.proofs.Common.{ℕ, ◌≡◌, ◌*◌, zero, suc, false, Option, None, List, [], ◌∷◌, length, map, replicate, refl, ap, sym, ◌∙◌, subst, arith}
 use Rattle.std.specs.List.{range_with_len}
 use Rattle.std.proofs.lemmas.List.{length-replicate}

@@ -1,5 +1,6 @@
 -- The step of an entry of a queue, for hands and bookings: what the engine keeps where its figure is
 -- published, and that hands still go with the machine.
+-- For `Engine::take_of_queue`.
 use Rattle.std.proofs.Common.{ℕ, ◌≡◌, ◌<◌, false, Option, Some, None, IsSomeAnd, List, length, refl, ap, sym, ◌∙◌, subst, arith}
 use Rattle.std.proofs.Math.ListN.{length-set}
 use Rattle.std.proofs.lemmas.List.{get_or-set_same}

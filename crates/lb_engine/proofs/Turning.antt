@@ -1,4 +1,5 @@
 -- The shapes of a lane's turn, as the engine shows them, and what is asked of them.
+-- For `Engine::take_turn` and `Engine::take_shut`.
 use Rattle.std.proofs.Common.{◌≡◌, ◌≤◌, ℕ, List, length, ap, sym, subst, ◌∙◌}
 use Rattle.lb_base.specs.declared.shape.Shape.{Shape}
 use Rattle.lb_queue.specs.declared.queue.TheConstants.{MAX_SHAPES}

@@ -1,5 +1,7 @@
 -- What the step of an entry asks of the machine beside what its call of a queue asks: named facts, each of
 -- which a machine that is ready has for an entry that may be added.
+-- Cited by the contracts of `Engine::take_out`, `Engine::take_row`, `Engine::take_look` and others; also by
+-- `lb_draw`, `lb_due` and other crates.
 use Rattle.std.specs.Prelude.{◌≡◌, ℕ, ◌<◌, Bool, true, false, Option, Some, None, IfSome, List, length}
 use Rattle.lb_base.specs.declared.figure.Fig.{Fig}
 use Rattle.lb_queue.specs.Queue.{QueueState, is_awake}

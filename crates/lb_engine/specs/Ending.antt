@@ -1,4 +1,5 @@
 -- What is asked of hands and queues so that each hand can land before they are let go.
+-- Cited by the contracts of `Engine::end`, `land_last` and `land_all`; also by `lb_state`.
 use Rattle.std.specs.Prelude.{◌≡◌, ℕ, ◌+◌, ◌<◌, ◌≤◌, Option, Some, None, IfSome, All, List, length, sum_by}
 use Rattle.lb_queue.specs.Hands.{HandState}
 use Rattle.lb_queue.specs.Queue.{QueueState}

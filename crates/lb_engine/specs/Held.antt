@@ -1,6 +1,8 @@
 -- What the engine is, as contracts see it: the machine that it holds, and what the machine does
 -- not show: the hand of each lane that is in flight, how many landings are booked at each queue, and for
 -- how many more figures of each queue there is room. And how the hands go with the machine.
+-- Cited by the contracts of `Engine::take_out`, `Engine::take_landing`, `Engine::start` and others; also by
+-- `lb_state`.
 use Rattle.std.specs.Prelude.{◌≡◌, ℕ, ◌==◌, false, true, if◌then◌else◌, Option, Some, None, List, length, sum_by}
 use Rattle.std.specs.List.{slice_index_or}
 use Rattle.lb_queue.specs.Hands.{HandState}

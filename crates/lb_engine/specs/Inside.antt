@@ -1,5 +1,6 @@
 -- What holds inside the engine: the levels are those of the header's machine, and each version has the
 -- domains within its masks.
+-- What contracts see of the type `Engine`.
 use Rattle.std.specs.Prelude.{◌≡◌, All, List}
 use Rattle.lb_levels.specs.Rows.{Layout, layout_of}
 use Rattle.lb_domain.specs.Topologies.{DomainsWithin, domains_within}

@@ -1,5 +1,7 @@
 -- Tasks that leave a queue in a hand, by the `out` that is due; and what the engine is after they left, and
 -- after they landed.
+-- Cited by the contracts of `Engine::take_out`, `Engine::take_landing`, `leave_asleep` and others; also by
+-- `lb_state`.
 use Rattle.std.specs.Prelude.{◌≡◌, ℕ, ◌+◌, ◌-◌, Option, Some, None, IfSome, IsSomeAnd, length, slice_set, true, false}
 use Rattle.lb_queue.specs.declared.answers.Taken.{Taken}
 use Rattle.lb_queue.specs.Hands.{HandState}

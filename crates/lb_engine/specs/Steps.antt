@@ -1,5 +1,7 @@
 -- The step of an entry in layers: what the entry itself changes, then the figure that its queue publishes,
 -- then the last tickets.
+-- Cited by the contracts of `Engine::take_out`, `Engine::take_landing`, `Engine::take_row` and others; also by
+-- `lb_state`.
 use Rattle.std.specs.Prelude.{ℕ, ◌+◌, [], ◌∷◌, ◌++◌, length, slice_set}
 use Rattle.lb_queue.specs.Figures.{figure}
 use Rattle.lb_core.specs.declared.entry.Entry.{Entry}

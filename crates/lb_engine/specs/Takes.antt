@@ -1,5 +1,6 @@
 -- What the step of an entry asks of the engine, by its owner and its kind; and what it does to hands and
 -- bookings.
+-- Cited by the contracts of `Engine::take`, `Engine::take_beside`, `Engine::serve` and others; also by `lb_state`.
 use Rattle.std.specs.Prelude.{◌≡◌, ℕ, ◌+◌, ◌^◌, ◌<◌, ◌≤◌, Bool, true, false, is_some, IsSome, IsSomeAnd, All, List, length}
 use Rattle.lb_base.specs.declared.mask.TheConstants.{MAX_CPUS}
 use Rattle.lb_queue.specs.declared.answers.OutCause.{OutCause}

@@ -1,4 +1,5 @@
 -- What `csv` reads of a plain line: its pieces between the commas.
+-- For `next_fields`.
 use Rattle.std.proofs.Common.{◌≡◌, ℕ, Bool, true, false, eqb, cond, ◌&&◌, List, [], ◌∷◌, ◌++◌, ◌==◌, Bor, Some, None, inl, inr, refl, sym, ap, subst, ◌∙◌, append_assoc}
 use Rattle.std.proofs.lemmas.List.{append-nil}
 use Rattle.std.proofs.lemmas.Bool.{cases_Bool, eqb-true}
@@ -87,7 +88,8 @@ reads_on before fields field (byte ∷ line) tail plain =
     let feed = no_feed byte (and-left _ _ plain) in
     let more = and-right _ _ plain in
     elim (cases_Bool (byte == 44)) [
-      | inl comma ↦ at_comma before fields field byte (line ++ 10 ∷ tail) comma ∙ reads_on true (fields ++ field ∷ []) [] line tail more
+      | inl comma ↦ at_comma before fields field byte (line ++ 10 ∷ tail) comma ∙ reads_on true (fields ++ field ∷ [])
+          [] line tail more
           ∙ ap (λ t. Some (t, states.StartRecord, tail))
           (append_assoc fields (field ∷ []) (onto_front [] (pieces 44 line))
           ∙ ap (λ t. fields ++ t) (sym (comma_pieces field byte line comma)))
@@ -98,7 +100,8 @@ reads_on before fields field (byte ∷ line) tail plain =
 
 -- a line that isn't empty begins as a field does
 start_same : (byte : ℕ) (rest : List ℕ) → (byte == 10) ≡ false
-    → next_record plain_config states.StartRecord [] [] (byte ∷ rest) ≡ next_record plain_config (in_line true) [] [] (byte ∷ rest)
+    → next_record plain_config states.StartRecord [] [] (byte ∷ rest) ≡ next_record plain_config (in_line true) [] []
+    (byte ∷ rest)
 unfolding next_record
 start_same byte rest feed = rw feed refl
 

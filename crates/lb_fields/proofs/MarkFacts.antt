@@ -1,4 +1,5 @@
 -- A text whose first line is plain does not begin with a byte order mark.
+-- For `start`.
 use Rattle.std.proofs.Common.{◌≡◌, ℕ, true, List, [], ◌∷◌, inl, inr, refl, sym, ap, subst}
 use Rattle.std.specs.Prelude.{slice_index_or, ◌==◌}
 use Rattle.std.specs.List.{onto_first}
@@ -14,7 +15,8 @@ no_mark_first (p ∷ ps) lines line cut plain =
     let same : (0xEF ∷ p) ≡ line = ap (λ (l : List (List ℕ)). slice_index_or l 0 []) cut in
     cc (subst (λ (l : List ℕ). is_plain l ≡ true) (sym same) plain)
 
-pub no_mark : (text line : List ℕ) (lines : List (List ℕ)) → pieces 10 text ≡ line ∷ lines → is_plain line ≡ true → strip_bom text ≡ text
+pub no_mark : (text line : List ℕ) (lines : List (List ℕ)) → pieces 10 text ≡ line ∷ lines → is_plain line ≡ true
+    → strip_bom text ≡ text
 unfolding strip_bom
 no_mark [] line lines cut plain = refl
 no_mark (a ∷ []) line lines cut plain = refl

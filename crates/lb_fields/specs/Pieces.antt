@@ -1,5 +1,6 @@
 -- A text as the pieces between its marks: lines between line feeds, fields between commas. There is
 -- one piece more than there are marks. A line is plain where each of its bytes may stand in a trace.
+-- Cited by the contracts of `start`, `next_fields` and `is_plain`; also by `lb_generator`, `lb_read` and `lb_trace`.
 use Rattle.std.specs.Prelude.{ℕ, Bool, List, ◌||◌, ◌==◌}
 use Rattle.std.specs.Char.{is_ascii_digit, is_ascii_lowercase}
 use Rattle.std.specs.List.{list_all, slice_split}

@@ -1,5 +1,6 @@
 -- Where a reader of fields stands between two lines: its next read begins at the start of a line, and
 -- it is known which text it reads from there on.
+-- Cited by the contracts of `start` and `next_fields`; also by `lb_trace`.
 use Rattle.std.specs.Prelude.{◌≡◌, ℕ, true, false, List, Some, None}
 use Rattle.std.specs.Borrow.{Bor}
 use Rattle.csv.specs.Reading.{source_of, Ready, reader_config, reader_trim, reader_state, is_flexible}

@@ -1,4 +1,5 @@
 -- The text of a drawn trace reads as that trace, and its moments are small.
+-- For the laws `are_accepted` and `moments_are_small`.
 use Rattle.std.proofs.Common.{◌≡◌, ℕ, zero, suc, ◌+◌, ◌*◌, ◌≤◌, true, eqb, ltb, leb, List, [], ◌∷◌, ◌++◌, map, length, refl, sym, ◌∙◌, length-append, arith}
 use Rattle.std.specs.List.{list_all, slice_split}
 use Rattle.std.proofs.lemmas.Bool.{and_from, lt-ltb, le-leb}

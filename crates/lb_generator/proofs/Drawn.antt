@@ -1,4 +1,6 @@
 -- What a drawn row asks for is declared, and what was drawn is below the number of choices.
+-- For the lemmas of `HeaderLines`, `RowLines` and `Values`, and so for the laws `are_accepted` and
+-- `moments_are_small`.
 use Rattle.std.proofs.Common.{◌≡◌, ℕ, ◌*◌, ◌<◌, ℤ, pos, negsuc, ◌≤ℤ◌, true, eqb, ltb, List, [], ◌∷◌, refl, arith, inl, inr}
 use Rattle.std.specs.Prelude.{◌⊎◌, ◌-ℤ◌}
 use Rattle.std.proofs.lemmas.Bool.{cases_Bool, le-leb}

@@ -1,5 +1,6 @@
 -- Fields of a line: each byte may stand in a trace and is no comma. A line of such fields is cut at its
 -- commas into them, has bytes that may stand in a trace alone, and no line feed.
+-- For the lemmas of `Accepted`, `Good` and other files, and so for the laws `are_accepted` and `moments_are_small`.
 use Rattle.std.proofs.Common.{◌≡◌, ℕ, suc, ◌*◌, ◌^◌, ◌<◌, ◌≤◌, ℤ, pos, negsuc, Bool, true, false, not, ◌&&◌, eqb, leb, length, length-append, List, [], ◌∷◌, ◌++◌, refl, sym, ap, ◌∙◌, arith, append_assoc, inl, inr}
 use Rattle.std.specs.Prelude.{decimal}
 use Rattle.std.specs.Char.{is_ascii_digit}

@@ -1,4 +1,5 @@
--- A line of fields that is good is read.
+-- A line that is spelled from fields which pass every test of a trace is read as what they say.
+-- For the lemmas of `HeaderLines` and `RowLines`, and so for the laws `are_accepted` and `moments_are_small`.
 use Rattle.std.proofs.Common.{◌≡◌, ℕ, true, false, eqb, List, [], ◌∷◌, ◌++◌, Some, Ok, refl, ap}
 use Rattle.std.specs.List.{list_all, slice_split}
 use Rattle.lb_fields.specs.Pieces.{is_plain}

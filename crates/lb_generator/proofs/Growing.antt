@@ -1,4 +1,5 @@
 -- The lines of a drawn trace, one more at a time.
+-- For `put_tasks`, `put_header`, `put_rows` and `put_cpus`.
 use Rattle.std.proofs.Common.{◌≡◌, ℕ, suc, ◌+◌, ◌-◌, ◌<◌, ◌≤◌, List, [], ◌∷◌, ◌++◌, map, refl, sym, ap, ◌∙◌, arith, append_assoc}
 use Rattle.std.specs.Prelude.{codes}
 use Rattle.std.specs.Fmt.{digits}

@@ -1,4 +1,5 @@
--- The lines of the header are read.
+-- The lines of a drawn trace's header are good ones, and read as that header.
+-- For the lemmas of `Accepted` and `RowLines`, and so for the laws `are_accepted` and `moments_are_small`.
 use Rattle.std.proofs.Common.{◌≡◌, ℕ, zero, suc, ◌+◌, ◌%◌, ◌<◌, pos, true, false, eqb, List, [], ◌∷◌, ◌++◌, map, length, Some, None, Result, Ok, refl, sym, ap, ◌∙◌, append_assoc, arith, inl, inr}
 use Rattle.std.specs.Prelude.{codes, decimal, ◌-ℤ◌}
 use Rattle.std.specs.Fmt.{digits, signed_decimal}

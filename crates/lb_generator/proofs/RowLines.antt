@@ -1,4 +1,5 @@
--- The lines of the rows are read.
+-- The lines of a drawn trace's rows are good ones, and read as those rows.
+-- For the lemmas of `Accepted`, and so for the laws `are_accepted` and `moments_are_small`.
 use Rattle.std.proofs.Common.{◌≡◌, ℕ, zero, suc, ◌+◌, ◌*◌, ◌%◌, ◌^◌, ◌<◌, ◌≤◌, ℤ, Bool, true, false, not, ◌&&◌, eqb, ltb, List, [], ◌∷◌, ◌++◌, map, length, Some, None, Result, Ok, refl, sym, ap, subst, ◌∙◌, append_assoc, arith, inl, inr}
 use Rattle.std.specs.Prelude.{decimal}
 use Rattle.std.specs.List.{list_all}
@@ -319,7 +320,8 @@ command_read n lane at done (commands.SetMask task mask) p drawn mine own =
 command_read n lane at done (commands.Nice task nice) p drawn mine own = nice_read n lane at task nice done p drawn.0 drawn.1
 command_read n lane at done (commands.Tick cpu) p drawn mine own =
     let same : lane ≡ cpu % 4 = eqb-true lane (cpu % 4) mine in
-    let P : ℕ → Type 0 = λ l. IsPlaced n l at done → line_at (with_rows n done) false (row_line (row_with l at (commands.Tick cpu)))
+    let P : ℕ → Type 0 = λ l. IsPlaced n l at done → line_at (with_rows n done) false
+    (row_line (row_with l at (commands.Tick cpu)))
     ≡ Ok (with_rows (n + 1) (done ++ row_with l at (commands.Tick cpu) ∷ [])) in
     subst P (sym same) (λ q. tick_read n at cpu done q drawn own) p
 command_read n lane at done (commands.Rebuild parts) p drawn mine own = elim drawn [

@@ -1,4 +1,5 @@
 -- What is written in a line of a drawn trace is read back: numbers, nice values and the three masks.
+-- For the lemmas of `HeaderLines` and `RowLines`, and so for the laws `are_accepted` and `moments_are_small`.
 use Rattle.std.proofs.Common.{◌≡◌, ℕ, suc, ◌^◌, ◌<◌, ◌≤◌, ℤ, pos, negsuc, true, Some, refl, ap, ◌∙◌, arith, inl, inr}
 use Rattle.std.specs.Prelude.{decimal, neg_ℤ}
 use Rattle.std.specs.Fmt.{digits, signed_decimal}

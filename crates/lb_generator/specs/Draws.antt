@@ -1,5 +1,6 @@
 -- Numbers that are drawn one after the other: each draw goes from a state of 64 bits to the next one,
 -- and gives that state's upper 31 bits modulo the number of choices.
+-- Cited by the contracts of `Draws::draw`, `Draws::row`, `Draws::rebuild` and others.
 use Rattle.std.specs.Prelude.{◌≡◌, ℕ, ◌+◌, ◌*◌, ◌/◌, ◌%◌, ◌^◌}
 
 -- the state after a draw

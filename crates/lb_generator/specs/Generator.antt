@@ -1,5 +1,6 @@
 -- The trace that is drawn from a number: 16 CPUs in pairs that share a core, fours that share a cache and
 -- eights that are a node; two nodes; four lanes; 200 tasks. Row r stands at 50,000 ns times r.
+-- Cited by the contracts of `Draws::row`, `lower_cpus`, `all_cpus` and others; also by `lb`.
 use Rattle.std.specs.Prelude.{ℕ, zero, suc, ◌+◌, ◌*◌, ◌/◌, ◌%◌, ◌==◌, nat_lt, if◌then◌else◌, List, [], ◌∷◌, map, pos, ◌-ℤ◌}
 use Rattle.std.specs.List.{range_with_len}
 use Rattle.lb_base.specs.declared.mask.Mask.{Mask}

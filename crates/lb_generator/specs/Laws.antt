@@ -1,4 +1,5 @@
 -- Laws of the drawn traces: their texts are accepted, and their moments stay below five seconds.
+-- Cited by the laws `are_accepted` and `moments_are_small`.
 use Rattle.std.specs.Prelude.{◌≡◌, ℕ, ◌≤◌, true, nat_lt, Ok}
 use Rattle.std.specs.List.{list_all}
 use Rattle.lb_trace.specs.declared.trace.TheConstants.{MAX_ROWS}

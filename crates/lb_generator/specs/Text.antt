@@ -1,5 +1,6 @@
 -- The text of a drawn trace: its lines in order, each in its one spelling, with a comma between each two
 -- fields and a line feed at its end. It has no line `parts`: the partition is all CPUs. No mask is empty.
+-- Cited by the contracts of `put_row`, `put_cpu`, `put_task` and others; also by `lb`.
 use Rattle.std.specs.Prelude.{ℕ, List, [], ◌∷◌, ◌++◌, map, codes, decimal}
 use Rattle.std.specs.Fmt.{signed_decimal}
 use Rattle.std.specs.List.{range_with_len}

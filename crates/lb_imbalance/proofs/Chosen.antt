@@ -1,4 +1,5 @@
 -- The decision that is computed is the one that the relations describe, and they describe no other.
+-- For the law `decision_is_the_choice`.
 use Rattle.std.proofs.Common.{◌≡◌, ℕ, Bool, true, false, cond, eqb, Option, Some, None, List, refl, ◌∙◌, ap}
 use Rattle.std.specs.Prelude.{MatchBool}
 use Rattle.lb_base.specs.declared.mask.Mask.{Mask}
@@ -33,7 +34,8 @@ holds : (b : Bool) (x y : Decision) (P Q : Decision → Type 0) → P x → Q y 
 holds true x y P Q p q = p
 holds false x y P Q p q = q
 
-only : (b : Bool) (x y d : Decision) (P Q : Decision → Type 0) → (P d → d ≡ x) → (Q d → d ≡ y) → MatchBool b (P d) (Q d) → d ≡ cond b x y
+only : (b : Bool) (x y d : Decision) (P Q : Decision → Type 0) → (P d → d ≡ x) → (Q d → d ≡ y) → MatchBool b (P d) (Q d)
+    → d ≡ cond b x y
 only true x y d P Q p q h = p h
 only false x y d P Q p q h = q h
 
@@ -42,11 +44,13 @@ is_pull_from : (imbalance : Imbalance) (source : Option ℕ) → IsPullFrom imba
 is_pull_from imbalance None = refl
 is_pull_from imbalance (Some cpu) = refl
 
-only_pull_from : (imbalance : Imbalance) (source : Option ℕ) (d : Decision) → IsPullFrom imbalance source d → d ≡ pull_from imbalance source
+only_pull_from : (imbalance : Imbalance) (source : Option ℕ) (d : Decision) → IsPullFrom imbalance source d
+    → d ≡ pull_from imbalance source
 only_pull_from imbalance None d e = e
 only_pull_from imbalance (Some cpu) d e = e
 
-evens_out : Laws → (figs : List Fig) (group : Mask) (imbalance : Imbalance) → EvensOut figs group imbalance (pull_or_balanced figs group imbalance)
+evens_out : Laws → (figs : List Fig) (group : Mask) (imbalance : Imbalance) → EvensOut figs group imbalance
+    (pull_or_balanced figs group imbalance)
 unfolding pull_or_balanced
 evens_out laws figs group imbalance =
     let source = source_of figs group imbalance.kind imbalance.amount in
@@ -77,11 +81,13 @@ follows laws shape groups figs busy excluded stats (Some b) =
     let group = without (group_at groups b) excluded in
     let imbalance = imbalance_of shape busy (domain_average stats) (stats_at stats 0) (stats_at stats b) in
     holds (is_level shape busy (domain_average stats) (stats_at stats 0) (stats_at stats b)) Balanced
-    (pull_or_balanced figs group imbalance) (λ d. d ≡ Balanced) (EvensOut figs group imbalance) refl (evens_out laws figs group imbalance)
+    (pull_or_balanced figs group imbalance) (λ d. d ≡ Balanced) (EvensOut figs group imbalance) refl
+    (evens_out laws figs group imbalance)
 
 only_follows : Laws → (shape : Shape) (groups : List Mask) (figs : List Fig) (busy : Bool) (excluded : Mask)
     (stats : List Stats) (busiest : Option ℕ) (d : Decision)
-    → FollowsBusiest shape groups figs busy excluded stats busiest d → d ≡ from_busiest shape groups figs busy excluded stats busiest
+    → FollowsBusiest shape groups figs busy excluded stats busiest d → d ≡ from_busiest shape groups figs busy excluded
+    stats busiest
 unfolding pull_from_group
 only_follows laws shape groups figs busy excluded stats None d e = e
 only_follows laws shape groups figs busy excluded stats (Some b) d h =
@@ -116,15 +122,18 @@ is_decision laws shape groups figs cpu kind excluded =
     let busy = is_busy kind figs cpu in
     let stats = all_stats shape groups figs excluded in
     holds (may_balance kind figs (group_at groups 0) cpu)
-    (decision_over shape groups figs busy excluded stats) NotMine (IsChoice shape groups figs busy excluded stats) (λ d. d ≡ NotMine)
+    (decision_over shape groups figs busy excluded stats) NotMine (IsChoice shape groups figs busy excluded stats)
+    (λ d. d ≡ NotMine)
     (is_choice laws shape groups figs busy excluded stats) refl
 
 pub only_decision : Laws → (shape : Shape) (groups : List Mask) (figs : List Fig) (cpu : ℕ) (kind : Kind)
-    (excluded : Mask) (d : Decision) → IsDecision shape groups figs cpu kind excluded d → d ≡ decision shape groups figs cpu kind excluded
+    (excluded : Mask) (d : Decision) → IsDecision shape groups figs cpu kind excluded d → d ≡ decision shape groups figs
+    cpu kind excluded
 unfolding decision
 only_decision laws shape groups figs cpu kind excluded d =
     let busy = is_busy kind figs cpu in
     let stats = all_stats shape groups figs excluded in
     only (may_balance kind figs (group_at groups 0) cpu)
-    (decision_over shape groups figs busy excluded stats) NotMine d (IsChoice shape groups figs busy excluded stats) (λ d. d ≡ NotMine)
+    (decision_over shape groups figs busy excluded stats) NotMine d (IsChoice shape groups figs busy excluded stats)
+    (λ d. d ≡ NotMine)
     (only_choice laws shape groups figs busy excluded stats d) (λ e. e)

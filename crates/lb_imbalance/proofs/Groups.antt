@@ -1,5 +1,6 @@
 -- The groups of a domain without the excluded CPUs: each has figures and small sums, and the local
 -- one keeps its CPU. For callers too.
+-- For `balances` and `decide`; cited by `lb_lane_laws`, `lb_ready` and `lb_state` too.
 use Rattle.std.proofs.Common.{◌≡◌, ℕ, ◌-◌, ◌^◌, ◌<◌, true, false, eqb, w64, List, [], ◌∷◌, length, get_or, sym, ◌∙◌, ap, arith, inl, inr}
 use Rattle.std.specs.Prelude.{All}
 use Rattle.std.proofs.lemmas.Bool.{eqb-false, and_parts, and_from, both_ways, cases_lt}
@@ -33,7 +34,8 @@ left_has a b k fits lt here away =
 
 -- a mask's CPUs are below the constant
 pub below_all : (m : Mask) (k : ℕ) → m.bits < 2 ^ 64 → has m k ≡ true → k < 64
-below_all m k fits here = elim (cases_lt k 64) [ inl lt ↦ lt | inr above ↦ absurd (both_ways (has m k) (has_above m k fits above) here) ]
+below_all m k fits here = elim (cases_lt k 64)
+    [ inl lt ↦ lt | inr above ↦ absurd (both_ways (has m k) (has_above m k fits above) here) ]
 
 -- there is a group where the first one has a CPU
 pub some_group : (groups : List Mask) (k : ℕ) → has (get_or groups 0 no_cpus) k ≡ true → 0 < length groups
@@ -56,7 +58,12 @@ pub all_have_small_sums : (figs : List Fig) (excluded : Mask) (groups : List Mas
     → HaveSmallSums figs excluded groups → All (λ g. HasSmallSums figs (without g excluded)) groups
 all_have_small_sums figs excluded groups small =
     All-from_get_or (λ g. HasSmallSums figs (without g excluded)) groups no_cpus (λ i lt. record {
-      nr = omega (arith, small.nr, get_or-le-sum_by (λ (g : Mask). total (λ fig. fig.nr) figs (without g excluded)) groups i no_cpus lt);
+      nr = omega (
+        arith,
+        small.nr,
+        get_or-le-sum_by (λ (g : Mask). total (λ fig. fig.nr) figs (without g excluded))
+            groups i no_cpus lt,
+      );
       load = omega (
         arith,
         small.load,

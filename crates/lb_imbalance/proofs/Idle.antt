@@ -1,4 +1,5 @@
 -- What a walk over the CPUs of a group finds that looks for an idle one.
+-- For `first_idle`.
 use Rattle.std.proofs.Common.{◌≡◌, ℕ, ◌+◌, ◌<◌, false, eqb, Option, Some, None, List, sym, arith, inl, inr}
 use Rattle.std.proofs.lemmas.Bool.{and_from, and_left, and_right, cases_lt, eq-eqb, ne_eqb}
 use Rattle.lb_base.specs.declared.mask.Mask.{Mask}

@@ -1,5 +1,6 @@
 -- The statistics of the groups: one group more at its place, and the ranges of their numbers. For callers
 -- too: these ranges.
+-- For `decide` and `stats_of_groups`; cited by `lb_ready` too.
 use Rattle.std.proofs.Common.{◌≡◌, ℕ, ◌+◌, ◌*◌, ◌/◌, ◌^◌, ◌<◌, ◌≤◌, true, List, [], ◌∷◌, ◌++◌, length, take, get_or, refl, sym, ◌∙◌, ap, arith, inl, inr}
 use Rattle.std.specs.Prelude.{All, map, sum_by, slice_set}
 use Rattle.std.proofs.Math.Nat.{div-le_of_le-mul, mul-le-mul_left}
@@ -63,7 +64,8 @@ idle_count-le : (figs : List Fig) (group : Mask) → idle_count figs group ≤ l
 unfolding idle_count
 idle_count-le figs group = count_by-le-length (λ cpu. is_idle (fig_at figs cpu)) (members group)
 
-in_range : (figs : List Fig) (group : Mask) (position pct : ℕ) → HasSmallSums figs group → IsInRange (stats_of figs group position pct)
+in_range : (figs : List Fig) (group : Mask) (position pct : ℕ) → HasSmallSums figs group
+    → IsInRange (stats_of figs group position pct)
 unfolding stats_of
 in_range figs group position pct small =
     let few = length-members_le group in
@@ -91,7 +93,8 @@ caps_small stats few ranges =
     omega (arith, sum_by-le (λ (s : Stats). s.cap) (2 ^ 20) stats each)
 
 pub all_loads : (shape : Shape) (groups : List Mask) (figs : List Fig) (excluded : Mask)
-    → sum_by (λ s. s.load) (all_stats shape groups figs excluded) ≡ sum_by (λ g. total (λ fig. fig.load) figs (without g excluded)) groups
+    → sum_by (λ s. s.load) (all_stats shape groups figs excluded) ≡ sum_by
+    (λ g. total (λ fig. fig.load) figs (without g excluded)) groups
 unfolding all_stats stats_of
 all_loads shape [] figs excluded = refl
 all_loads shape (g ∷ gs) figs excluded =
@@ -108,7 +111,8 @@ some_member m k here lt =
     omega (arith, sum_members_fits one m k here lt, sum_by-le one 1 (members m) each)
 
 pub first_cap : (shape : Shape) (groups : List Mask) (figs : List Fig) (excluded : Mask) → 0 < length groups → (k : ℕ)
-    → k < 64 → has (without (get_or groups 0 no_cpus) excluded) k ≡ true → 1024 ≤ sum_by (λ s. s.cap) (all_stats shape groups figs excluded)
+    → k < 64 → has (without (get_or groups 0 no_cpus) excluded) k ≡ true → 1024 ≤ sum_by (λ s. s.cap)
+    (all_stats shape groups figs excluded)
 unfolding all_stats stats_of
 first_cap shape [] figs excluded some k lt here = absurd (omega arith)
 first_cap shape (g ∷ gs) figs excluded some k lt here =

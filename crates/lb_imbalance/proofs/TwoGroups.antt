@@ -1,4 +1,5 @@
 -- Domains of two groups whose masks are literals, as the tests have them.
+-- For `lb_tests`.
 use Rattle.std.proofs.Common.{◌≡◌, ℕ, ◌^◌, ◌<◌, Bool, true, false, ◌&&◌, ◌||◌, [], ◌∷◌, bit_and, bit_or, refl, sym, ◌∙◌, ap, inl, inr}
 use Rattle.std.proofs.lemmas.Bool.{both_ways, cases_lt}
 use Rattle.lb_base.specs.declared.mask.Mask.{Mask}
@@ -22,5 +23,6 @@ below m n fits k here = elim (cases_lt k n)
 pub apart : (a b : Mask) → bit_and a.bits b.bits ≡ 0 → (k : ℕ) → has a k ≡ true → has b k ≡ false
 unfolding has
 apart a b e k here =
-    let both : (has a k && has b k) ≡ false = sym (bit_set_and a.bits b.bits k) ∙ ap (λ (n : ℕ). bit_set n k) e ∙ bit_set_zero k in
+    let both : (has a k && has b k) ≡ false = sym (bit_set_and a.bits b.bits k) ∙ ap (λ (n : ℕ). bit_set n k) e ∙
+    bit_set_zero k in
     rw here at both

@@ -1,5 +1,7 @@
 -- The imbalance between two groups that are not level: what is to move, and how much of it. An
 -- amount of 0 says that nothing is to move.
+-- Cited by the contracts of `imbalance_between`, `one_task`, `pressed` and others; also by `lb_journal_rows`,
+-- `lb_lane` and other crates.
 use Rattle.std.specs.Prelude.{ℕ, ◌-◌, ◌*◌, ◌/◌, min, max, ◌==◌, nat_lt, Bool, true, false, not, ◌&&◌, ◌||◌, if◌then◌else◌}
 use Rattle.lb_base.specs.declared.group.Stats.{Stats}
 use Rattle.lb_base.specs.declared.group.GroupType.{GroupType}

@@ -1,5 +1,7 @@
 -- The balance test: whether the busiest and the local group are level, so that nothing is to move.
 -- The types of both say which comparison decides.
+-- Cited by the contracts of `level`, `level_beside_spare`, `level_by_idle` and `level_by_load`; also by
+-- `lb_journal_rows`, `lb_lane` and other crates.
 use Rattle.std.specs.Prelude.{ℕ, ◌+◌, ◌*◌, ◌==◌, nat_lt, nat_le, Bool, true, false, not, ◌&&◌, ◌||◌}
 use Rattle.lb_base.specs.declared.group.Stats.{Stats}
 use Rattle.lb_base.specs.declared.group.GroupType.{GroupType}

@@ -1,6 +1,7 @@
 -- The decision in words of relations: there is a busiest group or none, and a source queue or
 -- none, and the answer follows from these two and from what the balance test and the imbalance say
 -- of the statistics.
+-- Cited by the law `decision_is_the_choice`; also by `lb_lane` and `lb_lane_laws`.
 use Rattle.std.specs.Prelude.{ℕ, ◌≡◌, ◌==◌, Bool, Option, Some, None, MatchBool, List}
 use Rattle.lb_base.specs.declared.mask.Mask.{Mask}
 use Rattle.lb_base.specs.declared.figure.Fig.{Fig}

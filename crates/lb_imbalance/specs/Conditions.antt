@@ -1,6 +1,8 @@
 -- What a decision asks of the groups of a domain: that they make up its span, and that the sums of
 -- the figures over all of them, without the excluded CPUs, stay small. Then the statistics of each
 -- group stay in range.
+-- Cited by the contracts of `level`, `decide`, `imbalance_between` and others; also by `lb_lane`, `lb_ready` and
+-- `lb_turn`.
 use Rattle.std.specs.Prelude.{ℕ, ◌≡◌, ◌<◌, ◌^◌, List, sum_by}
 use Rattle.std.specs.List.{list_any}
 use Rattle.lb_base.specs.declared.mask.Mask.{Mask}

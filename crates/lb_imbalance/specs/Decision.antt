@@ -1,6 +1,8 @@
 -- The decision of a CPU about one of its domains, as a function of the domain's shape and groups,
 -- the figures, the CPU, the kind of turn and the excluded CPUs: it is not the CPU's to balance, or
 -- the domain is balanced, or the CPU pulls from a source queue of the busiest group.
+-- Cited by the law `decision_is_the_choice`, and `decide`, `decide_over` and others; also by `lb_core`, `lb_due` and
+-- other crates.
 use Rattle.std.specs.Prelude.{ℕ, ◌*◌, ◌/◌, ◌==◌, Bool, if◌then◌else◌, Option, Some, None, List, map, sum_by}
 use Rattle.std.specs.List.{slice_index_or}
 use Rattle.lb_base.specs.declared.mask.Mask.{Mask}

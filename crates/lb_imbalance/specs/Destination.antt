@@ -1,5 +1,7 @@
 -- The destination of a decision: whether it is busy, and whether it is the CPU that balances the
 -- domain for its group.
+-- Cited by the contracts of `busy`, `balances`, `balancer` and `first_idle`; also by `lb_core`, `lb_course` and other
+-- crates.
 use Rattle.std.specs.Prelude.{ℕ, ◌==◌, nat_lt, Bool, true, false, ◌&&◌, Option, Some, None, List, find}
 use Rattle.std.specs.List.{range_with_len}
 use Rattle.std.specs.Option.{option_or}

@@ -1,5 +1,6 @@
 -- What the decision asks of a domain's level: its imbalance percentage, whether it is above the
 -- shared cache, and whether the domain has siblings below it.
+-- Cited by the contracts of `percent`, `above_cache` and `siblings`; also by `lb_ready`.
 use Rattle.std.specs.Prelude.{ℕ, Bool, true, false, Option, Some, None}
 use Rattle.lb_base.specs.declared.shape.LevelName.{LevelName}
 use Rattle.lb_base.specs.declared.shape.LevelName.TheVariants.{Smt, Mc, Pkg, Numa}

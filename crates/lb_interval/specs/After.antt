@@ -1,6 +1,8 @@
 -- The balance counters of a position: those of a new position, when it is due, and those after each
 -- outcome, as a table by outcome. The weight is that of the domain's span; it is the least interval,
 -- and twice as much the greatest that a balanced look leads to.
+-- Cited by the contracts of `after`, `fresh`, `due` and others; also by `lb_journal_rows`, `lb_queue` and other
+-- crates.
 use Rattle.std.specs.Prelude.{ℕ, ◌+◌, ◌-◌, ◌*◌, ◌^◌, min, max, nat_lt, nat_le, Bool, false, ◌||◌, if◌then◌else◌, Option, Some, None}
 use Rattle.lb_base.specs.declared.shape.Kind.{Kind}
 use Rattle.lb_base.specs.declared.shape.Kind.TheVariants.{Idle}

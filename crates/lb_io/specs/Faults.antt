@@ -1,5 +1,6 @@
 -- Sources and sinks count their faults. A count never falls, and stands still at its type's last
 -- value; a call answers a failure only where the count rose in that call, and else leaves it.
+-- Cited by the contracts of `read_all`, `write_all`, `Source::read` and others; also by `lb`.
 use Rattle.std.specs.Prelude.{ℕ, ◌≡◌, ◌+◌, ◌-◌, ◌^◌, ◌<◌, ◌≤◌, ◌⊎◌, min, Result, OnErr, OnOk}
 
 -- the count after one fault more

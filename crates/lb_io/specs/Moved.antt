@@ -1,5 +1,6 @@
 -- What a call moved out of a source or into a sink, where the object tells its bytes. std's words
 -- say what moves where all is moved; these speak of a part of it.
+-- Cited by the contracts of `read_all`, `write_all`, `Sink::write` and `write`; also by `lb`.
 use Rattle.std.specs.Prelude.{ℕ, ◌≤◌, ◌<◌, List, length, take, IfOk, Result}
 use Rattle.std.specs.declared.option.Option.{Option}
 use Rattle.std.specs.Io.KnownBytes.{Appends, Consumes}

@@ -1,6 +1,7 @@
 -- The machine after a front of the log agrees with the lists of the owners so far: each queue is the
 -- replay of its list, each course is what the lane's last entry left. So the step of the next item
 -- reads the same from the machine as from its owner's list.
+-- For the lemmas of `Merging`, `Resting` and other files, and so for the laws `merge_is_run`, `uses_stay` and others.
 use Rattle.std.proofs.Common.{◌≡◌, ℕ, zero, suc, ◌+◌, ◌-◌, ◌<◌, ◌≤◌, Bool, true, false, eqb, ltb, leb, not, Option, Some, None, List, [], ◌∷◌, ◌++◌, length, get_or, map, replicate, refl, sym, ◌∙◌, ap, subst, arith, inl, inr, ne_eqb, All}
 use Rattle.std.specs.List.{range_with_len, list_any}
 use Rattle.std.proofs.lemmas.Bool.{cases_lt, and_parts, or_parts, ltb-true, leb-true, not-false}

@@ -1,4 +1,6 @@
 -- The entries of a lane are one chain by their quotes: each quotes the last one before it.
+-- For the lemmas of `Agreement`, `Ending` and other files, and so for the laws `known_rest`, `rows_are_own` and
+-- others.
 use Rattle.std.proofs.Common.{◌≡◌, ℕ, zero, suc, ◌<◌, ◌≤◌, refl, sym, ◌∙◌, arith, subst, inl, inr}
 use Rattle.std.proofs.lemmas.Bool.{cases_eq, cases_lt}
 

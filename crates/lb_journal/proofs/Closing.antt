@@ -1,5 +1,6 @@
 -- Where the closing entries are those after a ticket, they come last, and only the first entry of lane 0
 -- has no quote.
+-- For the law `closing_is_last`.
 use Rattle.std.proofs.Common.{map, eq-eqb, refl, Bool, ◌||◌, ◌≡◌, ℕ, zero, suc, ◌<◌, ◌≤◌, true, false, ◌&&◌, List, [], ◌∷◌, get_or, sym, ◌∙◌, ap, subst, arith, inl, inr, All}
 use Rattle.std.specs.List.{list_any}
 use Rattle.std.proofs.lemmas.Bool.{cases_eq, cases_lt, and_parts, and_from, both_ways}

@@ -1,5 +1,6 @@
 -- The lanes are left at rest where each lane that drew a row has a last entry that leaves it at rest:
 -- one that nobody quotes, and there is no other such in its chain.
+-- For the lemmas of `Known` and `Rows`, and so for the laws `known_rest`, `rows_are_own` and others.
 use Rattle.std.proofs.Common.{ltb, ◌≡◌, ℕ, zero, suc, ◌+◌, ◌<◌, ◌≤◌, true, false, List, ◌∷◌, length, get_or, sym, ◌∙◌, ap, subst, arith, inl, inr}
 use Rattle.std.proofs.lemmas.Bool.{and_parts, ltb-true, cases_eq, cases_order, false_from_ne_true}
 use mathlib.Core.Option.{some-injective}

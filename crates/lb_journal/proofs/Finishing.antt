@@ -1,4 +1,5 @@
 -- The closing, entry by entry: it starts where nothing closes, and goes on by an entry above all others.
+-- For the laws `closing_goes_on` and `closing_starts`.
 use Rattle.std.proofs.Common.{All, ◌≡◌, ℕ, ◌<◌, ◌≤◌, false, List, [], ◌∷◌, ◌++◌, length, get_or, sym, ◌∙◌, subst, arith, inl, inr, append-nil}
 use Rattle.std.proofs.lemmas.Bool.{cases_eq}
 use Rattle.std.proofs.lemmas.List.{get_or-set_same, get_or-set_other}

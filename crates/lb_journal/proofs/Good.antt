@@ -1,4 +1,6 @@
 -- What the premises of the merge law say of the log alone, at each place of it.
+-- For the lemmas of `Agreement`, `Bridge` and other files, and so for the laws `merge_is_run`, `closing_is_last` and
+-- others.
 use Rattle.std.proofs.Common.{◌≡◌, ℕ, suc, ◌-◌, ◌<◌, ◌≤◌, Bool, true, false, not, ◌&&◌, leb, ltb, List, [], ◌∷◌, ◌++◌, length, map, get_or, Option, Some, None, is_some, find}
 use Rattle.std.specs.List.{range_with_len, list_any}
 use Rattle.lb_base.specs.declared.mask.Mask.{Mask}

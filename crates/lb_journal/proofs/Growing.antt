@@ -1,4 +1,5 @@
 -- What is said of the figures that items carry, and of closing entries, stays true as the lists grow.
+-- For the laws `closes_now` and `growth_keeps`.
 use Rattle.std.proofs.Common.{◌≡◌, ℕ, ◌+◌, ◌<◌, ◌≤◌, ltb, ◌&&◌, Some, is_some, find, List, [], ◌∷◌, ◌++◌, length, get_or, map, refl, sym, ◌∙◌, ap, subst, arith, All, inl, inr, append-nil}
 use Rattle.std.specs.Prelude.{slice_get}
 use Rattle.std.specs.List.{range_with_len}

@@ -1,6 +1,7 @@
 -- What those who close the book need beside the law: the entries in the order of their tickets are the
 -- log's, however they were put in order; and it is enough to know of the entries that nobody quotes that
 -- they leave their lanes at rest.
+-- For the laws `order_is_log` and `unquoted_rest`.
 use Rattle.std.proofs.Common.{◌≡◌, ◌⊎◌, ℕ, zero, suc, ◌-◌, ◌<◌, ◌≤◌, Bool, true, false, eqb, ◌&&◌, List, [], ◌∷◌, length, get_or, refl, sym, ◌∙◌, ap, subst, arith, inl, inr}
 use Rattle.std.proofs.lemmas.Bool.{cases_Bool, eqb-true, and_parts, eqb-false, both_ways}
 use Rattle.std.proofs.lemmas.List.{length-map, same_lists, get_or-map, nil_from_length}

@@ -1,4 +1,6 @@
 -- The items of an owner in a front of the log, as the log goes on, and what is read off them.
+-- For the lemmas of `Agreement`, `Bridge` and other files, and so for the laws `merge_is_run`, `closes_now` and
+-- others.
 use Rattle.std.proofs.Common.{◌≡◌, ℕ, zero, suc, ◌+◌, ◌<◌, ◌≤◌, Bool, true, false, cond, eqb, List, [], ◌∷◌, ◌++◌, length, get_or, map, take, refl, ◌∙◌, ap, arith, append-nil}
 use Rattle.std.proofs.lemmas.List.{map-append, length-map, get_or_append_left, take-append-le}
 use Rattle.lb_queue.specs.Queue.{QueueState}

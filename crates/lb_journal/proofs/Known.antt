@@ -1,4 +1,5 @@
 -- What the seats of the lanes know when the book is closed says how each lane ends.
+-- For the law `known_rest`; cited by `lb_end` too.
 use Rattle.std.proofs.Common.{◌≡◌, ℕ, zero, suc, List, [], ◌∷◌, get_or, sym, ◌∙◌, ap, subst, arith, inl, inr, ⊎_elim}
 use Rattle.std.proofs.lemmas.List.{length-map, get_or-map}
 use base.Stored.{Coded}

@@ -1,4 +1,6 @@
 -- The items of the log by their tickets: the chain of each lane.
+-- For the lemmas of `Agreement`, `Bridge` and other files, and so for the laws `merge_is_run`, `closing_is_last` and
+-- others.
 use Rattle.std.proofs.Common.{◌≡◌, ℕ, zero, suc, ◌+◌, ◌<◌, ◌≤◌, Bool, true, false, cond, eqb, List, [], ◌∷◌, ◌++◌, length, get_or, Option, Some, None, refl, sym, ◌∙◌, ap, subst, arith, inl, inr, eq-eqb}
 use Rattle.std.proofs.lemmas.Bool.{and_parts, and_from, not-false, eqb-true, cases_eq, cases_Bool, both_ways, false_from_ne_true}
 use mathlib.Core.Option.{some-ne-none, some-injective}

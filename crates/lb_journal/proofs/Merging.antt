@@ -1,5 +1,6 @@
 -- The entries of such a log are a legal history: by induction on the tickets, each may be added to the
 -- machine that those before it leave.
+-- For the lemmas of `Bridge`, and so for the laws `merge_is_run`, `closing_is_last` and others.
 use Rattle.std.proofs.Common.{◌≡◌, ℕ, zero, suc, Bool, true, false, cond, Option, Some, None, List, [], ◌∷◌, ◌++◌, refl, sym, ◌∙◌, ap, subst, append_assoc, append-nil}
 use Rattle.std.proofs.lemmas.Bool.{or_from}
 use Rattle.std.proofs.lemmas.List.{map-append}

@@ -1,4 +1,5 @@
 -- What the owners keep gives all premises of the merge, field by field, and that the history is the trace's.
+-- For the law `owners_merge`.
 use Rattle.std.proofs.Common.{◌<◌, ◌≡◌, ℕ, ◌≤◌, false, true, Some, List, [], ◌∷◌, ◌++◌, length, map, get_or, refl, sym, ◌∙◌, ap, arith, inl, inr, All}
 use Rattle.std.specs.Prelude.{slice_get}
 use Rattle.std.proofs.lemmas.Bool.{cases_lt, both_ways}

@@ -1,5 +1,6 @@
 -- What an item carries was published earlier: its masks by a `pub` that its lane had read, its figures by
 -- the queues that it names.
+-- For the laws `uses_stay`, `masks_are_read`, `figures_are_read` and `queue_grows`.
 use Rattle.std.proofs.Common.{◌≡◌, ℕ, zero, suc, ◌+◌, ◌-◌, ◌<◌, ◌≤◌, false, not, List, [], ◌∷◌, ◌++◌, length, get_or, map, take, drop, refl, sym, ◌∙◌, ap, subst, arith, inl, inr, All}
 use Rattle.std.specs.List.{list_any, range_with_len}
 use Rattle.std.proofs.Math.Seq.{split_at as split_list}

@@ -1,6 +1,7 @@
 -- What the rest of the machine asks of the next item of the log: that its lane and its queue are
 -- declared, that it quotes the lane's last entry, what holds where a lane is at rest, rows, versions,
 -- figures and the end.
+-- For the lemmas of `Merging` and `Using`, and so for the laws `merge_is_run`, `closing_is_last` and others.
 use Rattle.std.proofs.Common.{◌≡◌, ℕ, zero, suc, ◌<◌, ◌≤◌, Bool, true, false, eqb, ltb, leb, not, ◌&&◌, ◌||◌, Option, Some, None, is_some, find, List, [], ◌∷◌, ◌++◌, length, get_or, refl, sym, ◌∙◌, ap, subst, arith, inl, inr, eq-eqb}
 use Rattle.std.specs.List.{range_with_len, list_any, list_all}
 use Rattle.std.proofs.lemmas.Bool.{cases_eq, cases_lt, and_from, or_parts, or_from, lt-ltb, le-ltb, leb-true, not-false, not_from_true, cases_Bool, both_ways, false_from_ne_true}

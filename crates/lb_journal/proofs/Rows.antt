@@ -1,5 +1,6 @@
 -- The rows of a lane are those of its own list, since a row is drawn by its lane; so the ticks are those
 -- of the trace.
+-- For the law `rows_are_own`.
 use Rattle.std.proofs.Common.{◌≡◌, ℕ, zero, suc, ◌+◌, Bool, true, false, not, ◌&&◌, ◌||◌, eqb, ltb, leb, ◌<◌, ◌≤◌, cond, List, [], ◌∷◌, ◌++◌, map, refl, sym, ◌∙◌, ap, subst, arith, eq-eqb, ne_eqb, inl, inr, Option}
 use Rattle.std.specs.Prelude.{filter}
 use Rattle.std.specs.List.{list_all}

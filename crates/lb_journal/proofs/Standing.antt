@@ -1,5 +1,6 @@
 -- The queue that answers an item's command is where the map has the task: a queue that knows a task
 -- has it among its own, and each task stands at its place alone.
+-- For the lemmas of `Merging`, and so for the laws `merge_is_run`, `closing_is_last` and others.
 use Rattle.std.proofs.Common.{◌≡◌, ℕ, ◌+◌, ◌≤◌, Bool, true, false, cond, eqb, ltb, ◌||◌, Option, Some, None, is_some, List, [], ◌∷◌, ◌++◌, length, refl, sym, ◌∙◌, ap, subst, arith}
 use Rattle.std.proofs.lemmas.Bool.{and_parts, or_parts, not-false, not_from_true}
 use Rattle.lb_queue.specs.declared.record.TaskRecord.{TaskRecord}

@@ -1,4 +1,5 @@
 -- The machine still agrees with the lists after the next item of the log.
+-- For the lemmas of `Bridge`, `Merging` and other files, and so for the laws `merge_is_run`, `uses_stay` and others.
 use Rattle.std.proofs.Common.{◌≡◌, ◌⊎◌, ℕ, zero, suc, ◌+◌, ◌<◌, ◌≤◌, Bool, true, eqb, Option, Some, None, List, [], ◌∷◌, ◌++◌, length, get_or, set, map, take, refl, sym, ◌∙◌, ap, subst, arith, inl, inr, eq-eqb, ne_eqb, get_or-set_same, get_or-set_other}
 use Rattle.std.proofs.lemmas.Bool.{cases_eq, cases_lt, eqb-true, and_from}
 use Rattle.std.proofs.lemmas.List.{length-set, map-append, take_all, get_or_push, get_or_append_left, length_push, set_past, length-map}

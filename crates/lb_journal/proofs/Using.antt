@@ -1,5 +1,6 @@
 -- A `use` of the log is allowed by the queue of its CPU as it then is: the queue's answer to it, which
 -- comes later in the log, says so of the same queue.
+-- For the lemmas of `Merging`, and so for the laws `merge_is_run`, `closing_is_last` and others.
 use Rattle.std.proofs.Common.{◌≡◌, ℕ, zero, suc, ◌+◌, ◌<◌, ◌≤◌, Bool, true, false, not, ◌&&◌, eqb, cond, Option, Some, is_some, unwrap_or, List, [], ◌∷◌, ◌++◌, length, refl, sym, ◌∙◌, ap, subst, arith, inl, inr, All, append-nil}
 use Rattle.std.proofs.lemmas.Bool.{cases_lt, eqb-true, both_ways, false_from_ne_true, and_right}
 use Rattle.std.proofs.lemmas.List.{get_or_past}

@@ -1,6 +1,8 @@
 -- What an owner of entries keeps of each: the entry with the header of its machine, the course that it
 -- quotes, the course that it leaves, and the masks or figures that it names. From the list of an
 -- owner alone it can be judged whether a further item fits: nothing else of the machine is read.
+-- Cited by the contracts of `Journal::new`, `in_order` and `close_in_order`; also by `lb_cell`, `lb_cpu` and other
+-- crates.
 use Rattle.std.specs.Prelude.{ℕ, ◌≡◌, ◌+◌, ◌<◌, ◌==◌, nat_lt, Bool, true, false, ◌&&◌, if◌then◌else◌, Option, Some, None, List, [], ◌∷◌, map, length, All}
 use Rattle.lb_base.specs.declared.mask.Mask.{Mask}
 use Rattle.lb_queue.specs.declared.answers.OutCause.{OutCause}

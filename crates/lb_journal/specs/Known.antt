@@ -1,5 +1,6 @@
 -- What the seats of the lanes know when the book is closed: of each lane that drew a row, its last
 -- entry, by a fact whose ticket nobody quotes.
+-- Cited by the law `known_rest`; also by `lb_cpu`, `lb_journal_rows` and `lb_threads`.
 use Rattle.std.specs.Prelude.{ℕ, ◌≡◌, ◌<◌, ◌≤◌, false, List}
 use base.Stored.{Coded}
 use Rattle.lb_ticket.specs.declared.item.Drawn.{Drawn}

@@ -1,6 +1,8 @@
 -- The merge law: the lists of a closed ticket book, put in the order of their tickets, are a legal
 -- history, under premises on the lists alone. The closing entries are each `out` that lane 0 draws at
 -- rest, the `in` that quotes it, and the end.
+-- Cited by the laws `merge_is_run`, `order_is_log` and `unquoted_rest`, and `in_order`, `close_in_order` and
+-- `taken_out`; also by `lb_cell`, `lb_cpu` and other crates.
 use Rattle.std.specs.Prelude.{ℕ, ◌≡◌, ◌-◌, ◌<◌, ◌≤◌, ◌==◌, nat_lt, nat_le, Bool, true, false, not, ◌&&◌, ◌||◌, Option, Some, None, is_some, List, [], ◌∷◌, length, map, filter, find, take, All}
 use Rattle.std.specs.List.{slice_index_or, range_with_len, list_any}
 use Rattle.lb_base.specs.declared.mask.Mask.{Mask}

@@ -1,6 +1,8 @@
 -- What the owners keep of their own lists, and what ties the lists of two: what was read of the
 -- publisher's list, what the queues published, the rows of a trace, and where the closing entries begin.
 -- From these, when the book is closed, come the premises of the merge, and that the history is the trace's.
+-- Cited by the laws `owners_merge`, `masks_are_read`, `uses_stay` and others, and `close_in_order`; also by
+-- `lb_cell`, `lb_cpu` and other crates.
 use Rattle.std.specs.Prelude.{◌&&◌, nat_lt, is_some, find, ℕ, ◌≡◌, ◌+◌, ◌<◌, ◌≤◌, false, true, Some, slice_get, slice_set, List, [], ◌∷◌, ◌++◌, map, length, All, ◌⊎◌}
 use Rattle.std.specs.List.{range_with_len, slice_index_or}
 use base.Stored.{Coded}

@@ -1,5 +1,7 @@
 -- The lists of worked histories are those of a closed book: each ticket stands once, each item fits those before it
 -- on its list, and quotes what an earlier one left.
+-- For the lemmas of `ClosedLook` and `ClosedStop`, and so for the laws `unpublished_figure` and
+-- `closing_before_all_rest`.
 use Rattle.std.proofs.Common.{◌≡◌, ℕ, zero, suc, ◌+◌, ◌<◌, ◌≤◌, Bool, true, false, not, ◌&&◌, ◌||◌, eqb, List, [], ◌∷◌, ◌++◌, length, get_or, replicate, refl, sym, ◌∙◌, subst, arith, inl, inr, eq-eqb, ne_eqb, All, true≢false}
 use Rattle.std.specs.List.{list_all}
 use Rattle.std.proofs.lemmas.Bool.{and_parts, cases_eq, not-true}

@@ -1,4 +1,5 @@
 -- The lists of a closing before all lanes rest are those of a closed book.
+-- For the law `closing_before_all_rest`.
 use Rattle.std.proofs.Common.{◌≡◌, ℕ, List, [], ◌∷◌, map, drop, refl, arith, All}
 use Rattle.std.proofs.lemmas.List.Elements.{All-nil, All-cons}
 use Rattle.lb_base.specs.Mask.{has, members_below, members, first_cpus, only, both, either, without}

@@ -1,4 +1,5 @@
 -- The seats of the run of three entries keep all that is asked of owners.
+-- For the law `owners_can_keep`.
 use Rattle.std.proofs.Common.{◌≡◌, ℕ, zero, suc, ◌<◌, ◌≤◌, false, Some, List, [], ◌∷◌, ◌++◌, refl, subst, arith, inl, inr, All}
 use Rattle.std.specs.Prelude.{slice_get}
 use Rattle.std.proofs.lemmas.List.Elements.{All-nil, All-cons, All-append, All-map}

@@ -1,4 +1,5 @@
 -- What three worked lists miss of what the merge asks for, and that they meet all else.
+-- For the laws `undeclared_lane`, `unpublished_figure` and `closing_before_all_rest`.
 use Rattle.std.proofs.Common.{◌≡◌, ℕ, zero, suc, ◌<◌, ◌≤◌, true, false, not, ◌||◌, eqb, leb, ltb, List, [], ◌∷◌, refl, ap, arith, eq-eqb, All, true≢false}
 use Rattle.std.proofs.lemmas.Bool.{and_parts, both_ways, leb-true}
 use Rattle.std.proofs.lemmas.List.Elements.{All-nil, All-cons}

@@ -1,4 +1,5 @@
 -- What the merge asks of lists, as tests that compute: where a test passes, the premise holds.
+-- For the laws `header_and_masks`, `unpublished_figure` and `closing_before_all_rest`.
 use Rattle.std.proofs.Common.{◌≡◌, ℕ, zero, suc, ◌+◌, ◌-◌, ◌<◌, ◌≤◌, Bool, true, false, not, ◌&&◌, ◌||◌, eqb, leb, ltb, Option, Some, None, List, [], ◌∷◌, ◌++◌, map, length, refl, sym, ◌∙◌, ap, arith, inl, inr, eq-eqb, ne_eqb, le-leb, All, true≢false}
 use Rattle.std.specs.List.{list_all, slice_index_or, range_with_len}
 use Rattle.std.specs.Prelude.{filter, ◌==◌}

@@ -1,5 +1,6 @@
 -- A history as the lists of its owners: each entry with its ticket and with what its owner knew of it, which
 -- the run of the machine gives. And lists merged: the entry of each ticket at its place.
+-- Cited by the laws `merged_back`, `header_and_masks`, `undeclared_lane` and others.
 use Rattle.std.specs.Prelude.{ℕ, ◌+◌, ◌==◌, None, List, [], ◌∷◌, length, map, filter, replicate}
 use Rattle.std.specs.List.{range_with_len}
 use Rattle.lb_core.specs.declared.entry.Entry.{Entry}

@@ -1,4 +1,5 @@
 -- Lists that miss one thing of all that the merge asks for, and the premises of the merge that several of them meet.
+-- Cited by the laws `undeclared_lane`, `unpublished_figure` and `closing_before_all_rest`.
 use Rattle.std.specs.Prelude.{ℕ, ◌≡◌, true, List, [], ◌∷◌, ◌++◌, map}
 use Rattle.lb_trace.specs.declared.trace.Header.{Header}
 use Rattle.lb_trace.specs.declared.trace.Command.TheVariants.{Rebuild}

@@ -1,5 +1,6 @@
 -- The seats of a run of three entries: lane 1 takes up its row, a wake; queue 0 answers it; lane 0, which has
 -- no row, draws the end.
+-- Cited by the law `owners_can_keep`.
 use Rattle.std.specs.Prelude.{ℕ, List, [], ◌∷◌, ◌++◌, map, pos}
 use Rattle.std.specs.List.{range_with_len}
 use base.Stored.{Coded}

@@ -1,4 +1,5 @@
 -- The CPUs of a mask that a walk over them has ahead, and how names of figures follow it.
+-- For `are_of`.
 use Rattle.std.proofs.Common.{◌≡◌, ℕ, zero, suc, ◌+◌, ◌-◌, ◌<◌, ◌≤◌, ◌==◌, ◌&&◌, Bool, true, false, cond, List, [], ◌∷◌, Option, Some, None, not, is_some, length, map, drop, get_or, subst, refl, sym, ◌∙◌, ap, arith}
 use Rattle.std.specs.Prelude.{filter}
 use Rattle.std.specs.List.{range_with_len}
@@ -71,7 +72,8 @@ other_ahead : (m : Mask) (o : Option ℕ) (n : ℕ) (ns : List ℕ) → Stands m
     → same_numbers (n ∷ ns) (ahead m o) ≡ false
 other_ahead m None n ns at differ = refl
 other_ahead m (Some c) n ns at differ =
-    let e : (n == c) ≡ false = ne_eqb n c (λ s. let t : true ≡ false = sym (eq-eqb c n (sym s)) ∙ differ in let y : ⊥ = cc in y) in
+    let e : (n == c) ≡ false = ne_eqb n c
+    (λ s. let t : true ≡ false = sym (eq-eqb c n (sym s)) ∙ differ in let y : ⊥ = cc in y) in
     ap (same_numbers (n ∷ ns)) (stands_ahead m c at) ∙ ap (λ (b : Bool). b && same_numbers ns (from m (c + 1) (64 - (c + 1)))) e
 
 stands_there : (o : Option ℕ) (n : ℕ) → option_eq ◌==◌ o (Some n) ≡ true → o ≡ Some n

@@ -1,4 +1,5 @@
--- Walks over two lists at once.
+-- A loop over two lists at once finds whether they have the same numbers, place by place.
+-- For `is_hand` and `are_same`.
 use Rattle.std.proofs.Common.{zero, Some, slice_get, ◌≡◌, ℕ, ◌+◌, ◌<◌, ◌==◌, ◌&&◌, Bool, true, false, List, [], ◌∷◌, length, map, drop, get_or, refl, sym, ◌∙◌, ap, add-one, suc, drop-cons}
 use Rattle.lb_core.specs.Same.{same_numbers}
 use Rattle.lb_core.proofs.Equality.{numbers_same}
@@ -8,7 +9,8 @@ cut xs i d lt = drop-cons xs i d lt ∙ ap (λ (k : ℕ). get_or xs i d ∷ drop
 
 -- two lists of one place more
 pub same_more : (xs ys : List ℕ) (i : ℕ) → i < length xs → i < length ys
-    → same_numbers (drop i xs) (drop i ys) ≡ ((get_or xs i 0 == get_or ys i 0) && same_numbers (drop (i + 1) xs) (drop (i + 1) ys))
+    → same_numbers (drop i xs) (drop i ys) ≡
+    ((get_or xs i 0 == get_or ys i 0) && same_numbers (drop (i + 1) xs) (drop (i + 1) ys))
 same_more xs ys i lt lt' = rw (cut xs i 0 lt, cut ys i 0 lt') refl
 
 -- lists of two lengths differ

@@ -1,4 +1,5 @@
 -- Whether another `out` is said than the one that is due.
+-- For `breaks_pick`.
 use Rattle.std.proofs.Common.{not, ◌||◌, ◌≡◌, ℕ, ◌==◌, Bool, true, false, Option, Some, None, List, refl, sym, ◌∙◌, ap}
 use Rattle.lb_queue.specs.Tasks.{ids}
 use Rattle.lb_queue.specs.declared.answers.OutCause.{OutCause}
@@ -26,7 +27,8 @@ or_false : (b : Bool) → (b || false) ≡ b
 or_false true = refl
 or_false false = refl
 
-pub pick_breaks : (m : MachineState) (e : Entry) (due : Out) (cause : OutCause) (to : ℕ) (list : List ℕ) → e.what ≡ SaysOut cause to list →
+pub pick_breaks : (m : MachineState) (e : Entry) (due : Out) (cause : OutCause) (to : ℕ) (list : List ℕ)
+    → e.what ≡ SaysOut cause to list →
     Some due ≡ out_due (out_by (course_at m.courses e.lane).form m.header (course_at m.courses e.lane) (owned_queue e.owner m)) →
     breaks m e Pick ≡ (not (same_cause cause due.cause) || not (to == due.to) || not (same_numbers list due.ids))
 unfolding sight leaving

@@ -1,4 +1,5 @@
 -- What the rules `stage` and `place` say of a reply: the owner's queue is where the task of the command is.
+-- For `breaks_reply`.
 use Rattle.std.proofs.Common.{◌≡◌, ℕ, Bool, true, false, not, ◌||◌, Option, Some, None, refl, sym, ◌∙◌, ap, subst}
 use Rattle.std.proofs.lemmas.Bool.{eqb-true, not-false}
 use Rattle.lb_queue.specs.Queue.{QueueState}
@@ -29,7 +30,8 @@ use Rattle.lb_ready.proofs.Staging.{staged}
 use Rattle.lb_due.specs.Owners.{HasQueue}
 use Rattle.lb_due.specs.Replies.{AnswersAt, StandsAt}
 
-asked : (f : Form) (h : Header) (c : Course) (q : QueueState) (lane : ℕ) (r : Reply) → draws f h c q lane (Did r) ≡ true → f ≡ Asked
+asked : (f : Form) (h : Header) (c : Course) (q : QueueState) (lane : ℕ) (r : Reply) → draws f h c q lane (Did r) ≡ true
+    → f ≡ Asked
 unfolding draws
 asked Asked h c q lane r d = refl
 asked f h c q lane r d = absurd (let y : ⊥ = cc in y)
@@ -76,7 +78,9 @@ did_breaks m e r due h p i q leaves here is_due = by_owner e.owner refl q
     by_owner (Queue cpu) o q =
         let c = course_at m.courses e.lane in
         let k : due ≡ (answer_to c.command c.at (owned_queue e.owner m)).0 =
-        is_due cpu c.at (answers_at m e r cpu h p i o) ∙ ap (λ (x : Owner). (answer_to c.command c.at (owned_queue x m)).0) (sym o) in
+        is_due cpu c.at (answers_at m e r cpu h p i o) ∙ ap
+        (λ (x : Owner). (answer_to c.command c.at (owned_queue x m)).0) (sym o) in
         ap (λ (x : Reply). not (same_reply r x)) k
-        ∙ sym (or_false (breaks_reply (sight m e) e.what) ∙ ap (λ (w : What). breaks_reply (sight m e) w) i ∙ wrong_reply _ _ _ leaves here)
+        ∙ sym (or_false (breaks_reply (sight m e) e.what) ∙ ap (λ (w : What). breaks_reply (sight m e) w) i ∙
+        wrong_reply _ _ _ leaves here)
     by_owner o k q = absurd q

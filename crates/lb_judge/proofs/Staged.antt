@@ -1,4 +1,5 @@
 -- What an entry that keeps the rule `stage` says of its owner's queue, and of the turn of its lane.
+-- For `breaks_pick`, `breaks_counters`, `breaks_reply` and others.
 use Rattle.std.proofs.Common.{arith, ◌≡◌, ℕ, ◌<◌, Bool, true, false, not, ◌==◌, length, refl, sym, ◌∙◌, ap, subst, Option, Some, List, is_some, ◌+◌, ◌||◌}
 use Rattle.std.proofs.lemmas.Bool.{or_parts, and_parts, eqb-true, ltb-true, not-false}
 use Rattle.lb_base.specs.declared.mask.Mask.{Mask}
@@ -76,7 +77,8 @@ use_cpu Serving h c q lane v k u n d names turned same = by_command c.command ((
     by_command : (command : Option Command) → same_number (ticked_cpu command) (Some u) ≡ true → Names h command → u < n
     by_command (Some (Tick cpu)) t y = let e = eqb-true cpu u t in omega arith
     by_command command t y = absurd (let z : ⊥ = cc in z)
-use_cpu Due h c q lane v k u n d names turned same = let e = eqb-true u c.cpu ((and_parts (same_kind k (turn_kind c)) _ d).1) in omega arith
+use_cpu Due h c q lane v k u n d names turned same = let e = eqb-true u c.cpu
+    ((and_parts (same_kind k (turn_kind c)) _ d).1) in omega arith
 use_cpu f h c q lane v k u n d names turned same = absurd (let z : ⊥ = cc in z)
 
 pub staged_use : (m : MachineState) (e : Entry) (v : ℕ) (k : Kind) (u : ℕ) → IsReady m → breaks m e Stage ≡ false
@@ -87,7 +89,8 @@ staged_use m e v k u r h i =
     let c = course_at m.courses e.lane in
     let z : length m.header.cpus ≡ length m.queues = sym r.sizes.queues in
     let d = subst (λ (w : What). draws c.form m.header c (owned_queue e.owner m) e.lane w ≡ true) i s.drawn in
-    use_cpu c.form m.header c (owned_queue e.owner m) e.lane v k u (length m.queues) d says.names (let t = says.turned in omega arith) z
+    use_cpu c.form m.header c (owned_queue e.owner m) e.lane v k u (length m.queues) d says.names
+    (let t = says.turned in omega arith) z
 
 -- ---- turns
 pub has_position : (m : MachineState) (lane : ℕ) → IsReady m → IsAtPosition m lane (course_at m.courses lane)
@@ -105,7 +108,8 @@ close_at LandedForm m lane c q p w i n d t = t
 close_at f m lane c q p w i n d t = absurd (let z : ⊥ = cc in z)
 
 look_at : (f : Form) (m : MachineState) (lane : ℕ) (c : Course) (q : QueueState) (p : ℕ) (x : Mask)
-    (names : List FigName) (o : Decision) → draws f m.header c q lane (Look p x names o) ≡ true → TurnIn f m lane c → IsAtPosition m lane c
+    (names : List FigName) (o : Decision) → draws f m.header c q lane (Look p x names o) ≡ true → TurnIn f m lane c
+    → IsAtPosition m lane c
 unfolding draws
 look_at Position m lane c q p x names o d t = t
 look_at LandedForm m lane c q p x names o d t = t
@@ -136,7 +140,11 @@ pub staged_turn : (m : MachineState) (e : Entry) (ps : Mask) → IsReady m → b
 staged_turn m e ps r h k =
     let c = course_at m.courses e.lane in
     let d = subst (λ (w : What). draws c.form m.header c (owned_queue e.owner m) e.lane w ≡ true) k (staged m e h).drawn in
-    record { version = turn_at c.form m e.lane c (owned_queue e.owner m) ps d (r.turns e.lane); turned = (r.fits e.lane).says.turned }
+    record {
+      version = turn_at c.form m e.lane c (owned_queue e.owner m) ps d (r.turns e.lane);
+      turned =
+          (r.fits e.lane).says.turned;
+    }
 
 -- what the queue asks of a turn, by what the entry's step reads
 pub turn_asks : (m : MachineState) (e : Entry) (ps : Mask) → e.what ≡ Turn ps → TrialAsks e.what (sight m e)
@@ -194,7 +202,8 @@ staged_look_due m e p x names o r h k =
     look_due c.form m c (owned_queue e.owner m) e.lane p x names o d (staged_look m e p x names o r h k)
 
 scan_version : (f : Form) (m : MachineState) (c : Course) (q : QueueState) (lane : ℕ) (names : List FigName)
-    (t : Option ℕ) → draws f m.header c q lane (Scan names t) ≡ true → ScansIn f m c.version c.masks → IsVersion m c.version c.masks
+    (t : Option ℕ) → draws f m.header c q lane (Scan names t) ≡ true → ScansIn f m c.version c.masks
+    → IsVersion m c.version c.masks
 unfolding draws
 scan_version ScanDue m c q lane names t d s = s
 scan_version f m c q lane names t d s = absurd (let z : ⊥ = cc in z)

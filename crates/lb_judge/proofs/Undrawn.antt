@@ -1,4 +1,5 @@
 -- Which forms of a course draw no entry of a kind: all but those that do.
+-- For `draws_did`, `draws_close`, `draws_look` and others.
 use Rattle.std.proofs.Common.{◌≡◌, ℕ, Bool, false, refl, Option, List}
 use Rattle.lb_base.specs.declared.mask.Mask.{Mask}
 use Rattle.lb_base.specs.declared.shape.Kind.{Kind}
@@ -34,7 +35,8 @@ use_undrawn Due h c q lane v k u n0 n1 = absurd (n1 refl)
 use_undrawn f h c q lane v k u n0 n1 = refl
 
 pub look_undrawn : (f : Form) (h : Header) (c : Course) (q : QueueState) (lane : ℕ) (p : ℕ) (x : Mask)
-    (names : List FigName) (d : Decision) → (f ≡ Position → ⊥) → (f ≡ LandedForm → ⊥) → false ≡ draws f h c q lane (Look p x names d)
+    (names : List FigName) (d : Decision) → (f ≡ Position → ⊥) → (f ≡ LandedForm → ⊥) → false ≡ draws f h c q lane
+    (Look p x names d)
 unfolding draws
 look_undrawn Position h c q lane p x names d n0 n1 = absurd (n0 refl)
 look_undrawn LandedForm h c q lane p x names d n0 n1 = absurd (n1 refl)
@@ -53,7 +55,8 @@ did_undrawn Asked h c q lane r n0 = absurd (n0 refl)
 did_undrawn f h c q lane r n0 = refl
 
 pub out_undrawn : (f : Form) (h : Header) (c : Course) (q : QueueState) (lane : ℕ) (cause : OutCause) (to : ℕ)
-    (ids : List ℕ) → (f ≡ Rest → ⊥) → (f ≡ Asked → ⊥) → (f ≡ Serving → ⊥) → (f ≡ Looked → ⊥) → false ≡ draws f h c q lane (Out cause to ids)
+    (ids : List ℕ) → (f ≡ Rest → ⊥) → (f ≡ Asked → ⊥) → (f ≡ Serving → ⊥) → (f ≡ Looked → ⊥)
+    → false ≡ draws f h c q lane (Out cause to ids)
 unfolding draws
 out_undrawn Rest h c q lane cause to ids n0 n1 n2 n3 = absurd (n0 refl)
 out_undrawn Asked h c q lane cause to ids n0 n1 n2 n3 = absurd (n1 refl)

@@ -1,4 +1,5 @@
 -- A test whether two forms of a course are one.
+-- Cited by the contract of `is_form`.
 use Rattle.std.specs.Prelude.{ℕ, ◌==◌, Bool}
 use Rattle.lb_core.specs.declared.course.Form.{Form}
 use Rattle.lb_core.specs.declared.course.Form.TheVariants.{Rest, Asked, Flight, Serving, Due, Used, Position, Looked, Landed, Closed, Done, ScanDue, Kicking, Ended}

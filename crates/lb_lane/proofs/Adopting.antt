@@ -1,4 +1,5 @@
 -- A `use` of a chosen version breaks no rule, and what the lane keeps stays.
+-- For `Lane::follow`, `Lane::adopt` and `PublisherCell::vouch`.
 use Rattle.std.proofs.Common.{All, ℕ, ◌≡◌, ◌-◌, ◌<◌, ◌≤◌, true, false, List, [], ◌++◌, Option, Some, unwrap_or, length, take, refl, sym, subst, ap, ◌∙◌, arith, inl, inr}
 use Rattle.std.proofs.Math.Nat.{max-le}
 use Rattle.std.proofs.lemmas.Bool.{le-ltb}

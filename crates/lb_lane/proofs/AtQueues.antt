@@ -1,5 +1,6 @@
 -- What a lane keeps stays as it draws an entry of a queue, of whatever kind: its own list, its rows, the masks and the
 -- version of its last `use` are as they were, and it has seen the queue's new figure.
+-- For `Lane::serve`, `Lane::kick`, `Lane::land` and others.
 use Rattle.std.proofs.Common.{ℕ, ◌≡◌, ◌+◌, ◌<◌, ◌≤◌, Bool, true, false, if◌then◌else◌, Option, Some, None, Result, Ok, Err, OnOk, OnErr, List, [], ◌∷◌, length, map, get_or, set, take, refl, sym, subst, ap, ◌∙◌, arith, All}
 use Rattle.std.proofs.lemmas.List.{get_or-set_same, get_or-set_other, length-append, length-map}
 use Rattle.std.specs.List.{range_with_len}

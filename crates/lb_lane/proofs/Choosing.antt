@@ -1,4 +1,5 @@
 -- What a lane copies of a version that it vouches for is that version's; and what it keeps stays as it sees more versions.
+-- For `Lane::choose` and `PublisherCell::vouch`.
 use Rattle.std.proofs.Common.{ℕ, ◌≡◌, ◌<◌, ◌≤◌, List, Option, Some, None, Result, Ok, Err, IfOk, IfSome, length, sym, subst, ap, ◌∙◌, arith}
 use Rattle.std.proofs.lemmas.Option.{same_Some}
 use base.Stored.{Coded}

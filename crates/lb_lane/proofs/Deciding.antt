@@ -1,4 +1,5 @@
 -- A look over the figures that are due breaks no rule, and what the lane keeps stays.
+-- For `Lane::look` and `look_at`.
 use Rattle.std.proofs.Common.{ℕ, ◌≡◌, ◌<◌, ◌≤◌, true, false, List, [], None, length, refl, sym, subst, ap, ◌∙◌, arith, All}
 use base.Stored.{Coded}
 use Rattle.logbook.specs.Pages.{Book}

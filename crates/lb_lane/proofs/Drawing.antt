@@ -1,4 +1,5 @@
 -- An entry of a lane's own list that breaks no rule may be drawn, and what the lane keeps stays.
+-- For `Lane::row`, `Lane::scan`, `enter` and others.
 use Rattle.std.proofs.Common.{ℕ, ◌≡◌, ◌<◌, ◌≤◌, true, false, List, [], ◌∷◌, ◌++◌, Option, Some, None, length, map, take, refl, sym, subst, ap, ◌∙◌, arith, All}
 use Rattle.std.proofs.lemmas.List.{append-nil, append_assoc, map-append}
 use Rattle.std.proofs.lemmas.List.Elements.{All-push}

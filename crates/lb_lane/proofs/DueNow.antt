@@ -1,4 +1,5 @@
 -- A look may be drawn exactly where the lane's own domains say so.
+-- For `Lane::can_look`.
 use Rattle.std.proofs.Common.{ℕ, ◌≡◌, ◌<◌, ◌↔◌, Bool, true, false, Some, slice_get, List, length, get_or, sym, subst, ap, ◌∙◌}
 use Rattle.std.proofs.lemmas.Option.{get_or_from_slice_get, slice_get_within}
 use base.Stored.{Coded}

@@ -1,5 +1,6 @@
 -- An entry that names figures which were read in the same call: none of them is before one that the lane named, and what
 -- the lane keeps stays.
+-- For `enter_above` and `scan_at`.
 use Rattle.std.proofs.Common.{true, ℕ, ◌≡◌, ◌<◌, ◌≤◌, false, not, ◌||◌, List, [], ◌∷◌, ◌++◌, ltb, length, map, get_or, set, take, refl, sym, subst, ap, ◌∙◌, arith, All}
 use Rattle.std.specs.List.{list_any}
 use Rattle.std.proofs.lemmas.Bool.{le-ltb}

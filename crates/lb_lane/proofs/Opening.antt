@@ -1,4 +1,5 @@
 -- What a lane and the publisher behind its lock keep before any entry.
+-- For `PublisherCell::new` and `Lane::new`.
 use Rattle.std.proofs.Common.{true, ℕ, ◌≡◌, ◌<◌, ◌≤◌, false, List, [], ◌∷◌, Some, length, map, slice_get, take, refl, sym, subst, ap, ◌∙◌, arith, inl, All}
 use Rattle.std.proofs.lemmas.List.{get_or-replicate}
 use Rattle.std.proofs.lemmas.List.Elements.{All-nil}

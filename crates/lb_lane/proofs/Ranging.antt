@@ -1,4 +1,5 @@
 -- The CPU of a turn, the position in work and the source of a pull stay in range, whatever entry of its own a lane draws.
+-- For `Lane::row`, `Lane::adopt`, `look_at` and `scan_at`.
 use Rattle.std.proofs.Common.{ℕ, ◌≡◌, ◌<◌, Bool, true, false, List, Option, Some, None, sym, subst, arith}
 use Rattle.std.specs.Prelude.{MatchBool}
 use Rattle.lb_base.specs.declared.mask.Mask.{Mask}

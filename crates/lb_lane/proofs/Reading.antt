@@ -1,4 +1,5 @@
 -- A lane that has read the publisher's list, and was told of all versions, vouches for them.
+-- For `PublisherCell::vouch`.
 use Rattle.std.proofs.Common.{ℕ, ◌≡◌, ◌-◌, ◌+◌, ◌<◌, ◌≤◌, List, get_or, length, refl, sym, ap, ◌∙◌, arith, inl, inr, All}
 use Rattle.std.specs.Prelude.{slice_get}
 use Rattle.std.proofs.lemmas.Bool.{cases_lt}

@@ -1,4 +1,5 @@
 -- Where nothing was drawn, though the lane has seen, read and marked more, what it keeps stays.
+-- For `Lane::scan`, `enter_above`, `Lane::look` and others.
 use mathlib.Core.List.{IsPrefix}
 use Rattle.std.proofs.Common.{true, false, ◌≡◌, ◌≤◌, ◌<◌, Result, Ok, Err, OnErr, List, [], ◌++◌, length, map, take, sym, subst, ap, ◌∙◌, arith, All}
 use Rattle.std.proofs.lemmas.List.{append-nil}

@@ -1,4 +1,5 @@
 -- The next row of a lane breaks no rule, and is its next in the list.
+-- For `Lane::row`.
 use Rattle.std.proofs.Common.{ltb, is_none, None, Option, true, ℕ, ◌≡◌, ◌+◌, ◌<◌, ◌≤◌, false, not, List, [], ◌∷◌, ◌++◌, Some, length, get_or, slice_get, take, refl, sym, subst, ap, ◌∙◌, arith, All}
 use Rattle.std.specs.Prelude.{◌↔◌}
 use Rattle.std.proofs.lemmas.Bool.{and_parts}

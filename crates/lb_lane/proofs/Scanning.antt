@@ -1,4 +1,5 @@
 -- A scan over the figures that are due breaks no rule, and what the lane keeps stays.
+-- For `Lane::scan` and `scan_at`.
 use Rattle.std.proofs.Common.{ℕ, ◌≡◌, ◌-◌, ◌<◌, ◌≤◌, false, not, ◌||◌, List, [], Option, Some, None, ltb, length, map, refl, sym, subst, ap, arith, All}
 use Rattle.std.specs.List.{list_any}
 use base.Stored.{Coded}

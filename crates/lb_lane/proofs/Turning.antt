@@ -1,4 +1,5 @@
 -- A queue may answer the `use` that a lane drew in the same hold of its lock; and whether a push comes first.
+-- For `Lane::turn`.
 use Rattle.std.proofs.Common.{ℕ, zero, suc, ◌≡◌, ◌<◌, Bool, true, false, not, ◌&&◌, IfSome, Option, Some, None, is_some, List, [], ◌∷◌, if◌then◌else◌, get_or, slice_get, length, refl, sym, subst, ap, ◌∙◌, arith}
 use Rattle.std.proofs.lemmas.List.{length-map}
 use Rattle.lb_base.specs.declared.shape.Kind.{Kind}

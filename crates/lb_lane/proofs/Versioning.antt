@@ -1,4 +1,5 @@
 -- The `pub` of the next version fits the publisher's list, and what the lock and the lane keep stays.
+-- For `PublisherCell::publish`.
 use Rattle.std.proofs.Common.{ℕ, ◌≡◌, ◌+◌, ◌<◌, ◌≤◌, true, false, not, List, [], ◌∷◌, ◌++◌, Some, get_or, length, map, take, refl, sym, subst, ap, ◌∙◌, arith, inl, inr, All}
 use Rattle.std.specs.Prelude.{slice_get}
 use Rattle.std.proofs.Math.ListN.{get_or-append}

@@ -1,4 +1,6 @@
 -- What a lane knows of versions stays as it reads, marks and sees more.
+-- For the lemmas of `Choosing`, `Drawing` and other files, and so for `Lane::choose`, `PublisherCell::vouch` and
+-- others.
 use Rattle.std.proofs.Common.{ℕ, ◌-◌, ◌≤◌, ◌++◌, List, arith, inl, inr}
 use base.Stored.{Coded}
 use mathlib.Core.List.{IsPrefix}

@@ -1,5 +1,6 @@
 -- A turn that a lane wants to open at the queue of its CPU: the lane takes up a version and the queue answers, or a push
 -- has to come first.
+-- Cited by the contracts of `Lane::can_turn` and `Lane::turn`; also by `lb_cpu` and `lb_service`.
 use Rattle.std.specs.Prelude.{ℕ, ◌≡◌, true, false, Some}
 use Rattle.lb_base.specs.declared.shape.Kind.{Kind}
 use Rattle.lb_queue.specs.declared.answers.TurnReply.{TurnReply}

@@ -1,4 +1,5 @@
 -- The figures that a look or a scan reads, one of each CPU that is due, and their numbers.
+-- Cited by the contracts of `enter_above`, `read_all`, `mark_above_all` and others.
 use Rattle.std.specs.Prelude.{ℕ, ◌≡◌, ◌+◌, ◌<◌, ◌≤◌, List, [], Some, length, map, slice_get, All}
 use Rattle.lb_base.specs.declared.figure.Fig.{Fig}
 use Rattle.lb_base.specs.declared.mask.Mask.{Mask}

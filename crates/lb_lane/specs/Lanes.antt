@@ -1,5 +1,7 @@
 -- What a lane has and keeps beside its side of the entries that it draws at queues: a looker at versions, its rows, and
 -- the domains that its turn looks at. Of its own list it keeps what the merge of all lists asks of a lane.
+-- Cited by the contracts of `Lane::end`, `Lane::keeps`, `Lane::domains` and `look_due`; also by `lb_cpu`,
+-- `lb_lane_laws` and other crates.
 use Rattle.std.specs.Prelude.{ℕ, ◌≡◌, ◌<◌, ◌≤◌, Bool, true, false, List, length, map, take, All}
 use base.Stored.{Coded}
 use Rattle.logbook.specs.Pages.{Book}

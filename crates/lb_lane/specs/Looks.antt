@@ -1,4 +1,6 @@
 -- A look of a lane at the position in work: what it asks, and what it draws.
+-- Cited by the contracts of `Lane::can_look`, `Lane::look`, `look_due` and others; also by `lb_cpu`, `lb_lane_laws`
+-- and `lb_pass`.
 use Rattle.std.specs.Prelude.{ℕ, ◌≡◌, ◌<◌, ◌≤◌, Bool, true, false, List, length}
 use Rattle.lb_base.specs.declared.mask.TheConstants.{MAX_CPUS}
 use Rattle.lb_base.specs.declared.mask.Mask.{Mask}

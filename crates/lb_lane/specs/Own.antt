@@ -1,4 +1,6 @@
--- An entry that a lane draws in its own list.
+-- An entry that a lane draws in its own list: what the lane keeps after it, and what stays where nothing was drawn.
+-- Cited by the contracts of `Lane::adopt`, `Lane::follow`, `Lane::answer` and others; also by `lb_cpu`, `lb_pass` and
+-- `lb_service`.
 use Rattle.std.specs.Prelude.{ℕ, ◌≡◌, ◌+◌, ◌≤◌, List, [], ◌∷◌, ◌++◌, Some, slice_get}
 use Rattle.lb_base.specs.declared.mask.Mask.{Mask}
 use Rattle.lb_trace.specs.declared.trace.Header.{Header}

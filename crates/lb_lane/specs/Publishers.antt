@@ -1,5 +1,6 @@
--- What stands behind the publisher's lock: the publisher and its seat, of which the versions and their tickets are those
--- of the seat's list.
+-- What stands behind the publisher's lock: the publisher of versions and its seat in the ticket book. The k-th entry of
+-- the seat's list is the `pub` of the k-th version after the first, and its ticket is the one that the publisher shows.
+-- Cited by the contracts of `PublisherCell::end` and `PublisherCell::keeps`; also by `lb_cpu`.
 use Rattle.std.specs.Prelude.{ℕ, ◌≡◌, ◌+◌, ◌<◌, ◌^◌, Some, [], length, slice_get}
 use Rattle.std.specs.List.{slice_index_or}
 use Rattle.atomic_table.specs.Seated.{TableId}

@@ -1,4 +1,5 @@
--- The publication of a version, and its `pub`.
+-- The publication of a version of the domains, in answer to a `rebuild`: the entry `pub`, and what it leaves.
+-- Cited by the contract of `PublisherCell::publish`; also by `lb_cpu`.
 use Rattle.std.specs.Prelude.{ℕ, ◌≡◌, true, None, [], ◌∷◌, ◌++◌, length}
 use mathlib.Core.List.{IsPrefix}
 use Rattle.lb_domain.specs.Topologies.{domains_within}

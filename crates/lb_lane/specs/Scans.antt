@@ -1,4 +1,5 @@
 -- A scan of a lane after a tick's turn: what it asks, and what it draws.
+-- Cited by the contracts of `Lane::can_scan`, `Lane::scan` and `scan_at`; also by `lb_cpu` and `lb_service`.
 use Rattle.std.specs.Prelude.{ℕ, ◌≡◌, ◌<◌, ◌≤◌, true, Option, List, length}
 use Rattle.lb_base.specs.declared.mask.Mask.{Mask}
 use Rattle.lb_base.specs.Mask.{has, without}

@@ -1,4 +1,6 @@
--- A version that a lane chose for a turn, and its `use`.
+-- The version of the domains that a lane chose for a turn, and the entry `use` by which it takes it up.
+-- Cited by the contracts of `Lane::adopt`, `Lane::choose`, `Lane::can_turn` and others; also by `lb_cpu` and
+-- `lb_service`.
 use Rattle.std.specs.Prelude.{ℕ, ◌≡◌, ◌-◌, ◌<◌, ◌≤◌, ◌==◌, Bool, false, ◌&&◌, List, [], Some, length, slice_get}
 use Rattle.lb_base.specs.declared.shape.Kind.{Kind}
 use Rattle.lb_base.specs.declared.shape.Kind.TheVariants.{Tick as TickTurn}

@@ -1,5 +1,6 @@
 -- What a lane knows of the versions that it has seen: of the first so many of them it knows that each shows the domains
 -- of its masks, and that these are the header's, or those that a `pub` published which it has read.
+-- For the definitions of `Lanes`, and so for `Lane::end`, `Lane::keeps` and others.
 use Rattle.std.specs.Prelude.{ℕ, ◌≡◌, ◌-◌, ◌≤◌, ◌⊎◌, List, Some, slice_get}
 use base.Stored.{Coded}
 use Rattle.lb_base.specs.declared.mask.Mask.{Mask}

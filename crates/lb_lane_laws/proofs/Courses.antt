@@ -1,5 +1,6 @@
 -- What an entry that a lane draws leaves of its course, for whoever calls the queues of a machine: its form, what it keeps
 -- of looks and takes, and all else of its turn.
+-- For the lemmas of `Lanes`; cited by `lb_pass` and `lb_service` too.
 use Rattle.std.proofs.Common.{ℕ, ◌≡◌, ◌+◌, Bool, true, false, cond, List, [], length, Option, Some, None, refl, sym, ◌∙◌, ap, subst}
 use Rattle.std.proofs.Math.Bool.{or-false}
 use Rattle.lb_base.specs.declared.mask.Mask.{Mask}

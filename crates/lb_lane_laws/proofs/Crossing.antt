@@ -1,5 +1,6 @@
 -- The lanes of a machine may go to other threads, and its queues may be shared among them: each of their types owns what its
 -- fields own, and no more.
+-- For `lb_thread_tests` and `lb_threads`.
 use denote.RattleType.{RattleType}
 use denote.Param.Send.{IsSend, IsSync, part_keyless, sendable, view_send, view_sync}
 use denote.Param.SendFields.{declared_send, declared_sync}
@@ -51,14 +52,24 @@ use Rattle.lb_cpu.specs.contracts.cpus.Cpus.TheInside as cpus_inside
 journal_send : IsSend journal.the_row
 journal_send =
     view_send _ _ _ _ _
-    (declared_send journal_inside.the_type
-    (entry.the_send, (search (snapshot_send), (search (snapshot_send), (search (snapshot_send), (search (snapshot_send), (search (snapshot_send), tt)))))))
+    (declared_send journal_inside.the_type (
+      entry.the_send,
+      (
+        search (snapshot_send),
+        (search (snapshot_send), (search (snapshot_send), (search (snapshot_send), (search (snapshot_send), tt)))),
+      ),
+    ))
 
 journal_sync : IsSync journal.the_row
 journal_sync =
     view_sync _ _ _ _ _
-    (declared_sync journal_inside.the_type
-    (entry.the_sync, (search (snapshot_sync), (search (snapshot_sync), (search (snapshot_sync), (search (snapshot_sync), (search (snapshot_sync), tt)))))))
+    (declared_sync journal_inside.the_type (
+      entry.the_sync,
+      (
+        search (snapshot_sync),
+        (search (snapshot_sync), (search (snapshot_sync), (search (snapshot_sync), (search (snapshot_sync), tt)))),
+      ),
+    ))
 
 -- a seat that is shared is only read
 token_sync : (S V : RattleType) → IsSend S → IsSync (token.the_row S V)
@@ -78,8 +89,16 @@ cell_parts_send = declared_send cell_parts.the_type (queue.the_send, (log_send, 
 
 lane_parts_send : IsSend lane_parts.the_row
 lane_parts_send =
-    declared_send lane_parts.the_type
-    (search sendable, (course.the_send, (known.the_send, (seat.the_send journal.the_row (ghosts journal.the_row) journal_send, (search (sendable, items.the_send), tt)))))
+    declared_send lane_parts.the_type (
+      search sendable,
+      (
+        course.the_send,
+        (
+          known.the_send,
+          (seat.the_send journal.the_row (ghosts journal.the_row) journal_send, (search (sendable, items.the_send), tt)),
+        ),
+      ),
+    )
 
 -- ---- of a machine
 module _ (N : RattleType) (g : names.Ghosts N.Denot) (n : IsSend N) where
@@ -93,14 +112,27 @@ module _ (N : RattleType) (g : names.Ghosts N.Denot) (n : IsSend N) where
     pub lane_send : IsSend (lane.the_row N g v)
     lane_send =
         view_send _ _ _ _ _
-        (declared_send (lane_inside.the_type N g v)
-        (side_send, (looker.the_send, (items.the_send _ row.the_send, (search sendable, (search sendable, (items.the_send _ domain.the_send, tt)))))))
+        (declared_send (lane_inside.the_type N g v) (
+          side_send,
+          (
+            looker.the_send,
+            (
+              items.the_send _ row.the_send,
+              (search sendable, (search sendable, (items.the_send _ domain.the_send, tt))),
+            ),
+          ),
+        ))
 
     publisher_send : IsSend (publisher_cell.the_row N g v)
     publisher_send =
         view_send _ _ _ _ _
-        (declared_send (publisher_inside.the_type N g v)
-        (publisher.the_send, (seat.the_send journal.the_row (ghosts journal.the_row) journal_send, (search (sendable, crosses), tt))))
+        (declared_send (publisher_inside.the_type N g v) (
+          publisher.the_send,
+          (
+            seat.the_send journal.the_row (ghosts journal.the_row) journal_send,
+            (search (sendable, crosses), tt),
+          ),
+        ))
 
     pub cpus_sync : IsSync (cpus.the_row N g v)
     cpus_sync =

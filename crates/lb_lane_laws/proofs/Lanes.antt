@@ -1,4 +1,5 @@
 -- What stays of a lane whole as it draws entries, for whoever calls the queues of a machine.
+-- For `lb_pass` and `lb_service`.
 use Rattle.std.proofs.Common.{ℕ, ◌≡◌, List, refl, sym, ◌∙◌, ap, subst}
 use base.Stored.{Coded}
 use Rattle.atomic_table.specs.Seated.{TableId}

@@ -1,4 +1,5 @@
 -- Sets of CPUs with one more, and groups that share no CPU.
+-- For the lemmas of `Sources`; cited by `lb_pass` too.
 use Rattle.std.proofs.Common.{◌≡◌, ℕ, zero, suc, ◌<◌, ◌^◌, Bool, true, false, ◌==◌, ◌||◌, not, List, [], ◌∷◌, refl, sym, ◌∙◌, ap, ltb, inl, inr}
 use Rattle.std.specs.List.{list_all, list_any}
 use Rattle.std.proofs.lemmas.Bool.{and_parts, not-true, cases_Bool, both_ways}

@@ -1,5 +1,6 @@
 -- The source of a pull: a CPU of the machine that is not of the local group of the domain in work. So no CPU of the local
 -- group is ever excluded.
+-- For `lb_pass`.
 use Rattle.std.proofs.Common.{◌≡◌, ℕ, ◌<◌, Bool, true, false, cond, ◌==◌, List, length, Option, Some, None, sym, ◌∙◌, ap, subst, ltb}
 use Rattle.std.specs.Prelude.{MatchBool}
 use Rattle.std.proofs.lemmas.Bool.{and_parts, both_ways}

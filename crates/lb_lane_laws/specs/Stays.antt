@@ -1,4 +1,5 @@
 -- What stays of a lane as it draws entries: its number and its rows, and in a turn all of its course but how far it is.
+-- For the proofs of `Courses` and `Lanes`; cited by `lb_pass` and `lb_service`.
 use Rattle.std.specs.Prelude.{ℕ, ◌≡◌, Option, Some, None, [], false, if◌then◌else◌}
 use Rattle.lb_base.specs.declared.shape.Kind.{Kind}
 use Rattle.lb_base.specs.declared.mask.Mask.{Mask}

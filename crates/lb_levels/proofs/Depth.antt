@@ -1,6 +1,7 @@
 -- Why a machine has few levels: in a table without a fault, the distance from a node to another is
 -- at most the greater of two that lead there. So the nodes fall into classes that are within a
 -- distance of one another, and each level above the nodes joins some of them.
+-- For the law `levels_are_few`, and `Machine::levels`.
 use Rattle.std.proofs.Common.{◌≡◌, ℕ, zero, suc, ◌+◌, ◌<◌, ◌≤◌, max, eqb, leb, ltb, Bool, true, false, ◌&&◌, ◌||◌, not, List, [], ◌∷◌, length, take, get_or, None, refl, sym, ◌∙◌, ap, arith, inl, inr}
 use Rattle.std.specs.Prelude.{filter}
 use Rattle.std.specs.List.{range_with_len, list_all, list_any}
@@ -61,7 +62,8 @@ entries table square fine a b in_a in_b =
     let row : list_any (is_bad_entry table a) (range_with_len 0 (length table)) ≡ false =
     sym (bad_row_is table a square in_a)
     ∙ nothing_found (λ a. is_bad_distance (take a table) (distances_at table a)) (length table) fine a in_a in
-    good_entry table a b (false_from_ne_true _ (λ bad. both_ways _ row (sym (one_passes (is_bad_entry table a) (length table) b in_b bad))))
+    good_entry table a b (false_from_ne_true _
+    (λ bad. both_ways _ row (sym (one_passes (is_bad_entry table a) (length table) b in_b bad))))
 
 symmetric : (table : List (List ℕ)) → ((a b : ℕ) → a < length table → b < length table → IsGoodEntry table a b)
     → (a b : ℕ) → a < length table → b < length table → distance table a b ≡ distance table b a
@@ -81,7 +83,8 @@ entry_there : (table : List (List ℕ)) (a b : ℕ) → a < length table → b <
 entry_there table a b in_a in_b =
     let none : List ℕ = [] in
     list_any_at (λ row. list_any (λ e. eqb e (distance table a b)) row) table a none in_a
-    (list_any_at (λ e. eqb e (distance table a b)) (distances_at table a) b 0 in_b (eq-eqb (distance table a b) (distance table a b) refl))
+    (list_any_at (λ e. eqb e (distance table a b)) (distances_at table a) b 0 in_b
+    (eq-eqb (distance table a b) (distance table a b) refl))
 
 nested_at : (table : List (List ℕ)) → first_not_nested table ≡ None → (d : ℕ) → d < 256 → is_entry table d ≡ true
     → is_nested_at table d ≡ true
@@ -173,7 +176,8 @@ leads_from table d x far = all_of (λ y. leb d (distance table x y)) 0 x (λ y l
 
 leads_at : (table : List (List ℕ)) (d x : ℕ) → leads table d x ≡ true → (y : ℕ) → y < x → d ≤ distance table x y
 unfolding leads
-leads_at table d x leads y lt = leb-true _ _ (all_at (λ y. leb d (distance table x y)) 0 x leads y (omega arith) (omega (arith, lt)))
+leads_at table d x leads y lt = leb-true _ _
+    (all_at (λ y. leb d (distance table x y)) 0 x leads y (omega arith) (omega (arith, lt)))
 
 leads_still : (table : List (List ℕ)) (d x : ℕ) → leads table (d + 1) x ≡ true → leads table d x ≡ true
 leads_still table d x leads = leads_from table d x (λ y lt. omega (arith, leads_at table (d + 1) x leads y lt))
@@ -198,7 +202,8 @@ fewer p q a (suc n) k inside lo hi yes_p no_q =
           let rest = fewer p q (a + 1) n k inside (omega (arith, lo, other)) (omega (arith, hi)) yes_p no_q in
           elim (cases_Bool (q a)) [
             | inl in_q ↦ rw (in_q, inside a in_q) (omega (arith, rest))
-            | inr no_a ↦ rw no_a (elim (cases_Bool (p a)) [ inl yes_a ↦ rw yes_a (omega (arith, rest)) | inr no_p ↦ rw no_p rest ])
+            | inr no_a ↦ rw no_a (elim (cases_Bool (p a))
+                [ inl yes_a ↦ rw yes_a (omega (arith, rest)) | inr no_p ↦ rw no_p rest ])
           ]
     ]
 
@@ -246,7 +251,8 @@ leader_leads table m d x l small in_x at =
 
 -- where two nodes are at distance d, the later of their leaders does not lead at d + 1
 later_leader : (table : List (List ℕ)) → IsMetric table → (d x y k l : ℕ) → d < 256 → x < length table
-    → y < length table → distance table x y ≡ d → IsLeader table d x k → IsLeader table d y l → k < l → leads table (d + 1) l ≡ false
+    → y < length table → distance table x y ≡ d → IsLeader table d x k → IsLeader table d y l → k < l
+    → leads table (d + 1) l ≡ false
 later_leader table m d x y k l small in_x in_y apart at_k at_l before =
     let in_k : k < length table = omega (arith, in_x, at_k.within) in
     let in_l : l < length table = omega (arith, in_y, at_l.within) in
@@ -278,7 +284,8 @@ joins table m d x y small above in_x in_y apart =
       | inr other ↦ elim other [
         | inl before ↦ fewer (leads table d) (leads table (d + 1)) 0 (length table) l (leads_still table d)
             (omega arith) (omega (arith, in_l))
-            (leader_leads table m d y l small in_y at_y.1) (later_leader table m d x y k l small in_x in_y apart at_x.1 at_y.1 before)
+            (leader_leads table m d y l small in_y at_y.1)
+            (later_leader table m d x y k l small in_x in_y apart at_x.1 at_y.1 before)
         | inr after ↦ fewer (leads table d) (leads table (d + 1)) 0 (length table) k (leads_still table d)
             (omega arith) (omega (arith, in_k))
             (leader_leads table m d x k small in_x at_x.1)
@@ -313,7 +320,8 @@ entry_of table d there =
 far_from : (table : List (List ℕ)) → IsSquare table → IsMetric table → (m a : ℕ) → a + m ≤ 256
     → length (filter (is_far table) (range_with_len a m)) + length (leaders table (a + m)) ≤ length (leaders table a)
 unfolding leaders
-far_from table square metric zero a fits = ap_le (let e : a + zero ≡ a = omega arith in ap (λ (d : ℕ). length (leaders table d)) e)
+far_from table square metric zero a fits = ap_le
+    (let e : a + zero ≡ a = omega arith in ap (λ (d : ℕ). length (leaders table d)) e)
   where
     ap_le : {x y : ℕ} → x ≡ y → 0 + x ≤ y
     ap_le e = omega (arith, e)

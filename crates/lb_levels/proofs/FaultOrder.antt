@@ -1,4 +1,5 @@
 -- The faults in their order, and what a machine without a fault has.
+-- For `Machine::read`, `fault_of` and `Machine::of_good`.
 use Rattle.std.proofs.Common.{◌≡◌, ℕ, ◌<◌, ◌≤◌, max, List, [], length, Option, Some, None, refl, sym, ◌∙◌, ap, arith, inl, inr}
 use Rattle.std.specs.Option.{option_map}
 use Rattle.std.proofs.lemmas.Bool.{cases_lt, or_parts, not-false, eqb-true, both_ways}

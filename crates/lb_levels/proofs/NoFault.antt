@@ -1,5 +1,6 @@
 -- What it is to have no fault, for whoever reads or tests rows, tables and masks: rows and a table
 -- without a fault are a machine, masks without a fault are a partition, and the other way round.
+-- For the laws `a_machine_has_no_fault` and `a_partition_has_no_fault`; cited by `lb_read` and `lb_trace` too.
 use Rattle.std.proofs.Common.{◌≡◌, ℕ, zero, suc, ◌<◌, max, Bool, true, false, not, List, [], ◌∷◌, length, take, Option, Some, None, refl, sym, ◌∙◌, ap, arith}
 use Rattle.std.specs.Prelude.{is_some, is_none, option_and_then, find}
 use Rattle.std.specs.List.{range_with_len, list_all}
@@ -69,7 +70,8 @@ none_overlap parts fine second within =
         → option_and_then (λ second. option_map (λ first. Overlap first second) (first_sharing parts second)) o ≡ None → o ≡ None
     no_second parts None shares fine = refl
     no_second parts (Some second) shares fine =
-        absurd (both_ways _ (ap is_some (unmapped (λ first. Overlap first second) (first_sharing parts second) fine)) (shares second refl))
+        absurd (both_ways _ (ap is_some (unmapped (λ first. Overlap first second) (first_sharing parts second) fine))
+        (shares second refl))
 
 pairs_apart : (parts : List Mask) → first_overlap parts ≡ None → (i j : ℕ) → i < j → j < length parts
     → are_apart (part_at parts i) (part_at parts j) ≡ true

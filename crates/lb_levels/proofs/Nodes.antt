@@ -1,5 +1,6 @@
 -- How many nodes the rows of CPUs name, for whoever counts them: row by row, at least one where there
 -- is a CPU, no more than there can be, and the node of each CPU below that.
+-- For `nodes_of`, `Machine::read`, `fault_of` and `Machine::of_good`; cited by `lb_read` and `lb_trace` too.
 use Rattle.std.proofs.Common.{◌≡◌, ℕ, zero, suc, ◌+◌, ◌<◌, ◌≤◌, max, ltb, true, List, [], ◌∷◌, ◌++◌, length, arith}
 use Rattle.std.proofs.lemmas.Bool.{and_parts, ltb-true}
 use Rattle.lb_levels.specs.declared.cpu_row.CpuRow.{CpuRow}

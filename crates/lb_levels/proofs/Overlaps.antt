@@ -1,4 +1,5 @@
 -- The first two masks that share a CPU, found by the union of those before.
+-- For `parts_fault` and `first_overlap`.
 use Rattle.std.proofs.Common.{◌≡◌, ℕ, ◌+◌, ◌<◌, ◌||◌, true, false, not, List, length, Option, Some, None, refl, sym, ◌∙◌, ap, arith, inl, inr}
 use Rattle.std.specs.Prelude.{is_some}
 use Rattle.std.specs.Option.{option_map}
@@ -30,7 +31,8 @@ sharing parts second seen union shares =
     (none_from_test _ none) i lt) in
     let whole : are_apart seen (part_at parts second) ≡ true =
     apart_from seen (part_at parts second)
-    (λ k lt there. let at = union.only k there in apart_at (part_at parts at.0) (part_at parts second) (apart at.0 at.1) k lt at.2) in
+    (λ k lt there. let at = union.only k there in apart_at (part_at parts at.0) (part_at parts second) (apart at.0 at.1)
+    k lt at.2) in
     both_ways _ (ap not whole) (sym shares))
 
 pub not_sharing : (parts : List Mask) (second : ℕ) (seen : Mask) → IsUnion parts second seen
@@ -50,7 +52,8 @@ overlap_found parts second within before here =
     let at = found (λ second. is_some (first_sharing parts second)) (length parts) second within before here in
     rw (← at) refl
 
-pub no_overlap : (parts : List Mask) → ((i : ℕ) → i < length parts → is_some (first_sharing parts i) ≡ false) → None ≡ first_overlap parts
+pub no_overlap : (parts : List Mask) → ((i : ℕ) → i < length parts → is_some (first_sharing parts i) ≡ false)
+    → None ≡ first_overlap parts
 unfolding first_overlap
 no_overlap parts none =
     let at = not_found (λ second. is_some (first_sharing parts second)) (length parts) none in
@@ -61,7 +64,8 @@ pub past_first : (cpus : ℕ) (parts : List Mask) (part : ℕ) → first_past cp
 unfolding parts_fault_of
 past_first cpus parts part e = rw e refl
 
-pub overlap_second : (cpus : ℕ) (parts : List Mask) → first_past cpus parts ≡ None → first_overlap parts ≡ parts_fault_of cpus parts
+pub overlap_second : (cpus : ℕ) (parts : List Mask) → first_past cpus parts ≡ None
+    → first_overlap parts ≡ parts_fault_of cpus parts
 unfolding parts_fault_of
 overlap_second cpus parts e = rw e refl
 
@@ -72,7 +76,8 @@ none_seen parts seen empty = record {
 }
 
 pub one_more_seen : (parts : List Mask) (second : ℕ) (seen more : Mask)
-    → ((k : ℕ) → has more k ≡ (has seen k || has (part_at parts second) k)) → IsUnion parts second seen → IsUnion parts (second + 1) more
+    → ((k : ℕ) → has more k ≡ (has seen k || has (part_at parts second) k)) → IsUnion parts second seen
+    → IsUnion parts (second + 1) more
 one_more_seen parts second seen more is union = record {
   from = λ i lt k there. elim (cases_eq i second) [
     | inl same ↦ is k ∙ or_right _ _ (ap (λ (i : ℕ). has (part_at parts i) k) (sym same) ∙ there)

@@ -1,4 +1,5 @@
 -- The table of spans, a row for each level: its size, and what stands at the place of a level and a CPU.
+-- For `Machine::span`.
 use Rattle.std.proofs.Common.{◌≡◌, ℕ, ◌<◌, List, [], length, Some, sym, ◌∙◌, ap, arith}
 use Rattle.std.specs.List.{range_with_len, slice_get}
 use Rattle.std.proofs.lemmas.List.{length-map, get_or-map}
@@ -15,13 +16,15 @@ pub length-spans_of : (cpus : List CpuRow) (table : List (List ℕ)) → length 
 unfolding spans_of
 length-spans_of cpus table = length-map (levels_of table) (spans_at cpus table)
 
-length-spans_at : (cpus : List CpuRow) (table : List (List ℕ)) (level : LevelName) → length (spans_at cpus table level) ≡ length cpus
+length-spans_at : (cpus : List CpuRow) (table : List (List ℕ)) (level : LevelName)
+    → length (spans_at cpus table level) ≡ length cpus
 unfolding spans_at
 length-spans_at cpus table level = length-map (range_with_len 0 (length cpus)) (span_of cpus table level)
     ∙ length-range_with_len 0 (length cpus)
 
 spans_of_at : (cpus : List CpuRow) (table : List (List ℕ)) (level : ℕ) (row : List Mask)
-    → level < length (levels_of table) → slice_get (spans_of cpus table) level ≡ Some row → row ≡ spans_at cpus table (level_at table level)
+    → level < length (levels_of table) → slice_get (spans_of cpus table) level ≡ Some row → row ≡ spans_at cpus table
+    (level_at table level)
 unfolding spans_of
 spans_of_at cpus table level row within e =
     let none : List Mask = [] in

@@ -1,4 +1,5 @@
 -- Tables of distances row by row: a row within the whole table.
+-- For `first_misfit` and `is_bad_row`.
 use Rattle.std.proofs.Common.{◌≡◌, ℕ, ◌+◌, ◌<◌, Bool, true, List, [], ◌∷◌, length, take, refl, sym, arith, inl, inr}
 use Rattle.std.specs.List.{range_with_len, list_any}
 use Rattle.std.proofs.lemmas.Bool.{cases_lt, le-ltb, le-leb}
@@ -27,7 +28,8 @@ unfolding is_bad_distance
 bad_row_is table a square within =
     let none : List ℕ = [] in
     rw (sym (take_more table a none within), length-take-le a table (omega (arith, within)), square a within)
-    (same_any (is_bad_entry (take (a + 1) table) a) (is_bad_entry table a) (range_with_len 0 (length table)) (bad_entry_is table a))
+    (same_any (is_bad_entry (take (a + 1) table) a) (is_bad_entry table a) (range_with_len 0 (length table))
+    (bad_entry_is table a))
 
 -- a row past the nodes
 pub past_is_misfit : (nodes : ℕ) (table : List (List ℕ)) → is_misfit nodes table nodes ≡ true

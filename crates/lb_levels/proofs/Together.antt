@@ -1,5 +1,6 @@
 -- What the CPUs of a machine without a fault share: at each level a relation that parts them, and
 -- more from level to level.
+-- For the law `spans_part_and_grow`.
 use Rattle.std.proofs.Common.{◌≡◌, ℕ, zero, suc, ◌+◌, ◌<◌, ◌≤◌, ltb, Bool, true, false, ◌&&◌, List, [], ◌∷◌, length, map, take, get_or, None, refl, sym, ◌∙◌, ap, subst, arith, inl, inr}
 use Rattle.std.specs.Prelude.{filter}
 use Rattle.std.specs.List.{range_with_len}
@@ -132,7 +133,8 @@ level_of table i = ap (λ (ls : List LevelName). get_or ls i Smt) (levels_are ta
 far_length : (table : List (List ℕ)) → length (levels_of table) ≡ 3 + length (far table)
 far_length table = ap length (levels_are table) ∙ omega (arith, length-map (far table) (λ d. Numa d))
 
-numa_at : (table : List (List ℕ)) (i : ℕ) → i < length (far table) → level_at table (suc (suc (suc i))) ≡ Numa (get_or (far table) i 0)
+numa_at : (table : List (List ℕ)) (i : ℕ) → i < length (far table) → level_at table (suc (suc (suc i))) ≡ Numa
+    (get_or (far table) i 0)
 numa_at table i lt = level_of table (suc (suc (suc i))) ∙ get_or-map (λ d. Numa d) (far table) i 0 Smt lt
 
 far_is : (table : List (List ℕ)) (i : ℕ) → i < length (far table) → IsLevel table (Numa (get_or (far table) i 0))
@@ -160,7 +162,12 @@ record IsSound (cpus : List CpuRow) (table : List (List ℕ)) : Type 0 where
 sound : (cpus : List CpuRow) (table : List (List ℕ)) → 0 < length cpus → fault_of cpus table ≡ None → IsSound cpus table
 sound cpus table some fine =
     let none = good cpus table fine in
-    record { built = built cpus none.no_clash; metric = metric cpus table some fine; nodes = fits_nodes cpus table some none.fits }
+    record {
+      built = built cpus none.no_clash;
+      metric = metric cpus table some fine;
+      nodes = fits_nodes cpus table some
+          none.fits;
+    }
 
 shares_self : (cpus : List CpuRow) (table : List (List ℕ)) → IsSound cpus table → (level : LevelName)
     → IsLevel table level → (a : ℕ) → a < length cpus → shares table level (row_at cpus a) (row_at cpus a) ≡ true
@@ -176,7 +183,11 @@ shares_back cpus table s Smt a b in_a in_b ab = eq-eqb _ _ (sym (eqb-true _ _ ab
 shares_back cpus table s Mc a b in_a in_b ab = eq-eqb _ _ (sym (eqb-true _ _ ab))
 shares_back cpus table s Pkg a b in_a in_b ab = eq-eqb _ _ (sym (eqb-true _ _ ab))
 shares_back cpus table s (Numa d) a b in_a in_b ab =
-    le-leb _ _ (omega (arith, s.metric.both (row_at cpus b).node (row_at cpus a).node (s.nodes b in_b) (s.nodes a in_a), leb-true _ _ ab))
+    le-leb _ _ (omega (
+      arith,
+      s.metric.both (row_at cpus b).node (row_at cpus a).node (s.nodes b in_b) (s.nodes a in_a),
+      leb-true _ _ ab,
+    ))
 
 shares_chain : (cpus : List CpuRow) (table : List (List ℕ)) → IsSound cpus table → (level : LevelName)
     → IsLevel table level → (a b k : ℕ) → a < length cpus → b < length cpus → k < length cpus
@@ -193,14 +204,21 @@ shares_chain cpus table s (Numa d) is a b k in_a in_b in_k ab bk =
       near,
       next,
       s.metric.through (row_at cpus a).node (row_at cpus b).node
-          (row_at cpus k).node (s.nodes a in_a) (s.nodes b in_b) (s.nodes k in_k) (omega (arith, near, is.1)) (omega (arith, next, is.1)),
+          (row_at cpus k).node (s.nodes a in_a) (s.nodes b in_b) (s.nodes k in_k) (omega (arith, near, is.1))
+          (omega (arith, next, is.1)),
     ))
 
 node_within : (cpus : List CpuRow) (table : List (List ℕ)) → IsSound cpus table → (d a b : ℕ) → own_distance table < d
     → a < length cpus → b < length cpus → (row_at cpus a).node ≡ (row_at cpus b).node
     → shares table (Numa d) (row_at cpus a) (row_at cpus b) ≡ true
 node_within cpus table s d a b above in_a in_b same =
-    le-leb _ _ (omega (arith, s.metric.own (row_at cpus a).node (s.nodes a in_a), ap (distance table (row_at cpus a).node) same, above))
+    le-leb _ _ (omega (
+      arith,
+      s.metric.own (row_at cpus a).node (s.nodes a in_a),
+      ap
+          (distance table (row_at cpus a).node) same,
+      above,
+    ))
 
 -- the CPUs a and b share what the level stands for
 abbrev Sharing : List CpuRow → List (List ℕ) → ℕ → ℕ → LevelName → Type 0
@@ -272,7 +290,8 @@ in_span_from cpus table level cpu k few in_k together =
     ∙ and_from _ _ (lt-ltb k 64 (omega (arith, in_k, few))) (and_from _ _ (lt-ltb k (length cpus) in_k) together)
 
 pub in_span_to : (cpus : List CpuRow) (table : List (List ℕ)) (level : LevelName) (cpu k : ℕ)
-    → has (span_of cpus table level cpu) k ≡ true → (k < length cpus) × (shares table level (row_at cpus cpu) (row_at cpus k) ≡ true)
+    → has (span_of cpus table level cpu) k ≡ true
+    → (k < length cpus) × (shares table level (row_at cpus cpu) (row_at cpus k) ≡ true)
 unfolding span_of
 in_span_to cpus table level cpu k there =
     let parts = and_parts _ _ (and_parts _ _

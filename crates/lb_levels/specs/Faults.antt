@@ -1,5 +1,7 @@
 -- What keeps the rows of CPUs and the table of distances from being a machine, and what keeps masks
 -- from parting its CPUs: the first fault that there is, and where it is.
+-- Cited by the laws `a_machine_has_no_fault`, `a_partition_has_no_fault`, `levels_are_few` and `spans_part_and_grow`,
+-- and `Machine::read`, `Machine::cpus` and others; also by `lb_cpu`, `lb_domain` and other crates.
 use Rattle.std.specs.Prelude.{◌≡◌, ℕ, ◌+◌, ◌<◌, ◌≤◌, ◌==◌, nat_le, max, Bool, true, false, not, ◌||◌, Option, Some, None, is_some, option_and_then, List, [], ◌∷◌, length, take, find}
 use Rattle.std.specs.List.{range_with_len, slice_index_or, list_all}
 use Rattle.std.specs.Option.{option_map}

@@ -1,5 +1,6 @@
 -- What a machine keeps beside its rows and distances: that they have no fault, and its levels and
 -- spans.
+-- What contracts see of the type `Machine`.
 use Rattle.std.specs.Prelude.{◌≡◌, ◌<◌, ◌≤◌, None, length}
 use Rattle.lb_base.specs.declared.mask.TheConstants.{MAX_CPUS}
 use Rattle.lb_levels.specs.declared.limits.TheConstants.{MAX_NODES}

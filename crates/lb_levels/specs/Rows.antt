@@ -1,6 +1,8 @@
 -- When the rows of CPUs and the table of distances describe a machine: which CPU cannot stand
 -- beside those before it, which row of distances cannot stand below those before it, and at which
 -- distance the nodes are not nested.
+-- Cited by the law `levels_are_few`, and `Machine::read`, `first_clash` and others; also by `lb_cpu`, `lb_domain` and
+-- other crates.
 use Rattle.std.specs.Prelude.{◌≡◌, ℕ, ◌+◌, ◌<◌, ◌==◌, nat_lt, nat_le, Bool, not, ◌&&◌, ◌||◌, Option, is_none, List, [], ◌∷◌, ◌++◌, length, filter, find}
 use Rattle.std.specs.List.{range_with_len, slice_index_or, list_any, list_all}
 use Rattle.lb_levels.specs.declared.cpu_row.CpuRow.{CpuRow}

@@ -1,5 +1,7 @@
 -- The levels of a machine from the bottom, and the span of a CPU at a level: the CPUs that share a
 -- core, a cache or a node with it, or whose nodes are within a distance of its own.
+-- Cited by the laws `levels_are_few` and `spans_part_and_grow`, and `Machine::levels`, `Machine::name` and others;
+-- also by `lb_domain`, `lb_journal_rows` and `lb_rows`.
 use Rattle.std.specs.Prelude.{◌≡◌, ℕ, ◌+◌, ◌<◌, ◌==◌, nat_lt, Bool, true, ◌&&◌, List, ◌∷◌, length, map, filter}
 use Rattle.std.specs.List.{range_with_len, slice_index_or}
 use Rattle.lb_base.specs.declared.mask.Mask.{Mask}

@@ -1,4 +1,5 @@
 -- The average after a sample, by natural numbers: one case above the old average and one below it.
+-- For `idle_average`.
 use Rattle.std.proofs.Common.{◌≡◌, ℕ, suc, ◌+◌, ◌-◌, ◌/◌, ◌<◌, ◌≤◌, min, ℤ, pos, negsuc, ◌+ℤ◌, ◌-ℤ◌, neg_ℤ, unsigned_abs, int_div, ◌∙◌, ap, arith, inl, inr}
 use Rattle.std.specs.Int.{int_min}
 use Rattle.std.proofs.lemmas.Int.{ints}

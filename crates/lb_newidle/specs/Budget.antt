@@ -1,5 +1,6 @@
 -- What a newly-idle turn may spend: the cost of a level, whether the turn goes on to it, and the
 -- average time for which a CPU stays idle, after one more time of idleness.
+-- Cited by the contracts of `next_level` and `idle_average`; also by `lb_journal_rows`, `lb_queue` and `lb_rows`.
 use Rattle.std.specs.Prelude.{ℕ, ◌+◌, ◌*◌, nat_le, Bool, pos, ◌+ℤ◌, ◌-ℤ◌, int_div, unsigned_abs}
 use Rattle.std.specs.Int.{int_min}
 use Rattle.lb_newidle.specs.declared.TheConstants.{COST_PER_CPU, MAX_AVERAGE}

@@ -1,4 +1,5 @@
 -- An attempt of a lane: what its look, its pull and its landing leave of the course, and that a further look may be drawn.
+-- For `attempt`.
 use Rattle.std.proofs.Common.{ℕ, ◌≡◌, ◌<◌, true, false, List, Option, Some, length, refl, sym, ◌∙◌, ap, subst}
 use base.Stored.{Coded}
 use Rattle.logbook.specs.Pages.{Book}
@@ -86,7 +87,8 @@ pub record AttemptLeft (d : Decision) (l l' : LaneIs) : Type 0 where
 
 -- the `out`
 carries_left : (h : Header) (book : TableId) (board : List TableId) (code : Coded Journal) (l l' : LaneIs) (s : ℕ)
-    (hand : HandState) → l.side.course.form ≡ forms.Looked → Carries h book board code l l' s hand → PullLeft l.side.course l'.side.course
+    (hand : HandState) → l.side.course.form ≡ forms.Looked → Carries h book board code l l' s hand
+    → PullLeft l.side.course l'.side.course
 carries_left h book board code l l' s hand form x =
     subst (PullLeft l.side.course) (sym (there_course h book board code l l' s _ x.took.there))
     (pull_left h x.took.there.before l.side x.env hand.to _ form x.asked)
@@ -96,7 +98,8 @@ pub attempt_left : (h : Header) (book : TableId) (board : List TableId) (code : 
 attempt_left h book board code l l' x =
     let looked = lane_look_left h (length board) l x.looked x.decision x.look in
     let mid = x.pulled.mid in
-    let pulled = carries_left h book board code x.looked mid (source_of (Some x.decision)) x.pulled.hand looked.form x.pulled.carries in
+    let pulled = carries_left h book board code x.looked mid (source_of (Some x.decision)) x.pulled.hand looked.form
+    x.pulled.carries in
     let to = mid.side.course.to in
     let landed : LandLeft mid.side.course l'.side.course =
     subst (LandLeft mid.side.course) (sym (there_course h book board code mid l' to _ x.pulled.landed))
@@ -141,13 +144,15 @@ pub asks_further : (h : Header) (book : TableId) (board : List TableId) (version
     (d : Decision) (s : ℕ) (k : MoveKind) (i : ℕ) → Laws → LaneKeeps h board versions code l → LookAsks h l
     → (x : Attempted h book board code l l') → x.decision ≡ d → d ≡ Pull s k i → AsksFurther h l'
 asks_further h book board versions code l l' d s k i laws keeps asks x same is =
-    let away = (elsewhere h board versions code (length board) l x.looked x.decision s k i laws keeps asks x.look (same ∙ is)).apart in
+    let away = (elsewhere h board versions code (length board) l x.looked x.decision s k i laws keeps asks x.look
+    (same ∙ is)).apart in
     look_again h l l' x.decision asks
     (ap (λ (e : Decision). has (group_at (turn_domain h l.side.course).groups 0) (source_of (Some e))) (same ∙ is) ∙ away)
     (attempt_left h book board code l l' x)
 
 -- so after a look that decided to pull, and the pull
-abbrev pub attempted : (h : Header) (book : TableId) (board : List TableId) (code : Coded Journal) (l m l' : LaneIs) (d : Decision)
+abbrev pub attempted : (h : Header) (book : TableId) (board : List TableId) (code : Coded Journal) (l m l' : LaneIs)
+    (d : Decision)
     (s : ℕ) (k : MoveKind) (i : ℕ) → LaneLooked h (length board) l m d → d ≡ Pull s k i → Pulled h book board code m l' s
     → Attempted h book board code l l'
 attempted h book board code l m l' d s k i x is p = record {

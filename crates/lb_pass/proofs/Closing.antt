@@ -1,4 +1,5 @@
--- The close of a position whose looks have ended.
+-- Where the looks of a position have ended, its `close` may be drawn, and the position is done.
+-- For `pass`.
 use Rattle.std.proofs.Common.{ℕ, ◌≡◌, ◌<◌, true, false, List, Option, Some, length, refl, sym, ◌∙◌, ap, subst, inl, inr}
 use Rattle.std.specs.Prelude.{unwrap_or}
 use base.Stored.{Coded}
@@ -49,7 +50,7 @@ first_look h l cpu p kind asks =
 pub record IsDone (h : Header) (c : Course) : Type 0 where
   pub done : IsPositionDone c.form h c
   pub here : queue_due c.form c ≡ Some c.cpu
-  pub grounded : is_flight c.form ≡ false
+  pub empty_handed : is_flight c.form ≡ false
   pub turns : is_due c.form ≡ false
 
 settles : (d : Decision) → is_pull (Some d) ≡ false → is_settled (Some d) ≡ true
@@ -60,10 +61,10 @@ settles (Pull s k i) e = absurd (let y : ⊥ = cc in y)
 -- by its form
 done_by : (h : Header) (c : Course) (f : Form) → c.form ≡ f → IsPositionDone f h c → queue_due f c ≡ Some c.cpu
     → is_flight f ≡ false → is_due f ≡ false → IsDone h c
-done_by h c f form done here grounded turns = record {
+done_by h c f form done here empty_handed turns = record {
   done = subst (λ (x : Form). IsPositionDone x h c) (sym form) done;
   here = ap (λ (x : Form). queue_due x c) form ∙ here;
-  grounded = ap is_flight form ∙ grounded;
+  empty_handed = ap is_flight form ∙ empty_handed;
   turns = ap is_due form ∙ turns;
 }
 
@@ -125,7 +126,7 @@ stops_settled h book board code l m l' x same =
         ];
         side = unmoved m.side;
         rest = same_rest m;
-        grounded = (looks_done h board x.tried m x.looks_end).grounded;
+        empty_handed = (looks_done h board x.tried m x.looks_end).empty_handed;
       };
     })
 

@@ -1,4 +1,5 @@
 -- Some attempts of a lane, one after the other, and what ends them.
+-- For `attempt`, `pass` and `settle`.
 use Rattle.std.proofs.Common.{ℕ, suc, ◌≡◌, ◌<◌, Bool, true, false, List, [], Some, Result, Ok, Err, OnErr, length, ◌⊎◌, refl, sym, ◌∙◌, ap, subst, arith, inl, inr}
 use Rattle.std.specs.Prelude.{MatchBool}
 use Rattle.std.proofs.lemmas.Bool.{false_from_ne_true}
@@ -118,7 +119,8 @@ ends_pulled h book board code l m l' t x further none =
         looks_end = inl (record {
           same = refl;
           landed = left.form;
-          last = false_from_ne_true (looks_again h l'.side.course) (λ again. let e = none (further left.form again) in let y : ⊥ = cc in y);
+          last = false_from_ne_true (looks_again h l'.side.course)
+              (λ again. let e = none (further left.form again) in let y : ⊥ = cc in y);
         });
       };
       stays = still l m l' t.stays (attempt_stays h book board code m l' x);
@@ -148,7 +150,7 @@ stops_looked h board l m l' d x same =
       looks = inr (record { decision = d; look = x });
       side = unmoved m.side;
       rest = same_rest m;
-      grounded = ap is_flight (lane_look_left h (length board) l m d x).form;
+      empty_handed = ap is_flight (lane_look_left h (length board) l m d x).form;
     })
 
 pub in_vain : (h : Header) (board : List TableId) (l l' : LaneIs) (d : Decision) → (d ≡ NotMine) ⊎ (d ≡ Balanced)

@@ -1,6 +1,7 @@
 -- A pass: what a lane draws at one position of its open turn. Each attempt is a look that decides to pull, the `out` of the
 -- tasks at the source, and their landing; then no further look is due, or a last one moves nothing, and the position is
 -- closed.
+-- Cited by the contracts of `pass`, `pull`, `attempt` and others; also by `lb_service`.
 use Rattle.std.specs.Prelude.{ℕ, ◌≡◌, ◌<◌, ◌⊎◌, suc, zero, true, false, Some, List, length}
 use base.Stored.{Coded}
 use Rattle.atomic_table.specs.Seated.{TableId}
@@ -135,7 +136,7 @@ pub record StopsAt (h : Header) (board : List TableId) (l l' : LaneIs) : Type 0 
   pub looks : (looked ≡ l) ⊎ LookedOnce h board l looked
   pub side : Unmoved looked.side l'.side
   pub rest : SameRest looked l'
-  pub grounded : is_flight l'.side.course.form ≡ false
+  pub empty_handed : is_flight l'.side.course.form ≡ false
 
 -- so after some attempts, and nothing else was drawn
 pub record Stopped (h : Header) (book : TableId) (board : List TableId) (code : Coded Journal) (l l' : LaneIs) : Type 0 where

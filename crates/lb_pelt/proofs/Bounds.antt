@@ -1,4 +1,5 @@
 -- A sum with what a stretch of time adds to it stays below its bound.
+-- For `advance`.
 use Rattle.std.proofs.Common.{◌≡◌, ℕ, ◌+◌, ◌-◌, ◌*◌, ◌/◌, ◌%◌, ◌<◌, ◌≤◌, eqb, arith, inl, inr}
 use Rattle.std.proofs.lemmas.Bool.{cases_eq, eq-eqb, ne_eqb, cond-true, cond-false}
 use Rattle.lb_pelt.specs.Decay.{decayed}
@@ -45,7 +46,8 @@ sum_fits part e v small fits =
           let some : 0 < p = omega arith in
           let rest = decayed_times 1024 (1024 - part) p in
           let both = decayed_sum v (1024 * (1024 - part)) p in
-          let whole : decayed (v + 1024 * (1024 - part)) p ≤ decayed (1024 * 47742 + 49152) p = decayed_mono _ _ p (omega arith) in
+          let whole : decayed (v + 1024 * (1024 - part)) p ≤ decayed (1024 * 47742 + 49152) p = decayed_mono _ _ p
+          (omega arith) in
           let r = room p some in
           rw (kept_some p v n, contribution_across part e n) (omega arith)
     ]

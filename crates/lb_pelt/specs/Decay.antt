@@ -1,5 +1,6 @@
 -- The decay of a sum: what is left of it after a number of periods, by a table of the powers of the
 -- 32nd root of a half. Half is left after 32 periods, and nothing after more than 2,016.
+-- Cited by the contract of `decay`; also by `lb_journal_rows` and `lb_rows`.
 use Rattle.std.specs.Prelude.{ℕ, ◌*◌, ◌/◌, ◌%◌, ◌^◌, if◌then◌else◌, nat_lt, List, [], ◌∷◌, slice_index}
 
 -- 2 ^ 32 times the n-th power of the 32nd root of a half; the literals are the rule

@@ -1,6 +1,8 @@
 -- The load signal of a task: the sums that it keeps, how they change when it is advanced to a later
 -- moment, the value that it has there, and the bounds that every signal keeps. Time is counted in
 -- units of 1,024 ns and periods of 1,024 units.
+-- Cited by the laws `zero_is_bounded`, `advanced_is_bounded` and `value_is_bounded`, and `advance`, `value_at` and
+-- others; also by `lb_cell`, `lb_journal_rows` and other crates.
 use Rattle.std.specs.Prelude.{ℕ, ◌+◌, ◌-◌, ◌*◌, ◌/◌, ◌%◌, ◌≤◌, ◌<◌, ◌==◌, if◌then◌else◌}
 use Rattle.lb_pelt.specs.declared.signal.Run.{Run}
 use Rattle.lb_pelt.specs.declared.signal.Run.TheVariants.{Asleep, Waiting, Running}

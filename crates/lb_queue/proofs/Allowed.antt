@@ -65,12 +65,14 @@ push_may q at to one = push_by (λ ts q'. All (MayRun to) ts) q at to (All-nil (
         (sym f) (ap (down_of (clock_at q at)) (sym e)))
 
 down_may : (to clock id : ℕ) (xs : List Awake) (o : Option Awake) (ts : List Awake) → awake_with id xs ≡ o
-    → IsSomeAnd o (CanGo to) → All (MayRun to) (map (set_down clock) ts) → All (MayRun to) (map (set_down clock) (cons_option o ts))
+    → IsSomeAnd o (CanGo to) → All (MayRun to) (map (set_down clock) ts)
+    → All (MayRun to) (map (set_down clock) (cons_option o ts))
 down_may to clock id xs None ts e h k = absurd h
 down_may to clock id xs (Some a) ts e h k =
     All-cons (MayRun to) (set_down clock a) (map (set_down clock) ts) (rw (down_mask clock a a.running refl) h.may_run) k
 
-all_may : (to clock : ℕ) (is : List ℕ) (xs : List Awake) → AllCanGo to xs is → All (MayRun to) (map (set_down clock) (in_order is xs))
+all_may : (to clock : ℕ) (is : List ℕ) (xs : List Awake) → AllCanGo to xs is
+    → All (MayRun to) (map (set_down clock) (in_order is xs))
 unfolding in_order
 all_may to clock [] xs h = All-nil (MayRun to)
 all_may to clock (id ∷ is) xs h =
@@ -113,7 +115,8 @@ some_found : {X : Type 0} (o : Option X) → is_some o ≡ true → (x : X) × (
 some_found None h = absurd (let z : ⊥ = cc in z)
 some_found (Some x) h = (x, refl)
 
-least_exists : (owed : Bool) (d : Awake) (xs : List Awake) (i : ℕ) → i ≤ length xs → (o : Option ℕ) × IsLeastAsked owed (take i xs) o
+least_exists : (owed : Bool) (d : Awake) (xs : List Awake) (i : ℕ) → i ≤ length xs → (o : Option ℕ) × IsLeastAsked owed
+    (take i xs) o
 least_exists owed d xs zero le = (None, refl)
 least_exists owed d xs (suc i) le =
     let r = least_exists owed d xs i (omega arith) in
@@ -129,10 +132,12 @@ next_by : (owed : Bool) (xs : List Awake) (o : Option ℕ) → IsLeastAsked owed
 unfolding next_asked
 next_by owed xs None h any = absurd (let y : ⊥ = cc in y)
 next_by owed xs (Some id) h any =
-    let a = some_found (find (λ a. asks owed a && a.task.id == id) xs) (found_any (λ a. asks owed a && a.task.id == id) xs ∙ h.there) in
+    let a = some_found (find (λ a. asks owed a && a.task.id == id) xs)
+    (found_any (λ a. asks owed a && a.task.id == id) xs ∙ h.there) in
     let f = and_parts (asks owed a.0) (a.0.task.id == id) (found (λ a. asks owed a && a.task.id == id) key xs a.0 a.1).passes in
     let e : a.0.task.id ≡ id = eqb-true a.0.task.id id f.1 in
-    passes_found (λ a. asks owed a && a.task.id == id) (is_next_asked owed xs) xs a.0 a.1 (and_from (asks owed a.0) _ f.0 (rw e h.least))
+    passes_found (λ a. asks owed a && a.task.id == id) (is_next_asked owed xs) xs a.0 a.1
+    (and_from (asks owed a.0) _ f.0 (rw e h.least))
 
 next_exists : (owed : Bool) (xs : List Awake) → list_any (asks owed) xs ≡ true → (a : Awake) × (next_asked owed xs ≡ Some a)
 next_exists owed [] h = absurd (let y : ⊥ = cc in y)
@@ -167,7 +172,8 @@ pub next_may_be_taken : (q : QueueState) → AreDistinct q
 unfolding next_asked
 next_may_be_taken q one masks owed = by (find (is_next_asked owed q.awake) q.awake) refl
   where
-    goes : (a : Awake) → find (is_next_asked owed q.awake) q.awake ≡ Some a → stop_goes (Some a) ≡ Some (unwrap_or (least a.task.mask) 0)
+    goes : (a : Awake) → find (is_next_asked owed q.awake) q.awake ≡ Some a → stop_goes (Some a) ≡ Some
+        (unwrap_or (least a.task.mask) 0)
     goes a e =
         let asked = (and_parts (asks owed a) _ (found (is_next_asked owed q.awake) key q.awake a e).passes).0 in
         let p : is_pending a.stop ≡ true = asked_pending owed a asked in

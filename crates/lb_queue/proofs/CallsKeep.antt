@@ -1,4 +1,5 @@
 -- Each call keeps the tasks of a queue sound.
+-- For the lemmas of `Reached`, and so for the laws `clock_rises`, `sound` and others.
 use Rattle.std.proofs.Common.{◌≡◌, ℕ, ℤ, zero, suc, ◌<◌, ◌≤◌, max, true, cond, ◌==◌, eqb, List, [], ◌∷◌, ◌++◌, length, map, get_or, take, drop, Option, Some, None, refl, sym, ◌∙◌, ap, arith, subst, add-one, take_all}
 use Rattle.std.specs.Prelude.{All, IsSomeAnd}
 use Rattle.std.specs.List.{list_all}
@@ -51,13 +52,15 @@ gone_up cpu id awake asleep gone t e h =
     unknown_up cpu t.id awake asleep gone t (subst (λ (i : ℕ). task_with i asleep ≡ Some t) (sym (task_named id asleep t e)) e) h
 
 gone_out : (cpu clock id : ℕ) (awake : List Awake) (asleep gone : List TaskRecord) (a : Awake)
-    → awake_with id awake ≡ Some a → AreSound cpu awake asleep gone → stands (left_by clock a awake) asleep gone (set_down clock a).id ≡ 0
+    → awake_with id awake ≡ Some a → AreSound cpu awake asleep gone → stands (left_by clock a awake) asleep gone
+    (set_down clock a).id ≡ 0
 gone_out cpu clock id awake asleep gone a e h =
     subst (λ (i : ℕ). stands (left_by clock a awake) asleep gone i ≡ 0) (sym (set_down_keeps clock a))
     (unknown_out cpu clock id awake asleep gone a e h)
 
 -- an awake task that was put down keeps its id's bound
-low_down : (q : QueueState) (clock id : ℕ) (a : Awake) → awake_with id q.awake ≡ Some a → Keeps q → (set_down clock a).id < id_limit
+low_down : (q : QueueState) (clock id : ℕ) (a : Awake) → awake_with id q.awake ≡ Some a → Keeps q
+    → (set_down clock a).id < id_limit
 low_down q clock id a e h = subst (λ (i : ℕ). i < id_limit) (sym (set_down_keeps clock a))
     (found_all IsUp (λ x. x.task.id == id) q.awake a h.up e).numbered
 
@@ -74,20 +77,23 @@ module _ (q : QueueState) (h : Keeps q) where
       (wakes_here q id t (sym e) here k.somewhere) (sound_up q.cpu t.id q.awake q.asleep q.gone h.sound))
 
   pub leave_sound : (at id : ℕ) → SoundQueue (leave q at id).1
-  leave_sound at id = leave_by (λ ts q'. SoundQueue q') q at id h.sound (λ t e. sound_up q.cpu t.id q.awake q.asleep q.gone h.sound)
+  leave_sound at id = leave_by (λ ts q'. SoundQueue q') q at id h.sound
+      (λ t e. sound_up q.cpu t.id q.awake q.asleep q.gone h.sound)
 
   pub sleep_sound : (at id : ℕ) → SoundQueue (sleep q at id).1
   sleep_sound at id = sleep_by (λ r q'. SoundQueue q') q at id (refuses at) (λ a e.
       let clock = clock_at q at in
       sound_asleep q.cpu (left_by clock a q.awake) q.asleep q.gone (set_down clock a) (low_down q clock id a e h)
-      (gone_out q.cpu clock id q.awake q.asleep q.gone a e h.sound) (sound_out q.cpu clock id q.awake q.asleep q.gone a e h.sound))
+      (gone_out q.cpu clock id q.awake q.asleep q.gone a e h.sound)
+      (sound_out q.cpu clock id q.awake q.asleep q.gone a e h.sound))
 
   pub exit_sound : (at id : ℕ) → SoundQueue (exit q at id).1
   exit_sound at id = exit_by (λ r q'. SoundQueue q') q at id (refuses at)
       (λ a e.
       let clock = clock_at q at in
       sound_gone q.cpu (left_by clock a q.awake) q.asleep q.gone (set_down clock a) (low_down q clock id a e h)
-      (gone_out q.cpu clock id q.awake q.asleep q.gone a e h.sound) (sound_out q.cpu clock id q.awake q.asleep q.gone a e h.sound))
+      (gone_out q.cpu clock id q.awake q.asleep q.gone a e h.sound)
+      (sound_out q.cpu clock id q.awake q.asleep q.gone a e h.sound))
       (λ t n e.
       let k = found_all IsTask (λ x. x.id == id) q.asleep t h.down e in
       sound_gone q.cpu q.awake (without_task t.id q.asleep) q.gone t k.numbered
@@ -101,7 +107,8 @@ module _ (q : QueueState) (h : Keeps q) where
 
   pub nice_sound : (at id : ℕ) (nice : ℤ) → SoundQueue (renice q at id nice).1
   nice_sound at id nice = nice_by (λ r q'. SoundQueue q') q at id nice (refuses at)
-      (sound_map q.cpu _ q.awake q.asleep q.gone (reniced_key id nice) (reniced_running id nice) (reniced_asked q.cpu id nice) h.sound)
+      (sound_map q.cpu _ q.awake q.asleep q.gone (reniced_key id nice) (reniced_running id nice)
+      (reniced_asked q.cpu id nice) h.sound)
       (sound_tasks q.cpu _ q.awake q.asleep q.gone (nice_name id nice) h.sound)
 
   pub tick_sound : (at : ℕ) → SoundQueue (tick q at)
@@ -139,7 +146,8 @@ land_sound q at cause moment ts c h = land_by (λ xs q'. CanLand q xs → SoundQ
 -- ---- a pull
 -- a waiting task has left the list
 wait_keeps : (cpu to id : ℕ) (awake : List Awake) (asleep gone : List TaskRecord) (o : Option Awake)
-    → awake_with id awake ≡ o → IsSomeAnd o (CanGo to) → AreSound cpu awake asleep gone → AreSound cpu (without_awake id awake) asleep gone
+    → awake_with id awake ≡ o → IsSomeAnd o (CanGo to) → AreSound cpu awake asleep gone
+    → AreSound cpu (without_awake id awake) asleep gone
 wait_keeps cpu to id awake asleep gone None e go h = absurd go
 wait_keeps cpu to id awake asleep gone (Some a) e go h =
     let left : left_by 0 a awake ≡ without_awake id awake =
@@ -151,7 +159,8 @@ wait_keeps cpu to id awake asleep gone (Some a) e go h =
 some_keep : (cpu to : ℕ) (is : List ℕ) (awake : List Awake) (asleep gone : List TaskRecord)
     → ((u : ℕ) → occurs u is ≤ 1) → AllCanGo to awake is → AreSound cpu awake asleep gone → (n : ℕ) → n ≤ length is
     → AreSound cpu (without_all (take n is) awake) asleep gone
-some_keep cpu to is awake asleep gone one go h zero le = subst (λ (xs : List Awake). AreSound cpu xs asleep gone) (sym (filter_all awake)) h
+some_keep cpu to is awake asleep gone one go h zero le = subst (λ (xs : List Awake). AreSound cpu xs asleep gone)
+    (sym (filter_all awake)) h
 some_keep cpu to is awake asleep gone one go h (suc n) le =
     let id = get_or is n 0 in
     let lt : n < length is = omega arith in
@@ -159,7 +168,8 @@ some_keep cpu to is awake asleep gone one go h (suc n) le =
     let before = without_all (take n is) awake in
     let there : awake_with id before ≡ awake_with id awake =
     found_without (take n is) id awake (first_of (take n is) id (once_next is n one lt)) in
-    let goes : IsSomeAnd (awake_with id before) (CanGo to) = subst (λ (o : Option Awake). IsSomeAnd o (CanGo to)) (sym there) (go n 0 lt) in
+    let goes : IsSomeAnd (awake_with id before) (CanGo to) = subst (λ (o : Option Awake). IsSomeAnd o (CanGo to))
+    (sym there) (go n 0 lt) in
     let left = wait_keeps cpu to id before asleep gone (awake_with id before) refl goes
     (some_keep cpu to is awake asleep gone one go h n (omega arith)) in
     subst (λ (xs : List Awake). AreSound cpu xs asleep gone)
@@ -188,5 +198,6 @@ pull_sound q at env s h =
     let t = left_turned env now q.awake one in
     let n = length t.front in
     let made : drop n rest ++ take n rest ≡ in_order (kept_ids env list) q.awake =
-    sym (in_order_turned rest (kept_ids env list) (once_turned rest q.asleep q.gone left) t) ∙ kept_in_order env now q.awake one in
+    sym (in_order_turned rest (kept_ids env list) (once_turned rest q.asleep q.gone left) t) ∙ kept_in_order env now
+    q.awake one in
     subst (λ (xs : List Awake). AreSound q.cpu xs q.asleep q.gone) made (sound_turned q.cpu n rest q.asleep q.gone left)

@@ -1,5 +1,6 @@
 -- Sums over a list out of which one element is taken, and how long a list of distinct numbers can be. For
 -- callers too.
+-- For `TaskLists::sums`; cited by `lb_ready` and `lb_state` too.
 use Rattle.std.proofs.Common.{◌≡◌, ℕ, zero, suc, ◌+◌, ◌≤◌, Bool, true, false, not, cond, ◌==◌, eqb, List, [], ◌∷◌, length, map, reverse, find, Some, refl, sym, ◌∙◌, ap, arith, inl, inr}
 use Rattle.std.specs.Prelude.{sum_by}
 use Rattle.std.proofs.lemmas.Bool.{cases_Bool, cond-true, cond-false}
@@ -20,12 +21,14 @@ taken_step w f id x a xs true e one later h =
     let r : sum_by w (others f id xs) ≡ sum_by w xs = ap (sum_by w) (others-none f id xs (omega arith)) in
     let q : w x ≡ w a = ap w z in
     omega arith
-taken_step w f id x a xs false e one later h = let k = later (omega arith) h in let c = sum_by-cons w x (others f id xs) in omega arith
+taken_step w f id x a xs false e one later h = let k = later (omega arith) h in let c = sum_by-cons w x (others f id xs)
+    in omega arith
 
 pub sum_others : {X : Type 0} (w f : X → ℕ) (id : ℕ) (xs : List X) (a : X) → occurs id (map f xs) ≤ 1
     → find (λ x. f x == id) xs ≡ Some a → sum_by w (others f id xs) + w a ≡ sum_by w xs
 sum_others w f id [] a one h = absurd (let z : ⊥ = cc in z)
-sum_others w f id (x ∷ xs) a one h = taken_step w f id x a xs (f x == id) refl one (sum_others w f id xs a) h ∙ sym (sum_by-cons w x xs)
+sum_others w f id (x ∷ xs) a one h = taken_step w f id x a xs (f x == id) refl one (sum_others w f id xs a) h ∙ sym
+    (sum_by-cons w x xs)
 
 pub sum_reverse : {X : Type 0} (w : X → ℕ) (xs : List X) → sum_by w (reverse xs) ≡ sum_by w xs
 sum_reverse w [] = refl

@@ -1,5 +1,7 @@
 -- How often a number stands in a list, through the functions on lists, and what a search finds: a
 -- library for the proofs of `lb_core` and of other crates that count the ids of tasks.
+-- For the lemmas of `Allowed`, `Counting` and other files, and so for the laws `next_stops`, `pulls_follow_picks` and
+-- others; cited by `lb_core`, `lb_due` and `lb_ready` too.
 use Rattle.std.proofs.Common.{◌≡◌, ℕ, ◌+◌, ◌≤◌, Bool, true, false, not, cond, ◌==◌, if◌then◌else◌, eqb, List, [], ◌∷◌, ◌++◌, map, reverse, filter, find, Some, None, refl, sym, ◌∙◌, ap, arith, zero-add, subst}
 use Rattle.std.proofs.lemmas.Bool.{eq-eqb, cond-true, cond_both}
 use Rattle.std.proofs.lemmas.Bool.Decides.{nat_tests}
@@ -47,7 +49,8 @@ without_step f id t x rest rest' false h e = num_false (f x) id t _ _ h e
 pub occurs-without : {X : Type 0} (f : X → ℕ) (id : ℕ) (t : ℕ) (xs : List X)
     → occurs t (map f (filter (λ x. not (f x == id)) xs)) ≡ cond (t == id) 0 (occurs t (map f xs))
 occurs-without f id t [] = cond_both (t == id) 0 0 (λ v. 0 ≡ v) (λ _. refl) (λ _. refl)
-occurs-without f id t (x ∷ xs) = without_step f id t x xs (filter (λ y. not (f y == id)) xs) (f x == id) refl (occurs-without f id t xs)
+occurs-without f id t (x ∷ xs) = without_step f id t x xs (filter (λ y. not (f y == id)) xs) (f x == id) refl
+    (occurs-without f id t xs)
 
 -- ---- what a search finds
 pub record IsFound {X : Type 0} (p : X → Bool) (f : X → ℕ) (xs : List X) (a : X) : Type 0 where

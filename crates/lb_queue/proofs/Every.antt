@@ -1,4 +1,6 @@
 -- Tests that every element of a list passes. For callers too.
+-- For the lemmas of `Allowed`, `Leasts` and other files, and so for the laws `next_stops`, `pulls_follow_picks` and
+-- others; cited by `lb_ready` and `lb_state` too.
 use Rattle.std.proofs.Common.{◌≡◌, Bool, true, false, cond, List, [], ◌∷◌, ◌++◌, map, reverse, filter, find, Option, Some, refl, ◌∙◌, ap, subst}
 use Rattle.std.specs.List.{list_all}
 use Rattle.std.proofs.lemmas.Bool.{and_parts, and_from}
@@ -20,7 +22,8 @@ all_map p q g f [] h = refl
 all_map p q g f (x ∷ xs) h = let k = and_parts (p x) (list_all p xs) h in
     and_from (q (g x)) (list_all q (map g xs)) (f x k.0) (all_map p q g f xs k.1)
 
-pub all_append : {X : Type 0} (p : X → Bool) (xs ys : List X) → list_all p xs ≡ true → list_all p ys ≡ true → list_all p (xs ++ ys) ≡ true
+pub all_append : {X : Type 0} (p : X → Bool) (xs ys : List X) → list_all p xs ≡ true → list_all p ys ≡ true
+    → list_all p (xs ++ ys) ≡ true
 all_append p [] ys h k = k
 all_append p (x ∷ xs) ys h k = let l = and_parts (p x) (list_all p xs) h in
     and_from (p x) (list_all p (xs ++ ys)) l.0 (all_append p xs ys l.1 k)
@@ -41,7 +44,8 @@ find_step p x a o false h k e = k e
 
 pub all_find : {X : Type 0} (p f : X → Bool) (xs : List X) (a : X) → list_all p xs ≡ true → find f xs ≡ Some a → p a ≡ true
 all_find p f [] a h e = absurd (let k : ⊥ = cc in k)
-all_find p f (x ∷ xs) a h e = let k = and_parts (p x) (list_all p xs) h in find_step p x a (find f xs) (f x) k.0 (all_find p f xs a k.1) e
+all_find p f (x ∷ xs) a h e = let k = and_parts (p x) (list_all p xs) h in find_step p x a (find f xs) (f x) k.0
+    (all_find p f xs a k.1) e
 
 pub all_weaker : {X : Type 0} (p q : X → Bool) → ((x : X) → p x ≡ true → q x ≡ true) → (xs : List X)
     → list_all p xs ≡ true → list_all q xs ≡ true

@@ -1,4 +1,5 @@
 -- The bits of the positions that are marked as imbalanced.
+-- For `imbalance_flags`.
 use Rattle.std.proofs.Common.{◌≡◌, ℕ, zero, suc, ◌+◌, ◌*◌, ◌^◌, ◌<◌, ◌≤◌, Bool, true, false, cond, List, [], ◌∷◌, length, get_or, drop, refl, sym, ◌∙◌, ap, arith}
 use Rattle.std.proofs.Math.Nat.{pow-suc}
 use Rattle.std.proofs.Math.Pow.{pow_mono}
@@ -33,7 +34,8 @@ pub record IsCounted (counters : List Counters) (p flags : ℕ) : Type 0 where
 
 pub counted_next : (counters : List Counters) (p flags : ℕ) (d : Counters) → IsCounted counters p flags → p < length counters →
     flags + (cond (get_or counters p d).imb (2 ^ (8 + p)) 0 + flags_from (p + 1) (drop (p + 1) counters)) ≡ flags_from 0 counters
-counted_next counters p flags d h lt = ap (λ (xs : List Counters). flags + flags_from p xs) (sym (drop_more counters p d lt)) ∙ h.whole
+counted_next counters p flags d h lt = ap (λ (xs : List Counters). flags + flags_from p xs)
+    (sym (drop_more counters p d lt)) ∙ h.whole
 
 pub counted_all : (counters : List Counters) (p flags : ℕ) → IsCounted counters p flags → length counters ≤ p
     → flags ≡ flags_from 0 counters

@@ -1,4 +1,5 @@
 -- The ids in the lists of a queue, through the steps that join, take out, pick and rotate tasks.
+-- For `stop_of`.
 use Rattle.std.proofs.Common.{◌≡◌, ℕ, ◌+◌, ◌≤◌, Bool, true, false, not, cond, ◌==◌, eqb, ltb, List, [], ◌∷◌, length, reverse, Option, Some, None, refl, sym, ◌∙◌, arith, zero-add}
 use Rattle.std.proofs.lemmas.Bool.Decides.{nat_tests}
 use Rattle.lb_queue.specs.declared.record.TaskRecord.{TaskRecord}
@@ -45,7 +46,8 @@ left_ids clock a xs u = leaves_by clock (without_awake a.task.id xs) u a.running
 pub all_joined_ids : (clock : ℕ) (ts : List TaskRecord) (xs : List Awake) (u : ℕ)
     → occurs u (awake_ids (all_joined clock ts xs)) ≡ occurs u (ids ts) + occurs u (awake_ids xs)
 all_joined_ids clock [] xs u = sym (zero-add _)
-all_joined_ids clock (t ∷ ts) xs u = let h = all_joined_ids clock ts (joined clock t xs) u in let k = joined_ids clock t xs u in omega arith
+all_joined_ids clock (t ∷ ts) xs u = let h = all_joined_ids clock ts (joined clock t xs) u in let k = joined_ids clock t
+    xs u in omega arith
 
 -- ---- rotating
 preempted_id : (clock : ℕ) (a : Awake) (b : Bool) → a.running ≡ b → (preempted clock a).task.id ≡ a.task.id
@@ -87,13 +89,15 @@ owes_id a false h = rw h refl
 pub owes_keeps : (a : Awake) → key (owes a) ≡ key a
 owes_keeps a = owes_id a (is_pending a.stop) refl
 
-changed_id : (id : ℕ) (f : Awake → Awake) (same : (a : Awake) → key (f a) ≡ key a) (a : Awake) (b : Bool) → key (cond b (f a) a) ≡ key a
+changed_id : (id : ℕ) (f : Awake → Awake) (same : (a : Awake) → key (f a) ≡ key a) (a : Awake) (b : Bool)
+    → key (cond b (f a) a) ≡ key a
 changed_id id f same a true = same a
 changed_id id f same a false = refl
 
 pub changed_awake_ids : (id : ℕ) (f : Awake → Awake) → ((a : Awake) → key (f a) ≡ key a) → (u : ℕ) (xs : List Awake)
     → occurs u (awake_ids (changed_awake id f xs)) ≡ occurs u (awake_ids xs)
-changed_awake_ids id f same u xs = occurs-map key (λ a. cond (a.task.id == id) (f a) a) (λ a. changed_id id f same a (a.task.id == id)) u xs
+changed_awake_ids id f same u xs = occurs-map key (λ a. cond (a.task.id == id) (f a) a)
+    (λ a. changed_id id f same a (a.task.id == id)) u xs
 
 abbrev pub name : TaskRecord → ℕ
 name t = t.id
@@ -105,4 +109,5 @@ changed_name id f same t false = refl
 
 pub changed_task_ids : (id : ℕ) (f : TaskRecord → TaskRecord) → ((t : TaskRecord) → name (f t) ≡ name t)
     → (u : ℕ) (xs : List TaskRecord) → occurs u (ids (changed_task id f xs)) ≡ occurs u (ids xs)
-changed_task_ids id f same u xs = occurs-map name (λ t. cond (t.id == id) (f t) t) (λ t. changed_name id f same t (t.id == id)) u xs
+changed_task_ids id f same u xs = occurs-map name (λ t. cond (t.id == id) (f t) t)
+    (λ t. changed_name id f same t (t.id == id)) u xs

@@ -1,4 +1,5 @@
 -- What the lists of a queue keep with their rooms, as a task is taken out or comes in.
+-- For `TaskLists::add_gone`, `TaskLists::next_stop`, `TaskLists::add_asleep` and others.
 use Rattle.std.proofs.Common.{◌≡◌, ℕ, suc, ◌^◌, ◌+◌, ◌-◌, ◌<◌, ◌≤◌, Bool, true, false, not, cond, ◌==◌, List, [], ◌∷◌, ◌++◌, length, map, filter, reverse, Option, Some, None, refl, sym, arith}
 use Rattle.std.specs.Prelude.{IfSome, IfNone}
 use Rattle.lb_base.specs.Mask.{has}
@@ -18,7 +19,8 @@ length_filter : {X : Type 0} (p : X → Bool) (xs : List X) → length (filter p
 length_filter p [] = omega arith
 length_filter p (x ∷ xs) = step x (filter p xs) xs (p x) (length_filter p xs)
   where
-    step : {X : Type 0} (x : X) (ys xs : List X) (b : Bool) → length ys ≤ length xs → length (cond b (x ∷ ys) ys) ≤ suc (length xs)
+    step : {X : Type 0} (x : X) (ys xs : List X) (b : Bool) → length ys ≤ length xs → length (cond b (x ∷ ys) ys) ≤ suc
+        (length xs)
     step x ys xs true h = omega arith
     step x ys xs false h = omega arith
 
@@ -59,7 +61,8 @@ kept_in l a s g v a' clock awake t h low new room m e r = let f = joined_length 
 
 -- ---- what is taken out is not known any more
 pub unknown_if : (l : Lists) (id : ℕ) (o : Option TaskRecord) (asleep : List TaskRecord) → o ≡ task_with id l.asleep
-    → asleep ≡ without_task id l.asleep → AreSound l.cpu l.awake l.asleep l.gone → IfSome o (λ t. stands l.awake asleep l.gone t.id ≡ 0)
+    → asleep ≡ without_task id l.asleep → AreSound l.cpu l.awake l.asleep l.gone
+    → IfSome o (λ t. stands l.awake asleep l.gone t.id ≡ 0)
 unknown_if l id None asleep f r h = tt
 unknown_if l id (Some t) asleep f r h = rw r (unknown_up l.cpu id l.awake l.asleep l.gone t (sym f) h)
 
@@ -80,7 +83,8 @@ left_length clock a xs = let f = length_filter (λ (x : Awake). not (x.task.id =
     first [] = refl
     first (y ∷ ys) = let r = length-reverse ys in omega arith
 
-    cases : (ys : List Awake) (b : Bool) → length ys ≤ length xs → length (cond b (picked_first clock (reverse ys)) ys) ≤ length xs
+    cases : (ys : List Awake) (b : Bool) → length ys ≤ length xs
+        → length (cond b (picked_first clock (reverse ys)) ys) ≤ length xs
     cases ys true h = let r = length-reverse ys in let f = first (reverse ys) in omega arith
     cases ys false h = h
 
@@ -103,7 +107,8 @@ pub kept_out : (l : Lists) (a s g v a' clock id : ℕ) (awake : List Awake) → 
 kept_out l a s g v a' clock id awake h e r = rw (e, r) (kept_by l a s g v clock id (awake_with id l.awake) refl h)
 
 unknown_by : (l : Lists) (clock id : ℕ) (o : Option Awake) → awake_with id l.awake ≡ o
-    → AreSound l.cpu l.awake l.asleep l.gone → IfSome (down_of clock o) (λ t. stands (left_of clock o l.awake) l.asleep l.gone t.id ≡ 0)
+    → AreSound l.cpu l.awake l.asleep l.gone → IfSome (down_of clock o)
+    (λ t. stands (left_of clock o l.awake) l.asleep l.gone t.id ≡ 0)
 unknown_by l clock id None e h = tt
 unknown_by l clock id (Some a) e h = rw (set_down_keeps clock a) (unknown_out l.cpu clock id l.awake l.asleep l.gone a e h)
 
@@ -163,7 +168,8 @@ same_down l clock id o awake f r = rw (f, r) (same_by l clock (awake_with id l.a
 
 -- ---- a task is changed where it stands
 pub kept_awake : (l : Lists) (a s g v a' : ℕ) (awake : List Awake) → AreKept l a s g v
-    → AreSound l.cpu awake l.asleep l.gone → length awake ≡ length l.awake → a' ≡ a → AreKept (record l { awake = awake }) a' s g v
+    → AreSound l.cpu awake l.asleep l.gone → length awake ≡ length l.awake → a' ≡ a
+    → AreKept (record l { awake = awake }) a' s g v
 kept_awake l a s g v a' awake h new e r = record {
   cpu_fits = h.cpu_fits;
   booked_fit = h.booked_fit;
@@ -176,7 +182,8 @@ kept_awake l a s g v a' awake h new e r = record {
 }
 
 pub kept_tasks : (l : Lists) (a s g v s' : ℕ) (asleep : List TaskRecord) → AreKept l a s g v
-    → AreSound l.cpu l.awake asleep l.gone → length asleep ≡ length l.asleep → s' ≡ s → AreKept (record l { asleep = asleep }) a s' g v
+    → AreSound l.cpu l.awake asleep l.gone → length asleep ≡ length l.asleep → s' ≡ s
+    → AreKept (record l { asleep = asleep }) a s' g v
 kept_tasks l a s g v s' asleep h new e r = record {
   cpu_fits = h.cpu_fits;
   booked_fit = h.booked_fit;
@@ -194,13 +201,15 @@ pub kept_map : (l : Lists) (a s g v a' : ℕ) (f : Awake → Awake) (awake : Lis
     → ((x : Awake) → is_asked_rightly l.cpu x ≡ true → is_asked_rightly l.cpu (f x) ≡ true) → AreKept l a s g v →
     awake ≡ map f l.awake → a' ≡ a → AreKept (record l { awake = awake }) a' s g v
 kept_map l a s g v a' f awake id run ask h e r =
-    rw e (kept_awake l a s g v a' (map f l.awake) h (sound_map l.cpu f l.awake l.asleep l.gone id run ask h.sound) (length-map l.awake f) r)
+    rw e (kept_awake l a s g v a' (map f l.awake) h (sound_map l.cpu f l.awake l.asleep l.gone id run ask h.sound)
+    (length-map l.awake f) r)
 
 pub kept_renamed : (l : Lists) (a s g v s' : ℕ) (f : TaskRecord → TaskRecord) (asleep : List TaskRecord)
     → ((t : TaskRecord) → name (f t) ≡ name t) → AreKept l a s g v → asleep ≡ map f l.asleep → s' ≡ s
     → AreKept (record l { asleep = asleep }) a s' g v
 kept_renamed l a s g v s' f asleep id h e r =
-    rw e (kept_tasks l a s g v s' (map f l.asleep) h (sound_tasks l.cpu f l.awake l.asleep l.gone id h.sound) (length-map l.asleep f) r)
+    rw e (kept_tasks l a s g v s' (map f l.asleep) h (sound_tasks l.cpu f l.awake l.asleep l.gone id h.sound)
+    (length-map l.asleep f) r)
 
 -- ---- how many tasks there can be
 pub known_length : (cpu : ℕ) (awake : List Awake) (asleep gone : List TaskRecord) → AreSound cpu awake asleep gone
@@ -248,7 +257,8 @@ kept_booked l a s g v booked h w x = record {
 }
 
 -- wider vectors keep it
-pub kept_wider : (l : Lists) (a s g v a' s' g' v' : ℕ) → AreKept l a s g v → a ≤ a' → s ≤ s' → g ≤ g' → v ≤ v' → AreKept l a' s' g' v'
+pub kept_wider : (l : Lists) (a s g v a' s' g' v' : ℕ) → AreKept l a s g v → a ≤ a' → s ≤ s' → g ≤ g' → v ≤ v'
+    → AreKept l a' s' g' v'
 kept_wider l a s g v a' s' g' v' h x y z w = record {
   cpu_fits = h.cpu_fits;
   booked_fit = h.booked_fit;

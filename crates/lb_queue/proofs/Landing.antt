@@ -1,4 +1,5 @@
--- Tasks that land one after the other.
+-- The tasks of a hand land one after the other: each joins the front of the awake tasks.
+-- For `TaskLists::land` and `Queue::land`.
 use Rattle.std.proofs.Common.{◌≡◌, ℕ, suc, ◌+◌, ◌-◌, ◌<◌, ◌≤◌, true, false, cond, ◌==◌, eqb, List, [], ◌∷◌, length, get_or, remove, None, max, inl, inr, refl, sym, ◌∙◌, ap, arith, subst}
 use Rattle.std.specs.Prelude.{All}
 use Rattle.std.specs.List.{list_all}
@@ -62,14 +63,17 @@ pub landing_step : (clock : ℕ) (before : Lists) (all : List TaskRecord) (now n
 landing_step clock before all now new [] left t h lt e r n = absurd (omega arith)
 landing_step clock before all now new (x ∷ xs) left t h lt e r n =
     let m : new ≡ record now { awake = joined clock x now.awake; booked = now.booked - 1 } =
-    n ∙ ap (λ (y : TaskRecord). let l : Lists = record now { awake = joined clock y now.awake; booked = now.booked - 1 } in l) e in
+    n ∙ ap (λ (y : TaskRecord). let l : Lists = record now { awake = joined clock y now.awake; booked = now.booked - 1 }
+    in l) e in
     let made : IsLanding clock before all (record now { awake = joined clock x now.awake; booked = now.booked - 1 }) xs = record {
       joins = h.joins;
-      lists = ap (λ (l : Lists). let k : Lists = record l { awake = joined clock x now.awake; booked = now.booked - 1 } in k) h.lists;
+      lists = ap (λ (l : Lists). let k : Lists = record l { awake = joined clock x now.awake; booked = now.booked - 1 }
+          in k) h.lists;
       bookings = let k = h.bookings in let g = h.enough in omega arith;
       enough = let g = h.enough in omega arith;
       differ = λ u. let d = h.differ u in omega arith;
-      unknown = λ u some. let d = h.differ u in let n = h.unknown u (omega arith) in let j = joined_ids clock x now.awake u in omega arith;
+      unknown = λ u some. let d = h.differ u in let n = h.unknown u (omega arith) in let j = joined_ids clock x
+          now.awake u in omega arith;
       permitted = (and_parts (has x.mask now.cpu) _ h.permitted).1;
     } in
     subst (λ (l : Lists). IsLanding clock before all l left) (sym m)
@@ -89,7 +93,8 @@ pub unknown_each : (q : QueueState) (ts : List TaskRecord) → All (λ t. knows 
     → 1 ≤ occurs u (ids ts) → stands q.awake q.asleep q.gone u ≡ 0
 unknown_each q [] h u k = absurd (omega arith)
 unknown_each q (t ∷ ts) h u k = elim (cases_Bool (eqb t.id u)) [
-  | inl same ↦ subst (λ (n : ℕ). stands q.awake q.asleep q.gone n ≡ 0) (eqb-true t.id u same) (unknown_where q t.id (h 0 t (omega arith)))
+  | inl same ↦ subst (λ (n : ℕ). stands q.awake q.asleep q.gone n ≡ 0) (eqb-true t.id u same)
+      (unknown_where q t.id (h 0 t (omega arith)))
   | inr other ↦ unknown_each q ts (λ n d lt. h (suc n) d (omega arith)) u
       (let z : cond {A = ℕ} (eqb t.id u) 1 0 ≡ 0 = cond-false {A = ℕ} (eqb t.id u) 1 0 other in omega arith)
 ]
@@ -118,13 +123,15 @@ pub land_done : (q : QueueState) (at clock moment avg : ℕ) (cause : OutCause) 
     → 0 < length ts → clock ≡ max q.clock (max at moment) →
     avg ≡ cond (is_wake cause) (cond (nobody l0.awake) (average_with q.idle_since clock q.avg_idle) q.avg_idle) q.avg_idle →
     l1 ≡ record l0 { awake = all_joined clock ts l0.awake; booked = l0.booked - length ts } →
-    record (of_lists q l1) { clock = clock; avg_idle = avg; idle_since = None; tickless = false } ≡ land (of_lists q l0) at cause moment ts
+    record (of_lists q l1) { clock = clock; avg_idle = avg; idle_since = None; tickless = false } ≡ land (of_lists q l0)
+    at cause moment ts
 land_done q at clock moment avg cause ts l1 l0 lt c v e =
     let v' : avg ≡ cond (is_wake cause) (cond (nobody l0.awake)
     (average_with q.idle_since (max q.clock (max at moment)) q.avg_idle) q.avg_idle) q.avg_idle =
     v ∙ ap (λ (k : ℕ). cond {A = ℕ} (is_wake cause)
     (cond (nobody l0.awake) (average_with q.idle_since k q.avg_idle) q.avg_idle) q.avg_idle) c in
-    let e' = e ∙ ap (λ (k : ℕ). let l : Lists = record l0 { awake = all_joined k ts l0.awake; booked = l0.booked - length ts } in l) c in
+    let e' = e ∙ ap (λ (k : ℕ). let l : Lists = record l0
+    { awake = all_joined k ts l0.awake; booked = l0.booked - length ts } in l) c in
     ap (λ (k : ℕ). let s : QueueState = record
     (of_lists q l1) { clock = k; avg_idle = avg; idle_since = None; tickless = false } in s) c
     ∙ land_at q at moment avg cause ts l1 l0 lt v' e'

@@ -1,4 +1,5 @@
 -- What holds of each task of a queue, and is not ended by time or by leaving, holds after each call.
+-- For the law `tests_last`.
 use Rattle.std.proofs.Common.{◌≡◌, ℕ, ℤ, nat_lt, Bool, true, false, not, cond, ◌==◌, List, [], ◌∷◌, length, map, reverse, find, Option, Some, None, is_some, refl, subst}
 use Rattle.std.specs.Prelude.{All, IfSome}
 use Rattle.std.specs.List.{list_all, cons_option}
@@ -37,7 +38,8 @@ found_all {X = X} P f (x ∷ xs) a h e = step (f x) e (found_all P f xs a (All-t
 -- ---- what lasts, of awake tasks and of others, and what a call has to hold
 pub record Lasts (A : StopRequest → TaskRecord → Type 0) (T : TaskRecord → Type 0) : Type 0 where
   pub leaves : (s : StopRequest) (t : TaskRecord) → A s t → T t
-  pub ages_awake : (s : StopRequest) (t : TaskRecord) (run : Run) (clock : ℕ) (down : Option ℕ) → A s t → A s (aged run clock down t)
+  pub ages_awake : (s : StopRequest) (t : TaskRecord) (run : Run) (clock : ℕ) (down : Option ℕ) → A s t
+      → A s (aged run clock down t)
   pub ages : (t : TaskRecord) (run : Run) (clock : ℕ) (down : Option ℕ) → T t → T (aged run clock down t)
 
 pub record Holds (A : StopRequest → TaskRecord → Type 0) (T : TaskRecord → Type 0) (q : QueueState) : Type 0 where
@@ -108,7 +110,8 @@ module _ (A : StopRequest → TaskRecord → Type 0) (T : TaskRecord → Type 0)
       by true = All-cons Up (waiting t) xs k h
       by false = All-cons Up (picked clock (waiting t)) xs (picked_up clock (waiting t) k) h
 
-  all_joined_up : (clock : ℕ) (ts : List TaskRecord) (xs : List Awake) → All (A Free) ts → All Up xs → All Up (all_joined clock ts xs)
+  all_joined_up : (clock : ℕ) (ts : List TaskRecord) (xs : List Awake) → All (A Free) ts → All Up xs
+      → All Up (all_joined clock ts xs)
   all_joined_up clock [] xs k h = h
   all_joined_up clock (t ∷ ts) xs k h = all_joined_up clock ts (joined clock t xs) (All-tail (A Free) t ts k)
       (joined_up clock t xs (All-head (A Free) t ts k) h)
@@ -120,14 +123,16 @@ module _ (A : StopRequest → TaskRecord → Type 0) (T : TaskRecord → Type 0)
       let rest = without_awake a.task.id xs in
       All-cons Up (picked clock a) (map (preempted clock) rest) (picked_up clock a (f a refl))
       (All-map Up (preempted clock) rest
-      (All-weaker Up (λ x. Up (preempted clock x)) (preempted_up clock) rest (All-filter (λ x. not (x.task.id == a.task.id)) Up xs h)))
+      (All-weaker Up (λ x. Up (preempted clock x)) (preempted_up clock) rest
+      (All-filter (λ x. not (x.task.id == a.task.id)) Up xs h)))
 
   rotated_up : (clock : ℕ) (xs : List Awake) → All Up xs → All Up (rotated clock xs)
   unfolding rotated
   rotated_up clock xs h = by (nat_lt 1 (length xs))
     where
       by : (b : Bool) → All Up (cond b (rotated_to (next_up xs) clock xs) xs)
-      by true = rotated_to_up (next_up xs) clock xs (λ a e. found_all Up (λ x. not x.running) (reverse xs) a (all_turned Up xs h) e) h
+      by true = rotated_to_up (next_up xs) clock xs
+          (λ a e. found_all Up (λ x. not x.running) (reverse xs) a (all_turned Up xs h) e) h
       by false = h
 
   owed_up : ((s : StopRequest) (t : TaskRecord) → is_pending s ≡ true → A s t → A Owed t) → (a : Awake) → Up a → Up (owes a)
@@ -278,8 +283,14 @@ module _ (A : StopRequest → TaskRecord → Type 0) (T : TaskRecord → Type 0)
         gone = h.gone;
       },
       All-nil T,
+    ) (
+      record {
+        awake = h.awake;
+        asleep = changed_down id (with_nice nice) keep.down q.asleep h.asleep;
+        gone = h.gone;
+      },
+      All-nil T,
     )
-        (record { awake = h.awake; asleep = changed_down id (with_nice nice) keep.down q.asleep h.asleep; gone = h.gone }, All-nil T)
 
     ticks : (at : ℕ) → ((s : StopRequest) (t : TaskRecord) → is_pending s ≡ true → A s t → A Owed t) → After [] (tick q at)
     unfolding tick
@@ -330,7 +341,8 @@ module _ (A : StopRequest → TaskRecord → Type 0) (T : TaskRecord → Type 0)
 
     land_lasts : (at : ℕ) (cause : OutCause) (moment : ℕ) (tasks : List TaskRecord) → All (A Free) tasks
         → After [] (land q at cause moment tasks)
-    land_lasts at cause moment tasks k = land_by (λ ts q'. After [] q') q at cause moment tasks (same (at_moment q _) refl refl refl)
+    land_lasts at cause moment tasks k = land_by (λ ts q'. After [] q') q at cause moment tasks
+        (same (at_moment q _) refl refl refl)
         (λ t ts e. (
           record {
             awake = all_joined_up _ (t ∷ ts) q.awake (subst (All (A Free)) e k) h.awake;
@@ -359,7 +371,8 @@ module _ (A : StopRequest → TaskRecord → Type 0) (T : TaskRecord → Type 0)
     call_lasts (TakePush at to) k = push_lasts at to
     call_lasts (Take at env) k = pull_lasts at env
     call_lasts (Land at cause moment tasks) k = land_lasts at cause moment tasks k
-    call_lasts (Turn at lane kind version shapes) k = turn_lasts _ _ (is_some q.open_turn) (same _ refl refl refl) (same _ refl refl refl)
+    call_lasts (Turn at lane kind version shapes) k = turn_lasts _ _ (is_some q.open_turn) (same _ refl refl refl)
+        (same _ refl refl refl)
     call_lasts (CloseLook at shape outcome imb) k = same _ refl refl refl
     call_lasts (EndTurn at) k = same _ refl refl refl
     call_lasts (AskActive at to) k = same _ refl refl refl
@@ -372,7 +385,8 @@ all_of p (x ∷ xs) h = let k = and_parts (p x) (list_all p xs) h in All-cons (�
 
 passed : {X : Type 0} (p : X → Bool) (xs : List X) → All (λ x. p x ≡ true) xs → list_all p xs ≡ true
 passed p [] h = refl
-passed p (x ∷ xs) h = and_from (p x) (list_all p xs) (All-head (λ y. p y ≡ true) x xs h) (passed p xs (All-tail (λ y. p y ≡ true) x xs h))
+passed p (x ∷ xs) h = and_from (p x) (list_all p xs) (All-head (λ y. p y ≡ true) x xs h)
+    (passed p xs (All-tail (λ y. p y ≡ true) x xs h))
 
 lets : (up : StopRequest → TaskRecord → Bool) (down : TaskRecord → Bool) (q : QueueState) (c : Call)
     → Admits up down q c → Lets (λ s t. up s t ≡ true) (λ t. down t ≡ true) q c

@@ -1,4 +1,5 @@
--- The stop request of the least id.
+-- Of the stop requests that are pending or owed, a loop over the awake tasks finds that of the least id.
+-- For `next_stop` and `least_asked`.
 use Rattle.std.proofs.Common.{◌≡◌, ℕ, ◌+◌, ◌<◌, ◌≤◌, min, leb, Bool, true, false, not, cond, ◌==◌, ◌&&◌, ◌||◌, List, [], ◌∷◌, ◌++◌, reverse, find, take, get_or, length, Option, Some, None, is_some, unwrap_or, refl, sym, ◌∙◌, ap, arith, subst, inl, inr, take_all}
 use Rattle.std.specs.Prelude.{IfSome}
 use Rattle.std.specs.List.{list_all, list_any}
@@ -32,7 +33,8 @@ any_true_right : (a b : Bool) → b ≡ true → (a || b) ≡ true
 any_true_right true b h = refl
 any_true_right false b h = h
 
-none_asked : (owed : Bool) (id : ℕ) (xs : List Awake) → list_any (asks owed) xs ≡ false → list_all (unasked_or_from owed id) xs ≡ true
+none_asked : (owed : Bool) (id : ℕ) (xs : List Awake) → list_any (asks owed) xs ≡ false
+    → list_all (unasked_or_from owed id) xs ≡ true
 none_asked owed id [] h = refl
 none_asked owed id (x ∷ xs) h = step (asks owed x) (leb id x.task.id) (list_any (asks owed) xs) _ h (none_asked owed id xs)
   where
@@ -47,7 +49,8 @@ lower owed id low a le h = step (asks owed a) h
     step true h = let k = leb-true id a.task.id h in le-leb low a.task.id (omega arith)
     step false h = refl
 
-asked_here : (owed : Bool) (a : Awake) → asks owed a ≡ true → list_any (λ x. asks owed x && x.task.id == a.task.id) (a ∷ []) ≡ true
+asked_here : (owed : Bool) (a : Awake) → asks owed a ≡ true → list_any (λ x. asks owed x && x.task.id == a.task.id)
+    (a ∷ []) ≡ true
 asked_here owed a h = rw (h, eq-eqb a.task.id a.task.id refl) refl
 
 from_here : (owed : Bool) (id : ℕ) (a : Awake) → id ≤ a.task.id → unasked_or_from owed id a ≡ true
@@ -81,18 +84,21 @@ least_push owed xs (Some id) a true e h = elim (cases_lt a.task.id id) [
       let m : id ≡ min id a.task.id = omega arith in
       subst (λ (n : ℕ). HasLeastAsked owed (xs ++ a ∷ []) n) m (record {
         there = list_any-append _ xs (a ∷ []) ∙ any_true_left _ _ h.there;
-        least = all_append (unasked_or_from owed id) xs (a ∷ []) h.least (all_one (unasked_or_from owed id) a (from_here owed id a more));
+        least = all_append (unasked_or_from owed id) xs (a ∷ []) h.least
+            (all_one (unasked_or_from owed id) a (from_here owed id a more));
       })
 ]
 
 pub least_more : (owed : Bool) (xs : List Awake) (i : ℕ) (o o' : Option ℕ) (a : Awake) → i < length xs
-    → a ≡ get_or xs i a → o' ≡ cond (asks owed a) (Some (min (unwrap_or o a.task.id) a.task.id)) o → IsLeastAsked owed (take i xs) o →
+    → a ≡ get_or xs i a → o' ≡ cond (asks owed a) (Some (min (unwrap_or o a.task.id) a.task.id)) o
+    → IsLeastAsked owed (take i xs) o →
     IsLeastAsked owed (take (i + 1) xs) o'
 least_more owed xs i o o' a lt e r h =
     let t : take i xs ++ a ∷ [] ≡ take (i + 1) xs = ap (λ (x : Awake). take i xs ++ x ∷ []) e ∙ sym (take_more xs i a lt) in
     subst (λ (p : Option ℕ). IsLeastAsked owed (take (i + 1) xs) p) (sym r)
     (subst (λ (ys : List Awake). IsLeastAsked owed ys
-    (cond (asks owed a) (Some (min (unwrap_or o a.task.id) a.task.id)) o)) t (least_push owed (take i xs) o a (asks owed a) refl h))
+    (cond (asks owed a) (Some (min (unwrap_or o a.task.id) a.task.id)) o)) t
+    (least_push owed (take i xs) o a (asks owed a) refl h))
 
 pub least_all : (owed : Bool) (xs : List Awake) (i : ℕ) (o : Option ℕ) → length xs ≤ i
     → IsLeastAsked owed (take i xs) o → IsLeastAsked owed xs o
@@ -100,7 +106,11 @@ least_all owed xs i o far h = subst (λ (ys : List Awake). IsLeastAsked owed ys 
 
 -- ---- it is the definition's
 least_turned : (owed : Bool) (xs : List Awake) (id : ℕ) → HasLeastAsked owed xs id → HasLeastAsked owed (reverse xs) id
-least_turned owed xs id h = record { there = any_reverse _ xs ∙ h.there; least = all_reverse (unasked_or_from owed id) xs h.least }
+least_turned owed xs id h = record {
+  there = any_reverse _ xs ∙ h.there;
+  least = all_reverse (unasked_or_from owed id)
+      xs h.least;
+}
 
 -- a test that passes somewhere finds something
 some_found : {X : Type 0} (o : Option X) → is_some o ≡ true → (x : X) × (o ≡ Some x)
@@ -123,8 +133,10 @@ same_id : (owed : Bool) (ys : List Awake) (id : ℕ) (a b : Awake) → HasLeastA
 same_id owed ys id a b h e g =
     let a_is = and_parts (asks owed a) (a.task.id == id) (found (named owed id) key ys a e).passes in
     let n : a.task.id ≡ id = eqb-true a.task.id id a_is.1 in
-    let b_is = and_parts (asks owed b) (list_all (unasked_or_from owed b.task.id) ys) (found (is_next_asked owed ys) key ys b g).passes in
-    let up : leb id b.task.id ≡ true = if_asked _ _ b_is.0 (all_find (unasked_or_from owed id) (is_next_asked owed ys) ys b h.least g) in
+    let b_is = and_parts (asks owed b) (list_all (unasked_or_from owed b.task.id) ys)
+    (found (is_next_asked owed ys) key ys b g).passes in
+    let up : leb id b.task.id ≡ true = if_asked _ _ b_is.0
+    (all_find (unasked_or_from owed id) (is_next_asked owed ys) ys b h.least g) in
     let down : leb b.task.id a.task.id ≡ true =
     if_asked _ _ a_is.0 (all_find (unasked_or_from owed b.task.id) (named owed id) ys a b_is.1 e) in
     let u = leb-true id b.task.id up in
@@ -141,7 +153,8 @@ least_is_next owed ys id one h = by_first (some_found (find (named owed id) ys) 
     both a b c e g k =
         let n = same_id owed ys id a b h e g in
         let m : c.task.id ≡ id = awake_named id ys c k in
-        let same : c ≡ b = same_found (λ (x : Awake). x.task.id == id) (is_next_asked owed ys) key ys c b k g (m ∙ sym n) (one c.task.id) in
+        let same : c ≡ b = same_found (λ (x : Awake). x.task.id == id) (is_next_asked owed ys) key ys c b k g
+        (m ∙ sym n) (one c.task.id) in
         k ∙ ap Some same ∙ sym g
 
     by_first : ((a : Awake) × (find (named owed id) ys ≡ Some a)) → awake_with id ys ≡ find (is_next_asked owed ys) ys
@@ -157,7 +170,8 @@ none_next owed [] all h = refl
 none_next owed (y ∷ ys) all h = step (asks owed y) (list_all (unasked_or_from owed y.task.id) all)
     (list_any (asks owed) ys) h (none_next owed ys all)
   where
-    step : {o : Option Awake} (a l rest : Bool) → (a || rest) ≡ false → (rest ≡ false → o ≡ None) → cond (a && l) (Some y) o ≡ None
+    step : {o : Option Awake} (a l rest : Bool) → (a || rest) ≡ false → (rest ≡ false → o ≡ None)
+        → cond (a && l) (Some y) o ≡ None
     step true l rest h later = absurd (both_ways true h refl)
     step false l rest h later = later h
 
@@ -187,7 +201,8 @@ pending_goes false o to h e = absurd (both_ways false refl h)
 -- the request of the least id goes where the task's mask says
 goes_there : (owed : Bool) (xs : List Awake) (id : ℕ) (s : Stop) → ((u : ℕ) → occurs u (awake_ids xs) ≤ 1)
     → HasLeastAsked owed xs id → stop_of (awake_with id (reverse xs)) ≡ Some s
-    → IfSome (awake_with id (reverse xs)) (λ a. least a.task.mask ≡ Some s.to) → stop_goes (awake_with s.id (reverse xs)) ≡ Some s.to
+    → IfSome (awake_with id (reverse xs)) (λ a. least a.task.mask ≡ Some s.to)
+    → stop_goes (awake_with s.id (reverse xs)) ≡ Some s.to
 unfolding next_asked
 goes_there owed xs id s one h st to = by (awake_with id (reverse xs)) refl st to
   where

@@ -1,4 +1,5 @@
--- Tasks that leave a queue, and tasks that land.
+-- Tasks that leave a queue by a wake or a stop may run where they go; and tasks that land.
+-- For `Queue::take_stop` and `Queue::leave`.
 use Rattle.std.proofs.Common.{◌≡◌, ℕ, zero, suc, ◌+◌, Bool, true, false, cond, max, [], ◌∷◌, ◌++◌, find, Option, Some, None, refl, sym, ◌∙◌, subst}
 use Rattle.std.specs.List.{range_with_len}
 use Rattle.lb_base.specs.declared.mask.Mask.{Mask}
@@ -30,7 +31,8 @@ least_has m c e = least_step m 64 0 c e
 
 there_by : (q : QueueState) (id to : ℕ) (t : TaskRecord) (b : Bool) → has t.mask q.cpu ≡ b
     → Some t ≡ task_with id q.asleep → away q id ≡ Some to → has t.mask to ≡ true
-there_by q id to t true e f a = let z : ◌≡◌ {A = Option ℕ} None (Some to) = away_here q id t f e ∙ a in absurd (let y : ⊥ = cc in y)
+there_by q id to t true e f a = let z : ◌≡◌ {A = Option ℕ} None (Some to) = away_here q id t f e ∙ a in absurd
+    (let y : ⊥ = cc in y)
 there_by q id to t false e f a = least_has t.mask to (away_there q id t f e ∙ a)
 
 pub leaves_there : (q : QueueState) (id : ℕ) (t : TaskRecord) (to : ℕ) → Some t ≡ task_with id q.asleep
@@ -91,7 +93,8 @@ awake_hand q at clock None t h c f = absurd (let y : ⊥ = cc in y)
 awake_hand q at clock (Some a) t h c f = let e : t ≡ set_down clock a = cc in rw (e, c) refl
 
 pub stop_done : (q : QueueState) (at id clock : ℕ) (t : TaskRecord) (l1 l0 : Lists) → clock ≡ max q.clock at
-    → Some t ≡ down_of clock (awake_with id l0.awake) → l1 ≡ record l0 { awake = left_of clock (awake_with id l0.awake) l0.awake } →
+    → Some t ≡ down_of clock (awake_with id l0.awake)
+    → l1 ≡ record l0 { awake = left_of clock (awake_with id l0.awake) l0.awake } →
     record (of_lists q l1) { clock = clock } ≡ (take_stop (of_lists q l0) at id).1
 unfolding take_stop
 stop_done q at id clock t l1 l0 c f e = awake_leaves q at clock (awake_with id l0.awake) t l1 l0 c f e

@@ -1,4 +1,5 @@
--- A list of which the first elements are changed.
+-- A list of which a loop has changed the first elements, and not yet the others.
+-- For `mask_awake`, `mask_asleep`, `preempt_all` and `owe_all`.
 use Rattle.std.proofs.Common.{◌≡◌, ℕ, zero, suc, ◌+◌, ◌<◌, ◌≤◌, List, [], ◌∷◌, ◌++◌, length, map, get_or, take, drop, take_all, append-nil, refl, sym, ◌∙◌, ap, arith, add-one}
 use Rattle.std.proofs.Math.ListN.{set}
 

@@ -1,4 +1,5 @@
 -- When a mask has no CPU past the machine.
+-- For `is_bad`; cited by `lb_tests` too.
 use Rattle.std.proofs.Common.{◌≡◌, ℕ, ◌^◌, ◌<◌, nat_lt, Bool, true, false, not, cond, ◌&&◌, ◌||◌, List, [], ◌∷◌, filter, Some, None, refl, sym, ◌∙◌, ap, arith, inl, inr}
 use Rattle.std.specs.Prelude.{IsTrue, is_none, is_some, Option}
 use Rattle.std.specs.List.{list_all, range_with_len}
@@ -21,7 +22,8 @@ pick p x xs false = refl
 all_filtered : {X : Type 0} (p h : X → Bool) (xs : List X) → list_all p (filter h xs) ≡ list_all (λ x. not (h x) || p x) xs
 all_filtered p h [] = refl
 all_filtered p h (x ∷ xs) = pick p x (filter h xs) (h x)
-    ∙ ap (λ (b : Bool). cond (h x) (p x && b) b) (all_filtered p h xs) ∙ filtered_step (p x) (h x) (list_all (λ y. not (h y) || p y) xs)
+    ∙ ap (λ (b : Bool). cond (h x) (p x && b) b) (all_filtered p h xs) ∙ filtered_step (p x) (h x)
+    (list_all (λ y. not (h y) || p y) xs)
 
 unless : (h p : Bool) → (h ≡ true → p ≡ true) → (not h || p) ≡ true
 unless true p f = f refl
@@ -54,7 +56,8 @@ from_both false false f g = refl
 -- the test by subsets is the definition's
 pub below_is : (m of : Mask) (n : ℕ) (b : Bool) → m.bits < 2 ^ 64 → ((k : ℕ) → has of k ≡ nat_lt k n)
     → (IsTrue b → IsSubset m of) → (IsSubset m of → IsTrue b) → b ≡ is_below m n
-below_is m of n b fits e f g = from_both b (is_below m n) (λ t. subset_below m of n e (f t)) (λ t. g (below_subset m of n fits e t))
+below_is m of n b fits e f g = from_both b (is_below m n) (λ t. subset_below m of n e (f t))
+    (λ t. g (below_subset m of n fits e t))
 
 pub bad_by : (empty below b : Bool) → empty ≡ false → b ≡ below → not b ≡ (empty || not below)
 bad_by empty below b e f = rw (e, f) refl

@@ -1,4 +1,5 @@
 -- Each call moves the tasks that it says, and nothing else.
+-- For the law `calls_move`.
 use Rattle.std.proofs.Common.{◌≡◌, ℕ, ℤ, ◌+◌, ◌≤◌, Bool, true, false, cond, ◌==◌, eqb, List, [], ◌∷◌, ◌++◌, map, max, Option, Some, None, is_some, refl, sym, ◌∙◌, ap, arith, subst}
 use Rattle.std.proofs.lemmas.Bool.Decides.{nat_tests}
 use Rattle.lb_base.specs.declared.mask.Mask.{Mask}
@@ -33,7 +34,8 @@ zero_if false = refl
 still : (from to : Side) (q : QueueState) (h : List TaskRecord) (q' : QueueState) (h' : List TaskRecord)
     → ((s : Side) (u : ℕ) → occurs u (standing s q' h') ≡ occurs u (standing s q h))
     → HasMoved (record { tasks = []; from = from; to = to }) q h q' h'
-still from to q h q' h' e s u = let a = zero_if (same_side s from) in let b = zero_if (same_side s to) in let k = e s u in omega arith
+still from to q h q' h' e s u = let a = zero_if (same_side s from) in let b = zero_if (same_side s to) in let k = e s u
+    in omega arith
 
 -- the lists are the same
 alike : (q q' : QueueState) → q'.awake ≡ q.awake → q'.asleep ≡ q.asleep → q'.gone ≡ q.gone → (s : Side) (u : ℕ)
@@ -63,7 +65,8 @@ dropped_task t id xs one e u =
     omega arith
 
 dropped_awake : (clock : ℕ) (a : Awake) (id : ℕ) (xs : List Awake) → ((u : ℕ) → occurs u (awake_ids xs) ≤ 1)
-    → awake_with id xs ≡ Some a → (u : ℕ) → occurs u (awake_ids (left_by clock a xs)) + occurs u (a.task.id ∷ []) ≡ occurs u (awake_ids xs)
+    → awake_with id xs ≡ Some a → (u : ℕ) → occurs u (awake_ids (left_by clock a xs)) + occurs u
+    (a.task.id ∷ []) ≡ occurs u (awake_ids xs)
 dropped_awake clock a id xs one e u =
     let f = found (λ (x : Awake). x.task.id == id) key xs a e in
     let w = left_ids clock a xs u in
@@ -115,7 +118,8 @@ module _ (q : QueueState) (one : AreDistinct q) where
   wake_moves : (at id : ℕ) → HasMoved (moved_by q (Wake at id)) q [] (wake q at id).1 []
   wake_moves at id = wake_by (λ r q'. HasMoved
       (record { tasks = if_done r id; from = OnAsleep; to = OnAwake }) q [] q' []) q at id
-      (refused OnAsleep OnAwake id q at) (λ t e. renamed OnAsleep OnAwake t.id id [] _ [] (task_named id q.asleep t e) (wakes at id t e))
+      (refused OnAsleep OnAwake id q at) (λ t e. renamed OnAsleep OnAwake t.id id [] _ [] (task_named id q.asleep t e)
+      (wakes at id t e))
 
   sleep_moves : (at id : ℕ) → HasMoved (moved_by q (Sleep at id)) q [] (sleep q at id).1 []
   sleep_moves at id = sleep_by (λ r q'. HasMoved
@@ -178,13 +182,15 @@ module _ (q : QueueState) (one : AreDistinct q) where
         unmoved q refl refl refl;
   }
 
-  mask_moves : (at id : ℕ) (mask : Mask) → HasMoved (record { tasks = []; from = OnHand; to = OnAwake }) q [] (set_mask q at id mask).1 []
+  mask_moves : (at id : ℕ) (mask : Mask) → HasMoved (record { tasks = []; from = OnHand; to = OnAwake }) q []
+      (set_mask q at id mask).1 []
   mask_moves at id mask =
       mask_by (λ r q'. HasMoved (record { tasks = []; from = OnHand; to = OnAwake }) q [] q' []) q at id mask
       (refuses at) (λ good. changed (masked q.cpu mask) id _ (λ a. refl) refl refl refl)
       (λ good. changed_asleep (with_mask mask) id _ (λ t. refl) refl refl refl)
 
-  nice_moves : (at id : ℕ) (nice : ℤ) → HasMoved (record { tasks = []; from = OnHand; to = OnAwake }) q [] (renice q at id nice).1 []
+  nice_moves : (at id : ℕ) (nice : ℤ) → HasMoved (record { tasks = []; from = OnHand; to = OnAwake }) q []
+      (renice q at id nice).1 []
   nice_moves at id nice = nice_by (λ r q'. HasMoved (record { tasks = []; from = OnHand; to = OnAwake }) q [] q' []) q
       at id nice (refuses at) (changed (reniced nice) id _ (λ a. refl) refl refl refl)
       (changed_asleep (with_nice nice) id _ (λ t. refl) refl refl refl)
@@ -194,7 +200,8 @@ module _ (q : QueueState) (one : AreDistinct q) where
   tick_moves at = still OnHand OnAwake q [] (tick q at) [] same
     where
       same : (s : Side) (u : ℕ) → occurs u (standing s (tick q at) []) ≡ occurs u (standing s q [])
-      same OnAwake u = occurs-map key owes owes_keeps u (rotated (clock_at q at) q.awake) ∙ rotated_ids (clock_at q at) u q.awake one.awake
+      same OnAwake u = occurs-map key owes owes_keeps u (rotated (clock_at q at) q.awake) ∙ rotated_ids (clock_at q at)
+          u q.awake one.awake
       same OnAsleep u = refl
       same OnGone u = refl
       same OnHand u = refl
@@ -243,7 +250,8 @@ module _ (q : QueueState) (one : AreDistinct q) where
       → HasMoved (record { tasks = ids tasks; from = OnHand; to = OnAwake }) q tasks (land q at cause moment tasks) []
   land_moves at cause moment tasks =
       land_by (λ ts q'. HasMoved (record { tasks = ids ts; from = OnHand; to = OnAwake }) q ts q' []) q at cause
-      moment tasks (still OnHand OnAwake q [] (at_moment q (max at moment)) [] (alike q (at_moment q (max at moment)) refl refl refl))
+      moment tasks (still OnHand OnAwake q [] (at_moment q (max at moment)) []
+      (alike q (at_moment q (max at moment)) refl refl refl))
       (λ t ts e. lands t ts)
     where
       lands : (t : TaskRecord) (ts : List TaskRecord)
@@ -264,13 +272,15 @@ unfolding take_pull views
 taken_ids q at env =
     let now = clock_at q at in
     let is = picked_ids env (map (view_at now) q.awake) in
-    down_ids now (in_order is q.awake) ∙ in_order_ids is q.awake (λ i some. let z = picked_or_kept env now q.awake i in omega arith)
+    down_ids now (in_order is q.awake) ∙ in_order_ids is q.awake
+    (λ i some. let z = picked_or_kept env now q.awake i in omega arith)
 
 pub left_behind : (q : QueueState) (at : ℕ) (env : Env) → awake_ids (take_pull q at env).1.awake ≡ kept_ids env (views q at)
 unfolding take_pull views
 left_behind q at env =
     let now = clock_at q at in
-    in_order_ids (kept_ids env (map (view_at now) q.awake)) q.awake (λ i some. let z = picked_or_kept env now q.awake i in omega arith)
+    in_order_ids (kept_ids env (map (view_at now) q.awake)) q.awake
+    (λ i some. let z = picked_or_kept env now q.awake i in omega arith)
 
 pull_split : (q : QueueState) (at : ℕ) (env : Env) (u : ℕ)
     → occurs u (ids (take_pull q at env).0) + occurs u (awake_ids (take_pull q at env).1.awake) ≡ occurs u (awake_ids q.awake)
@@ -279,7 +289,8 @@ pull_split q at env u = let a = ap (occurs u) (taken_ids q at env) in let b = ap
     let z = picked_or_kept env (clock_at q at) q.awake u in omega arith
 
 pull_moves : (q : QueueState) (at : ℕ) (env : Env)
-    → HasMoved (record { tasks = ids (take_pull q at env).0; from = OnAwake; to = OnHand }) q [] (take_pull q at env).1 (take_pull q at env).0
+    → HasMoved (record { tasks = ids (take_pull q at env).0; from = OnAwake; to = OnHand }) q [] (take_pull q at env).1
+    (take_pull q at env).0
 unfolding take_pull
 pull_moves q at env OnAwake u = let s = pull_split q at env u in omega arith
 pull_moves q at env OnAsleep u = refl
@@ -301,7 +312,8 @@ turn_moves : (q shut opened : QueueState) (b : Bool)
 turn_moves q shut opened true h k = h
 turn_moves q shut opened false h k = k
 
-pub calls_move : (q : QueueState) → AreDistinct q → (c : Call) → HasMoved (moved_by q c) q (brought c) (after_call q c) (taken_along q c)
+pub calls_move : (q : QueueState) → AreDistinct q → (c : Call) → HasMoved (moved_by q c) q (brought c) (after_call q c)
+    (taken_along q c)
 unfolding turn close_look ask_active kick
 calls_move q one (Declare id nice mask) = declare_moves q (new_task id nice mask)
 calls_move q one (Wake at id) = wake_moves q one at id

@@ -1,5 +1,6 @@
 -- The positions of a turn, by kind, and what holds of a turn that has opened. For callers too: positions
 -- stand below the counters.
+-- For `Queue::turn`, `Queue::close_look`, `Queue::opens` and others; cited by `lb_core` too.
 use Rattle.std.proofs.Common.{◌≡◌, ℕ, suc, zero, ◌+◌, ◌*◌, ◌/◌, ◌<◌, ◌≤◌, nat_lt, ltb, ◌==◌, Bool, true, false, not, cond, ◌&&◌, List, [], ◌∷◌, length, map, drop, get_or, max, is_some, Option, Some, None, MatchOption, refl, sym, ◌∙◌, ap, arith, inl, inr}
 use Rattle.std.specs.Prelude.{if◌then◌else◌}
 use Rattle.std.proofs.lemmas.Bool.{cases_Bool, and_parts, ltb-true, eqb-true}
@@ -37,7 +38,8 @@ goes_up avg spent w level total s ss e g h =
     omega arith
 
 pub level_step : (avg spent w level total i : ℕ) (shapes : List Shape) (d : Shape) → i < length shapes
-    → w ≡ weight_of_mask (get_or shapes i d).span → goes_on avg spent w ≡ true → total ≡ level + idle_levels avg spent (drop i shapes) →
+    → w ≡ weight_of_mask (get_or shapes i d).span → goes_on avg spent w ≡ true → total ≡ level + idle_levels avg spent
+    (drop i shapes) →
     total ≡ level + 1 + idle_levels avg (spent + 1000 * w) (drop (i + 1) shapes)
 level_step avg spent w level total i shapes d lt e g h =
     goes_up avg spent w level total (get_or shapes i d) (drop (i + 1) shapes) e g
@@ -45,7 +47,8 @@ level_step avg spent w level total i shapes d lt e g h =
 
 pub few_levels : (avg spent : ℕ) (shapes : List Shape) → idle_levels avg spent shapes ≤ length shapes
 few_levels avg spent [] = omega arith
-few_levels avg spent (s ∷ ss) = by (goes_on avg spent (weight_of_mask s.span)) (few_levels avg (spent + cost_of (weight_of_mask s.span)) ss)
+few_levels avg spent (s ∷ ss) = by (goes_on avg spent (weight_of_mask s.span))
+    (few_levels avg (spent + cost_of (weight_of_mask s.span)) ss)
   where
     by : {n m : ℕ} (b : Bool) → n ≤ m → cond b (1 + n) 0 ≤ suc m
     by true h = omega arith
@@ -55,7 +58,8 @@ few_levels avg spent (s ∷ ss) = by (goes_on avg spent (weight_of_mask s.span))
 pub positions_tick : (q : QueueState) (at clock version : ℕ) (shapes : List Shape) (m : Mask) (idle : Bool)
     → clock ≡ clock_at q at → idle ≡ nobody q.awake →
     m ≡ due_positions (if version == q.version then counters_or_fresh q.counters shapes
-    else map (fresh_at (clock / 1000000)) shapes) (not idle) q.cpus (clock / 1000000) → m ≡ positions_found q at Tick version shapes
+    else map (fresh_at (clock / 1000000)) shapes) (not idle) q.cpus (clock / 1000000) → m ≡ positions_found q at Tick
+    version shapes
 unfolding positions_found counters_found
 positions_tick q at clock version shapes m idle c i e = rw (← c, ← i) e
 
@@ -73,7 +77,8 @@ positions_none q at version shapes h = rw h refl
 
 pub positions_idle : (q : QueueState) (at version avg : ℕ) (shapes : List Shape) (m : Mask) (idle : Bool)
     → idle ≡ nobody q.awake → avg ≡ q.avg_idle →
-    m ≡ (if idle then mask_where (λ p. nat_lt p (idle_levels avg 0 shapes)) else no_cpus) → m ≡ positions_found q at Idle version shapes
+    m ≡ (if idle then mask_where (λ p. nat_lt p (idle_levels avg 0 shapes)) else no_cpus) → m ≡ positions_found q at
+    Idle version shapes
 unfolding positions_found
 positions_idle q at version avg shapes m idle i a e = rw (← i, ← a) e
 

@@ -1,5 +1,6 @@
 -- Awake tasks in an order that is given by ids, and two parts of a list that stand the other way
 -- round.
+-- For `set_order` and `TaskLists::set_order`.
 use Rattle.std.proofs.Common.{◌≡◌, ℕ, zero, suc, ◌+◌, ◌-◌, ◌<◌, ◌≤◌, ltb, Bool, true, not, cond, ◌==◌, eqb, List, [], ◌∷◌, ◌++◌, length, reverse, filter_map, get_or, take, drop, position, slice_get, Option, Some, None, unwrap_or, refl, sym, ◌∙◌, ap, arith, subst, inl, inr}
 use Rattle.std.specs.Prelude.{All, option_and_then}
 use Rattle.std.specs.List.{position_or_len, cons_option}
@@ -26,7 +27,8 @@ use Rattle.lb_queue.proofs.Turned.{map_reverse}
 pub found_there : (xs : List Awake) (k : ℕ) (d : Awake) → ((u : ℕ) → occurs u (awake_ids xs) ≤ 1) → k < length xs
     → awake_with (key (get_or xs k d)) xs ≡ Some (get_or xs k d)
 found_there [] k d one lt = absurd (omega arith)
-found_there (x ∷ xs) zero d one lt = cond-true (eqb (key x) (key x)) (Some x) (awake_with (key x) xs) (eq-eqb (key x) (key x) refl)
+found_there (x ∷ xs) zero d one lt = cond-true (eqb (key x) (key x)) (Some x) (awake_with (key x) xs)
+    (eq-eqb (key x) (key x) refl)
 found_there (x ∷ xs) (suc k) d one lt = elim (cases_Bool (eqb (key x) (key (get_or xs k d)))) [
   | inl e ↦ absurd (let z : cond {A = ℕ} (eqb (key x) (key (get_or xs k d))) 1 0 ≡ 1 = cond-true {A = ℕ}
       (eqb (key x) (key (get_or xs k d))) 1 0 e in let t = there_at key xs k d (omega arith) in let o =
@@ -124,7 +126,8 @@ last_get {X = X} xs x = let l = length-append xs (x ∷ []) in let e : length (x
 
 last_turned : {X : Type 0} (xs : List X) → slice_get (reverse xs) (length (reverse xs) - 1) ≡ slice_get xs 0
 last_turned [] = refl
-last_turned {X = X} (x ∷ xs) = ap (λ (ys : List X). slice_get ys (length ys - 1)) (reverse-append (x ∷ []) xs) ∙ last_get (reverse xs) x
+last_turned {X = X} (x ∷ xs) = ap (λ (ys : List X). slice_get ys (length ys - 1)) (reverse-append (x ∷ []) xs) ∙
+    last_get (reverse xs) x
 
 place_among : (items : List Awake) (id : ℕ) → position (λ a. a.task.id == id) items ≡ position (λ u. u == id) (awake_ids items)
 place_among items id = rw (by items, length-map items key) refl
@@ -183,13 +186,16 @@ order_set items new order k one t e r =
     let A = reverse t.back in
     let B = reverse t.front in
     let ids : awake_ids items ≡ A ++ B =
-    sym (reverse-reverse (awake_ids items)) ∙ ap reverse (sym (map_reverse key items) ∙ t.ids_are) ∙ reverse-append t.front t.back in
-    let wanted : reverse (B ++ A) ≡ order = reverse-append B A ∙ rw (reverse-reverse t.back, reverse-reverse t.front) (sym t.order_is) in
+    sym (reverse-reverse (awake_ids items)) ∙ ap reverse (sym (map_reverse key items) ∙ t.ids_are) ∙ reverse-append
+    t.front t.back in
+    let wanted : reverse (B ++ A) ≡ order = reverse-append B A ∙ rw (reverse-reverse t.back, reverse-reverse t.front)
+    (sym t.order_is) in
     let place : k ≡ first_place (A ++ B) (B ++ A) =
     e ∙ place_found items (slice_get order (length order - 1))
     ∙ ap (λ (ws : List ℕ). unwrap_or (option_and_then (λ id. position (λ u. u == id) (awake_ids items))
     (slice_get ws (length ws - 1))) 0) (sym wanted)
-    ∙ ap (λ (o : Option ℕ). unwrap_or (option_and_then (λ id. position (λ u. u == id) (awake_ids items)) o) 0) (last_turned (B ++ A))
+    ∙ ap (λ (o : Option ℕ). unwrap_or (option_and_then (λ id. position (λ u. u == id) (awake_ids items)) o) 0)
+    (last_turned (B ++ A))
     ∙ ap (λ (is : List ℕ). first_place is (B ++ A)) ids in
     let made : awake_ids new ≡ B ++ A =
     ap awake_ids r ∙ ids_of_parts items k ∙ ap (λ (is : List ℕ). drop k is ++ take k is) ids
@@ -197,7 +203,8 @@ order_set items new order k one t e r =
     let all : awake_ids (reverse new) ≡ order = map_reverse key new ∙ ap reverse made ∙ wanted in
     let xs = reverse items in
     let P = λ (y : Awake). awake_with (key y) xs ≡ Some y in
-    let self : AreOf xs xs = λ j d lt. found_there xs j d (λ u. let o = one u in let s = occurs-reverse key u items in omega arith) lt in
+    let self : AreOf xs xs = λ j d lt. found_there xs j d
+    (λ u. let o = one u in let s = occurs-reverse key u items in omega arith) lt in
     let old : AreOf xs items = subst (λ (ys : List Awake). AreOf xs ys) (reverse-reverse items) (all_turned P xs self) in
     let both : AreOf xs (drop k items ++ take k items) =
     All-append P (drop k items) (take k items) (All-drop P k items old) (All-take P k items old) in

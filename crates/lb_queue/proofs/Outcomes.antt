@@ -1,4 +1,6 @@
 -- What each call can come to: to show something of the state that it leaves, show it of these few.
+-- For the lemmas of `Allowed`, `CallsKeep` and other files, and so for the laws `next_stops`, `pulls_follow_picks`
+-- and others.
 use Rattle.std.proofs.Common.{◌≡◌, ℕ, ℤ, Bool, true, false, max, List, [], ◌∷◌, Option, Some, None, refl}
 use Rattle.lb_base.specs.declared.mask.Mask.{Mask}
 use Rattle.lb_active.specs.Choice.{pick_of}
@@ -34,11 +36,13 @@ wake_by P q at id r done = by (task_with id q.asleep) refl (awake_with id q.awak
     by None e None None = r.not_here
 
 pub sleep_by : (P : Reply → QueueState → Type 0) (q : QueueState) (at id : ℕ) → Refuses P q at →
-    ((a : Awake) → awake_with id q.awake ≡ Some a → P Done (fallen_asleep a (at_moment q at))) → P (sleep q at id).0 (sleep q at id).1
+    ((a : Awake) → awake_with id q.awake ≡ Some a → P Done (fallen_asleep a (at_moment q at)))
+    → P (sleep q at id).0 (sleep q at id).1
 unfolding sleep
 sleep_by P q at id r done = by (awake_with id q.awake) refl (task_with id q.asleep) (task_with id q.gone)
   where
-    by : (a : Option Awake) → awake_with id q.awake ≡ a → (t g : Option TaskRecord) → P (sleeps q at a t g).0 (sleeps q at a t g).1
+    by : (a : Option Awake) → awake_with id q.awake ≡ a → (t g : Option TaskRecord) → P (sleeps q at a t g).0
+        (sleeps q at a t g).1
     by (Some a) e t g = done a e
     by None e (Some t) g = r.already
     by None e None (Some g) = r.gone
@@ -60,7 +64,8 @@ exit_by P q at id r awake asleep = by (awake_with id q.awake) refl (task_with id
 
 pub mask_by : (P : Reply → QueueState → Type 0) (q : QueueState) (at id : ℕ) (mask : Mask) → Refuses P q at
     → (is_bad_mask q mask ≡ false → P Done (masks_awake id mask (at_moment q at))) →
-    (is_bad_mask q mask ≡ false → P Done (masks_asleep id mask (at_moment q at))) → P (set_mask q at id mask).0 (set_mask q at id mask).1
+    (is_bad_mask q mask ≡ false → P Done (masks_asleep id mask (at_moment q at))) → P (set_mask q at id mask).0
+    (set_mask q at id mask).1
 unfolding set_mask
 mask_by P q at id mask r awake asleep = by (awake_with id q.awake) (task_with id q.asleep) (task_with id q.gone)
   where
@@ -110,7 +115,8 @@ stop_by P q at id none one = by (awake_with id q.awake) refl
     by (Some a) e = one a e
 
 -- the active request is gone in both cases
-pub push_by : (P : List TaskRecord → QueueState → Type 0) (q : QueueState) (at to : ℕ) → P [] (at_moment (record q { active = None }) at) →
+pub push_by : (P : List TaskRecord → QueueState → Type 0) (q : QueueState) (at to : ℕ)
+    → P [] (at_moment (record q { active = None }) at) →
     ((id : ℕ) (a : Awake) → pick_of (views q at) to ≡ Some id → awake_with id q.awake ≡ Some a
     → P (leaves_awake (record q { active = None }) at (Some a)).0 (leaves_awake (record q { active = None }) at (Some a)).1) →
     P (take_push q at to).0 (take_push q at to).1

@@ -1,4 +1,5 @@
 -- The ids that a pull picks and those that it leaves, among the ids of the awake tasks.
+-- For `Queue::take`.
 use Rattle.std.proofs.Common.{◌≡◌, ℕ, zero, suc, ◌+◌, ◌-◌, ◌<◌, ◌≤◌, Bool, true, false, not, cond, ◌==◌, eqb, List, [], ◌∷◌, ◌++◌, length, map, reverse, filter, filter_map, get_or, take, drop, Option, Some, None, refl, sym, ◌∙◌, ap, arith, subst, inl, inr, drop-cons, add-one}
 use Rattle.std.specs.Prelude.{All, IsSomeAnd}
 use Rattle.std.specs.List.{range_with_len, cons_option}
@@ -116,7 +117,8 @@ from_back list (suc n) le =
     let back : drop k list ≡ get_or list k no_task ∷ drop (length list - n) list =
     drop-cons list k no_task (omega arith) ∙ ap (λ (x : ℕ). get_or list k no_task ∷ drop x list) next in
     let turned : reverse (map id_of (drop k list)) ≡ reverse (map id_of (drop (length list - n) list)) ++ last ∷ [] =
-    ap (λ (x : List TaskView). reverse (map id_of x)) back ∙ reverse-append (last ∷ []) (map id_of (drop (length list - n) list)) in
+    ap (λ (x : List TaskView). reverse (map id_of x)) back ∙ reverse-append (last ∷ [])
+    (map id_of (drop (length list - n) list)) in
     front ∙ ap (λ (x : List ℕ). x ++ last ∷ []) (from_back list n (omega arith)) ∙ sym turned
 
 examined_within : (env : Env) (list : List TaskView) → examined env list ≤ length list
@@ -135,7 +137,8 @@ ids_are : (list : List TaskView) (e : ℕ) → e ≤ length list
 ids_are list e le =
     let n = length list - e in
     let back : map (at_place list) (reverse (range_with_len 0 e)) ≡ map id_of (drop n list) =
-    map_reverse (at_place list) (range_with_len 0 e) ∙ ap reverse (from_back list e le) ∙ reverse-reverse (map id_of (drop n list)) in
+    map_reverse (at_place list) (range_with_len 0 e) ∙ ap reverse (from_back list e le) ∙ reverse-reverse
+    (map id_of (drop n list)) in
     ap (map id_of) (sym (take-append-drop n list)) ∙ map-append id_of (take n list) (drop n list)
     ∙ ap (λ (is : List ℕ). untouched list e ++ is) (sym back)
 
@@ -188,7 +191,8 @@ in_order_ids (i ∷ is) xs h = order_step i is xs (awake_with i xs) refl (h i (l
     (in_order_ids is xs (λ j p. h j (omega arith)))
 
 -- ---- what leaves
-once_of : (now : ℕ) (xs : List Awake) → ((u : ℕ) → occurs u (awake_ids xs) ≤ 1) → (u : ℕ) → occurs u (map id_of (map (view_at now) xs)) ≤ 1
+once_of : (now : ℕ) (xs : List Awake) → ((u : ℕ) → occurs u (awake_ids xs) ≤ 1) → (u : ℕ)
+    → occurs u (map id_of (map (view_at now) xs)) ≤ 1
 once_of now xs one u = subst (λ (is : List ℕ). occurs u is ≤ 1) (sym (views_ids now xs)) (one u)
 
 pub picked_once : (env : Env) (now : ℕ) (xs : List Awake) → ((u : ℕ) → occurs u (awake_ids xs) ≤ 1) → (u : ℕ)
@@ -279,7 +283,8 @@ untouched_stay env list one k d lt =
 
 -- and of those that are examined the refused ones are none of them
 refused_stay : (env : Env) (list : List TaskView) → ((u : ℕ) → occurs u (map id_of list) ≤ 1) →
-    All (λ i. (occurs (at_place list i) (picked_ids env list) == 0) ≡ refused_at env list i) (range_with_len 0 (examined env list))
+    All (λ i. (occurs (at_place list i) (picked_ids env list) == 0) ≡ refused_at env list i)
+    (range_with_len 0 (examined env list))
 unfolding picked_ids ids_at taken
 refused_stay env list one =
     let e = examined env list in
@@ -300,7 +305,8 @@ left_ids env list one =
     let back : filter q (map (at_place list) (reverse R)) ≡ map (at_place list) (reverse (filter (refused_at env list) R)) =
     filter_numbers (at_place list) (refused_at env list) q (reverse R) (all_turned P R (refused_stay env list one))
     ∙ ap (map (at_place list)) (filter_reverse (refused_at env list) R) in
-    ap (filter q) (ids_are list e (examined_within env list)) ∙ filter-append q (untouched list e) (map (at_place list) (reverse R))
+    ap (filter q) (ids_are list e (examined_within env list)) ∙ filter-append q (untouched list e)
+    (map (at_place list) (reverse R))
     ∙ ap (λ (is : List ℕ). is ++ filter q (map (at_place list) (reverse R)))
     (filter_same q (untouched list e) (untouched_stay env list one))
     ∙ ap (λ (is : List ℕ). untouched list e ++ is) back

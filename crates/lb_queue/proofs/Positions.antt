@@ -1,4 +1,5 @@
 -- Masks of positions that pass a test, one position after the other.
+-- For `due_fresh`, `due_counted` and `idle_positions`.
 use Rattle.std.proofs.Common.{◌≡◌, ℕ, suc, zero, ◌+◌, ◌<◌, ◌≤◌, nat_lt, ◌==◌, Bool, true, false, ◌&&◌, ◌||◌, List, [], ◌∷◌, length, map, get_or, refl, sym, ◌∙◌, ap, arith, inl, inr}
 use Rattle.std.proofs.lemmas.Bool.{cases_order, lt-ltb, le-ltb, eq-eqb, ne_eqb}
 use Rattle.lb_base.specs.declared.mask.Mask.{Mask}
@@ -60,7 +61,8 @@ levels_are n m h e = same_mask m (mask_where (λ p. nat_lt p n))
     (λ k. e k ∙ sym (mask_where_has (λ p. nat_lt p n) k
     ∙ ap (λ (b : Bool). nat_lt k 64 && b) (sym (always (nat_lt k n))) ∙ within k n true h ∙ always (nat_lt k n)))
 
-pub get_map : {X Y : Type 0} (f : X → Y) (xs : List X) (i : ℕ) (d : X) (e : Y) → i < length xs → get_or (map f xs) i e ≡ f (get_or xs i d)
+pub get_map : {X Y : Type 0} (f : X → Y) (xs : List X) (i : ℕ) (d : X) (e : Y) → i < length xs
+    → get_or (map f xs) i e ≡ f (get_or xs i d)
 get_map f [] i d e h = absurd (omega arith)
 get_map f (x ∷ xs) zero d e h = refl
 get_map f (x ∷ xs) (suc i) d e h = get_map f xs i d e (omega arith)

@@ -1,4 +1,5 @@
 -- A pull: what it says, what it leaves and what comes into the hand.
+-- For `Queue::take`.
 use Rattle.std.proofs.Common.{◌≡◌, ℕ, ◌≤◌, max, List, ◌++◌, map, Some, refl, sym, ◌∙◌, ap, subst}
 use Rattle.lb_base.specs.declared.view.TaskView.{TaskView}
 use Rattle.lb_detach.specs.declared.Env.{Env}
@@ -52,7 +53,8 @@ put_in_order env clock before picked order after end h e =
     e ∙ ap (λ (l : Lists). let k : Lists = record l { awake = in_order order l.awake } in k) h.left
     ∙ ap (λ (is : List ℕ). let k : Lists = record before { awake = in_order order (without_all is before.awake) } in k) h.picks
     ∙ ap (λ (is : List ℕ). let k : Lists =
-    record before { awake = in_order is (without_all (picked_ids env (map (view_at clock) before.awake)) before.awake) } in k) h.keeps
+    record before { awake = in_order is (without_all (picked_ids env (map (view_at clock) before.awake)) before.awake) }
+    in k) h.keeps
     ∙ ap (λ (xs : List Awake). let k : Lists = record before { awake = xs } in k) (kept_in_order env clock before.awake h.once)
 
 state_after : (q : QueueState) (at clock : ℕ) (awake : List Awake) (end before : Lists) → clock ≡ max q.clock at
@@ -90,7 +92,8 @@ pull_hand q at clock env picked h c p =
     } in k) c
 
 pub pull_answer : (q : QueueState) (at clock : ℕ) (env : Env) (t : Taken) → clock ≡ max q.clock at
-    → t.some_pinned ≡ some_pinned env (map (view_at clock) q.awake) → t.all_pinned ≡ all_pinned env (map (view_at clock) q.awake) →
+    → t.some_pinned ≡ some_pinned env (map (view_at clock) q.awake) → t.all_pinned ≡ all_pinned env
+    (map (view_at clock) q.awake) →
     t.left ≡ left_before env (map (view_at clock) q.awake) (examined env (map (view_at clock) q.awake)) → t ≡ taken_by q at env
 unfolding taken_by views
 pull_answer q at clock env t c s a l =

@@ -1,4 +1,5 @@
--- The task that a push takes.
+-- The task that a push takes: the one nearest the back that may run at the destination.
+-- For `Queue::take_push` and `TaskLists::take_pushed`.
 use Rattle.std.proofs.Common.{◌≡◌, ℕ, ◌≤◌, max, Bool, true, false, cond, ◌==◌, eqb, List, [], ◌∷◌, ◌++◌, map, filter, Option, Some, None, is_some, refl, sym, ◌∙◌, ap, arith, subst, inl, inr, ◌⊎◌}
 use Rattle.std.specs.Prelude.{IfSome, option_map}
 use Rattle.std.specs.List.{last_or}
@@ -36,7 +37,8 @@ later to id x xs one h = elim (cases_Bool (eqb (key x) id)) [
 here : (to : ℕ) (x : Awake) (xs : List Awake) → has x.task.mask to ≡ true → MayGo to (x ∷ xs) (key x)
 here to x xs h = (x, cond-true (eqb (key x) (key x)) (Some x) (awake_with (key x) xs) (eq-eqb (key x) (key x) refl), h)
 
-last_step : {X : Type 0} (o : Option X) (x : X) (f : List X) (b : Bool) → last_or o (cond b (x ∷ f) f) ≡ last_or (cond b (Some x) o) f
+last_step : {X : Type 0} (o : Option X) (x : X) (f : List X) (b : Bool) → last_or o (cond b (x ∷ f) f) ≡ last_or
+    (cond b (Some x) o) f
 last_step o x f true = refl
 last_step o x f false = refl
 
@@ -51,7 +53,8 @@ picked_may to now (x ∷ xs) o t one e =
   where
     by : (b : Bool) → has x.task.mask to ≡ b → (cond b (Some (view_at now x)) o ≡ Some t) ⊎ MayGo to xs t.id
         → (o ≡ Some t) ⊎ MayGo to (x ∷ xs) t.id
-    by true h (inl k) = let z : view_at now x ≡ t = cc in inr (subst (λ (v : TaskView). MayGo to (x ∷ xs) v.id) z (here to x xs h))
+    by true h (inl k) = let z : view_at now x ≡ t = cc in inr
+        (subst (λ (v : TaskView). MayGo to (x ∷ xs) v.id) z (here to x xs h))
     by true h (inr k) = inr (later to t.id x xs (one t.id) k)
     by false h (inl k) = inl k
     by false h (inr k) = inr (later to t.id x xs (one t.id) k)
@@ -68,7 +71,8 @@ push_may to now xs id (Some t) one e h = let z : t.id ≡ id = cc in subst (MayG
 down_may : (to clock : ℕ) (o : Option Awake) (a : Awake) (t : TaskRecord) → o ≡ Some a → has a.task.mask to ≡ true
     → Some t ≡ down_of clock o → has t.mask to ≡ true
 down_may to clock None a t e h f = absurd (let z : ⊥ = cc in z)
-down_may to clock (Some x) a t e h f = let z : x ≡ a = cc in let y : t ≡ set_down clock a = cc in rw (y, down_mask clock a a.running refl) h
+down_may to clock (Some x) a t e h f = let z : x ≡ a = cc in let y : t ≡ set_down clock a = cc in rw
+    (y, down_mask clock a a.running refl) h
 
 pub pushed_there : (to now clock : ℕ) (xs : List Awake) (id : ℕ) (o : Option TaskRecord)
     → ((u : ℕ) → occurs u (awake_ids xs) ≤ 1) → Some id ≡ pick_of (map (view_at now) xs) to

@@ -1,4 +1,5 @@
 -- What holds of a queue, whatever calls were made on it.
+-- For the laws `clock_rises` and `sound`.
 use Rattle.std.proofs.Common.{◌≡◌, ℕ, ◌+◌, ◌≤◌, max, Bool, true, false, cond, ◌||◌, ◌==◌, List, [], ◌∷◌, map, find, Option, Some, None, is_some, refl, arith, subst}
 use Rattle.std.specs.Prelude.{IfSome}
 use Rattle.std.proofs.lemmas.Bool.{eqb-true}
@@ -91,7 +92,8 @@ lets q c m = tt
 module _ (grows : Grows) (picks : PicksSoundly) where
   call_keeps : (q : QueueState) (c : Call) → May q c → Keeps q → Keeps (after_call q c)
   call_keeps q c m h =
-      let k = (call_lasts AnyTask IsTask (tasks_last grows) q (record { awake = h.up; asleep = h.down; gone = h.past }) c (lets q c m)).0 in
+      let k = (call_lasts AnyTask IsTask (tasks_last grows) q (record { awake = h.up; asleep = h.down; gone = h.past })
+      c (lets q c m)).0 in
       record { sound = call_sound picks q c m h; up = k.awake; down = k.asleep; past = k.gone }
 
   calls_keep : (q : QueueState) (cs : List Call) → MayAll q cs → Keeps q → Keeps (after_calls q cs)
@@ -107,7 +109,8 @@ stands_once f id xs (Some a) e h =
     let k = found (λ x. f x == id) f xs a e in
     subst (λ (u : ℕ). 1 ≤ occurs u (map f xs)) (eqb-true (f a) id k.passes) k.there
 
-somewhere : (a b c : Bool) (x y z : ℕ) → (a || b || c) ≡ true → (a ≡ true → 1 ≤ x) → (b ≡ true → 1 ≤ y) → (c ≡ true → 1 ≤ z) → 1 ≤ x + y + z
+somewhere : (a b c : Bool) (x y z : ℕ) → (a || b || c) ≡ true → (a ≡ true → 1 ≤ x) → (b ≡ true → 1 ≤ y)
+    → (c ≡ true → 1 ≤ z) → 1 ≤ x + y + z
 somewhere true b c x y z h f g k = let n = f refl in omega arith
 somewhere false true c x y z h f g k = let n = g refl in omega arith
 somewhere false false c x y z h f g k = let n = k h in omega arith

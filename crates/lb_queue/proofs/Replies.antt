@@ -1,4 +1,5 @@
 -- What a command answers, by the tests that a queue makes.
+-- For `Queue::renice`, `Queue::set_mask`, `Queue::declare` and others.
 use Rattle.std.proofs.Common.{◌≡◌, ℕ, ℤ, ◌-◌, ◌==◌, ◌||◌, map, find, List, [], ◌∷◌, ◌++◌, Bool, true, false, Option, Some, None, is_some, is_none, max, cond, refl, sym, ◌∙◌, ap, arith}
 use Rattle.lb_base.specs.declared.mask.Mask.{Mask}
 use Rattle.lb_queue.specs.declared.record.TaskRecord.{TaskRecord}
@@ -29,7 +30,8 @@ wakes_awake : (q : QueueState) (at : ℕ) (a : Option Awake) (g : Option TaskRec
 wakes_awake q at None g h = absurd (let z : ⊥ = cc in z)
 wakes_awake q at (Some a) g h = refl
 
-wakes_not : (q : QueueState) (at : ℕ) (a : Option Awake) (g : Option TaskRecord) → is_some a ≡ false → not_here q at g ≡ wakes q at None a g
+wakes_not : (q : QueueState) (at : ℕ) (a : Option Awake) (g : Option TaskRecord) → is_some a ≡ false
+    → not_here q at g ≡ wakes q at None a g
 wakes_not q at None g h = refl
 wakes_not q at (Some a) g h = absurd (let z : ⊥ = cc in z)
 
@@ -47,7 +49,8 @@ pub away_none : (q : QueueState) (id : ℕ) → None ≡ task_with id q.asleep �
 unfolding away
 away_none q id h = rw (← h) refl
 
-pub away_here : (q : QueueState) (id : ℕ) (t : TaskRecord) → Some t ≡ task_with id q.asleep → has t.mask q.cpu ≡ true → None ≡ away q id
+pub away_here : (q : QueueState) (id : ℕ) (t : TaskRecord) → Some t ≡ task_with id q.asleep → has t.mask q.cpu ≡ true
+    → None ≡ away q id
 unfolding away
 away_here q id t h e = rw (← h, e) refl
 
@@ -79,7 +82,8 @@ pub wake_done : (q : QueueState) (at id clock avg : ℕ) (t t' : TaskRecord) (l1
     clock ≡ max q.clock at → Some t ≡ task_with id l0.asleep → l1 ≡ record l0 { asleep = without_task id l0.asleep }
     → t' ≡ advanced_task Asleep clock t → l2 ≡ record l1 { awake = joined clock t' l1.awake } →
     avg ≡ cond (nobody l1.awake) (average_with q.idle_since clock q.avg_idle) q.avg_idle →
-    (Done, record (of_lists q l2) { clock = clock; avg_idle = avg; idle_since = None; tickless = false }) ≡ wake (of_lists q l0) at id
+    (Done, record (of_lists q l2) { clock = clock; avg_idle = avg; idle_since = None; tickless = false }) ≡ wake
+    (of_lists q l0) at id
 unfolding wake
 wake_done q at id clock avg t t' l1 l2 l0 c f e1 a e2 v =
     let n = task_named id l0.asleep t (sym f) in
@@ -105,7 +109,8 @@ unfolding sleep
 sleep_done q at id clock t idle l1 l2 l0 c f e1 e2 v =
     sleeps_by q at id clock (awake_with id l0.awake) t idle l1 l2 l0 (task_with id l0.gone) (task_with id l0.asleep) c f e1 e2 v
 
-sleeps_asleep : (q : QueueState) (at : ℕ) (s g : Option TaskRecord) → is_some s ≡ true → (Already, at_moment q at) ≡ sleeps q at None s g
+sleeps_asleep : (q : QueueState) (at : ℕ) (s g : Option TaskRecord) → is_some s ≡ true
+    → (Already, at_moment q at) ≡ sleeps q at None s g
 sleeps_asleep q at None g h = absurd (let z : ⊥ = cc in z)
 sleeps_asleep q at (Some a) g h = refl
 
@@ -281,7 +286,8 @@ pub nice_asleep : (q : QueueState) (at id clock : ℕ) (nice : ℤ) (l1 l0 : Lis
     (Done, record (of_lists q l1) { clock = clock }) ≡ renice (of_lists q l0) at id nice
 unfolding renice
 nice_asleep q at id clock nice l1 l0 a t c e =
-    rw (c, e) (nices_asleep (of_lists q l0) at id nice (awake_with id l0.awake) (task_with id l0.asleep) (task_with id l0.gone) a t)
+    rw (c, e) (nices_asleep (of_lists q l0) at id nice (awake_with id l0.awake) (task_with id l0.asleep)
+    (task_with id l0.gone) a t)
 
 pub nice_unknown : (q : QueueState) (at id : ℕ) (nice : ℤ) → is_some (awake_with id q.awake) ≡ false
     → is_some (task_with id q.asleep) ≡ false → not_here q at (task_with id q.gone) ≡ renice q at id nice

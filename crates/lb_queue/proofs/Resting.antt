@@ -1,4 +1,5 @@
 -- What each call leaves as it is, besides the tasks that it moves.
+-- For the law `calls_keep_rest`.
 use Rattle.std.proofs.Common.{◌≡◌, ℕ, Bool, true, false, List, None, is_some, refl, sym, ◌∙◌}
 use Rattle.lb_base.specs.declared.shape.Kind.{Kind}
 use Rattle.lb_base.specs.declared.shape.Shape.{Shape}
@@ -57,10 +58,12 @@ module _ (q : QueueState) where
   call_alike : (c : Call) → is_of_tasks c ≡ true → IsAlike q (after_call q c)
   unfolding tick take_pull
   call_alike (Declare id nice mask) t = moved q _ refl refl refl refl refl refl refl
-  call_alike (Wake at id) t = wake_by (λ r q'. IsAlike q q') q at id (refuses at) (λ x e. moved q _ refl refl refl refl refl refl refl)
+  call_alike (Wake at id) t = wake_by (λ r q'. IsAlike q q') q at id (refuses at)
+      (λ x e. moved q _ refl refl refl refl refl refl refl)
   call_alike (Leave at id to) t = leave_by (λ ts q'. IsAlike q q') q at id
       (moved q _ refl refl refl refl refl refl refl) (λ x e. moved q _ refl refl refl refl refl refl refl)
-  call_alike (Sleep at id) t = sleep_by (λ r q'. IsAlike q q') q at id (refuses at) (λ a e. moved q _ refl refl refl refl refl refl refl)
+  call_alike (Sleep at id) t = sleep_by (λ r q'. IsAlike q q') q at id (refuses at)
+      (λ a e. moved q _ refl refl refl refl refl refl refl)
   call_alike (Exit at id) t = exit_by (λ r q'. IsAlike q q') q at id (refuses at)
       (λ a e. moved q _ refl refl refl refl refl refl refl) (λ x n e. moved q _ refl refl refl refl refl refl refl)
   call_alike (SetMask at id mask) t = mask_by (λ r q'. IsAlike q q') q at id mask (refuses at)

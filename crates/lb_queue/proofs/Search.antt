@@ -1,4 +1,5 @@
 -- One element out of a list in which its number stands once. For callers too.
+-- For `has_task`, `found_task`, `take_task` and others; cited by `lb_engine` and `lb_ready` too.
 use Rattle.std.proofs.Common.{◌≡◌, ℕ, zero, suc, ◌+◌, ◌<◌, ◌≤◌, Bool, true, false, not, cond, ◌==◌, eqb, ltb, List, [], ◌∷◌, length, map, filter, find, position, remove, get_or, slice_get, is_some, Option, Some, None, refl, sym, ◌∙◌, ap, arith, subst, inl, inr, MatchOption}
 use Rattle.std.specs.List.{position_or_len}
 use Rattle.std.proofs.Math.ListN.{set}
@@ -13,7 +14,8 @@ others f id xs = filter (λ x. not (f x == id)) xs
 
 gone_step : {X : Type 0} (f : X → ℕ) (t : X) (id : ℕ) (ys : List X) (b : Bool) → eqb (f t) id ≡ b
     → cond (eqb (f t) id) 1 0 + occurs id (map f ys) ≤ 0 → cond (not b) (t ∷ ys) ys ≡ t ∷ ys
-gone_step f t id ys true e h = absurd (let k : cond {A = ℕ} (eqb (f t) id) 1 0 ≡ 1 = cond-true {A = ℕ} (eqb (f t) id) 1 0 e in omega arith)
+gone_step f t id ys true e h = absurd (let k : cond {A = ℕ} (eqb (f t) id) 1 0 ≡ 1 = cond-true {A = ℕ} (eqb (f t) id) 1
+    0 e in omega arith)
 gone_step f t id ys false e h = refl
 
 pub others-none : {X : Type 0} (f : X → ℕ) (id : ℕ) (xs : List X) → occurs id (map f xs) ≤ 0 → others f id xs ≡ xs
@@ -21,8 +23,10 @@ others-none f id [] h = refl
 others-none f id (t ∷ ts) h = rw (others-none f id ts (omega arith)) (gone_step f t id ts (f t == id) refl h)
 
 at_step : {X : Type 0} (f : X → ℕ) (t : X) (id : ℕ) (ts : List X) (n : ℕ) (b : Bool) → eqb (f t) id ≡ b
-    → cond (eqb (f t) id) 1 0 + occurs id (map f ts) ≤ 1 → (occurs id (map f ts) ≤ 1 → n < length ts → remove ts n ≡ others f id ts) →
-    cond (not b) (1 + n) 0 < suc (length ts) → remove (t ∷ ts) (cond (not b) (1 + n) 0) ≡ cond (not b) (t ∷ others f id ts) (others f id ts)
+    → cond (eqb (f t) id) 1 0 + occurs id (map f ts) ≤ 1
+    → (occurs id (map f ts) ≤ 1 → n < length ts → remove ts n ≡ others f id ts) →
+    cond (not b) (1 + n) 0 < suc (length ts) → remove (t ∷ ts) (cond (not b) (1 + n) 0) ≡ cond (not b)
+    (t ∷ others f id ts) (others f id ts)
 at_step f t id ts n true e h ih lt = let k : cond {A = ℕ} (eqb (f t) id) 1 0 ≡ 1 =
     cond-true {A = ℕ} (eqb (f t) id) 1 0 e in sym (others-none f id ts (omega arith))
 at_step f t id ts n false e h ih lt = let k : 1 + n ≡ suc n = omega arith in
@@ -145,7 +149,8 @@ removed_at f (x ∷ xs) (suc i) d h one = elim (cases_Bool (eqb (f x) (f (get_or
 ]
 
 -- ---- what two searches find
-pub passes_found : {X : Type 0} (p q : X → Bool) (xs : List X) (a : X) → find p xs ≡ Some a → q a ≡ true → (b : X) × (find q xs ≡ Some b)
+pub passes_found : {X : Type 0} (p q : X → Bool) (xs : List X) (a : X) → find p xs ≡ Some a → q a ≡ true
+    → (b : X) × (find q xs ≡ Some b)
 passes_found p q [] a e h = absurd (let z : ⊥ = cc in z)
 passes_found p q (x ∷ xs) a e h = elim (cases_Bool (q x)) [
   | inl now ↦ (x, cond-true (q x) (Some x) (find q xs) now)

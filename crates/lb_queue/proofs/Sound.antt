@@ -1,4 +1,5 @@
 -- What a queue's tasks keep, as one is taken out, comes in or is changed.
+-- For `TaskLists::renice_awake`, `TaskLists::mask_asleep`, `TaskLists::mask_awake` and others.
 use Rattle.std.proofs.Common.{◌≡◌, ℕ, ℤ, ◌+◌, ◌<◌, ◌≤◌, Bool, true, false, not, cond, ◌==◌, eqb, ◌||◌, List, [], ◌∷◌, ◌++◌, map, reverse, find, Some, None, refl, sym, ◌∙◌, ap, arith, subst, inl, inr}
 use Rattle.std.specs.List.{list_all, list_any}
 use Rattle.std.proofs.lemmas.Bool.{cases_Bool, cond-true, cond-false, eqb-true, eq-eqb, and_parts, and_from}
@@ -223,7 +224,8 @@ low_asleep i u r s t l low high none e = elim (cases_Bool (eqb i u)) [
   | inr other ↦ (let z : cond {A = ℕ} (eqb i u) 1 0 ≡ 0 = cond-false {A = ℕ} (eqb i u) 1 0 other in omega arith)
 ]
 
-pushed_ids : (u : ℕ) (xs : List TaskRecord) (t : TaskRecord) → occurs u (ids (xs ++ t ∷ [])) ≡ occurs u (ids xs) + cond (t.id == u) 1 0
+pushed_ids : (u : ℕ) (xs : List TaskRecord) (t : TaskRecord) → occurs u (ids (xs ++ t ∷ [])) ≡ occurs u (ids xs) + cond
+    (t.id == u) 1 0
 pushed_ids u xs t = let k = occurs-map_append name u xs (t ∷ []) in omega arith
 
 pub sound_asleep : (cpu : ℕ) (awake : List Awake) (asleep gone : List TaskRecord) (t : TaskRecord) → t.id < id_limit

@@ -1,4 +1,5 @@
 -- What every call keeps: the tasks of a queue are sound, and each keeps its bounds.
+-- For the lemmas of `CallsKeep` and `Reached`, and so for the laws `clock_rises`, `sound` and others.
 use Rattle.std.proofs.Common.{ℕ}
 use Rattle.std.specs.Prelude.{All}
 use Rattle.lb_pelt.specs.declared.signal.Run.{Run}

@@ -1,4 +1,5 @@
 -- Tasks that wait leave one after the other, by their ids.
+-- For `load_all` and `load_one`.
 use Rattle.std.proofs.Common.{◌≡◌, ℕ, zero, suc, ◌+◌, ◌<◌, ◌≤◌, Bool, true, false, not, cond, ◌&&◌, ◌==◌, eqb, List, [], ◌∷◌, ◌++◌, length, map, filter, filter_map, get_or, take, Option, Some, None, refl, sym, ◌∙◌, ap, arith, subst, append_assoc, append-nil, take_all}
 use Rattle.std.specs.Prelude.{IsSomeAnd, option_to_list}
 use Rattle.std.specs.List.{cons_option}
@@ -30,7 +31,8 @@ pub waits_out : (to clock id : ℕ) (xs : List Awake) → IsSomeAnd (awake_with 
     → left_of clock (awake_with id xs) xs ≡ without_awake id xs
 waits_out to clock id xs h = waits_by to clock id (awake_with id xs) xs refl h
 
-goes_by : (to clock : ℕ) (o : Option Awake) (t : TaskRecord) → IsSomeAnd o (CanGo to) → Some t ≡ down_of clock o → has t.mask to ≡ true
+goes_by : (to clock : ℕ) (o : Option Awake) (t : TaskRecord) → IsSomeAnd o (CanGo to) → Some t ≡ down_of clock o
+    → has t.mask to ≡ true
 goes_by to clock None t h e = absurd h
 goes_by to clock (Some a) t h e = let z : t ≡ set_down clock a = cc in rw (z, down_mask clock a a.running refl) h.may_run
 
@@ -47,7 +49,8 @@ pub filter_all : {X : Type 0} (xs : List X) → filter (λ (x : X). true) xs ≡
 filter_all [] = refl
 filter_all (x ∷ xs) = ap (λ ys. x ∷ ys) (filter_all xs)
 
-filter_twice : {X : Type 0} (p q r : X → Bool) → ((x : X) → (p x && q x) ≡ r x) → (xs : List X) → filter q (filter p xs) ≡ filter r xs
+filter_twice : {X : Type 0} (p q r : X → Bool) → ((x : X) → (p x && q x) ≡ r x) → (xs : List X)
+    → filter q (filter p xs) ≡ filter r xs
 filter_twice p q r h [] = refl
 filter_twice {X = X} p q r h (x ∷ xs) = step (p x) (q x) (r x) (h x) refl (filter_twice p q r h xs)
   where
@@ -60,13 +63,16 @@ filter_twice {X = X} p q r h (x ∷ xs) = step (p x) (q x) (r x) (h x) refl (fil
 one_more : (o x id : ℕ) → (eqb o 0 && not (eqb x id)) ≡ eqb (o + (cond (eqb id x) 1 0 + 0)) 0
 one_more o x id = grind (arith, nat_tests)
 
-pub without_more : (ids : List ℕ) (id : ℕ) (xs : List Awake) → without_awake id (without_all ids xs) ≡ without_all (ids ++ id ∷ []) xs
+pub without_more : (ids : List ℕ) (id : ℕ) (xs : List Awake) → without_awake id (without_all ids xs) ≡ without_all
+    (ids ++ id ∷ []) xs
 without_more ids id xs =
     filter_twice (λ (a : Awake). occurs a.task.id ids == 0) (λ (a : Awake). not (a.task.id == id))
     (λ (a : Awake). occurs a.task.id (ids ++ id ∷ []) == 0)
-    (λ (a : Awake). one_more (occurs a.task.id ids) a.task.id id ∙ ap (λ (n : ℕ). eqb n 0) (sym (occurs-append a.task.id ids (id ∷ [])))) xs
+    (λ (a : Awake). one_more (occurs a.task.id ids) a.task.id id ∙ ap (λ (n : ℕ). eqb n 0)
+    (sym (occurs-append a.task.id ids (id ∷ [])))) xs
 
-pub found_without : (ids : List ℕ) (id : ℕ) (xs : List Awake) → occurs id ids ≡ 0 → awake_with id (without_all ids xs) ≡ awake_with id xs
+pub found_without : (ids : List ℕ) (id : ℕ) (xs : List Awake) → occurs id ids ≡ 0
+    → awake_with id (without_all ids xs) ≡ awake_with id xs
 found_without ids id [] none = refl
 found_without ids id (x ∷ xs) none = step (eqb (key x) id) (eqb (occurs (key x) ids) 0) refl refl (found_without ids id xs none)
   where
@@ -98,7 +104,8 @@ order_more clock ids id xs =
     ap (map (set_down clock)) (filter_map-append (λ i. awake_with i xs) ids (id ∷ [])
     ∙ ap (λ (ys : List Awake). filter_map (λ i. awake_with i xs) ids ++ ys) (one_in_order id xs (awake_with id xs) refl))
     ∙ map-append (set_down clock) (filter_map (λ i. awake_with i xs) ids) (option_to_list (awake_with id xs))
-    ∙ ap (λ (ts : List TaskRecord). map (set_down clock) (filter_map (λ i. awake_with i xs) ids) ++ ts) (to_list clock (awake_with id xs))
+    ∙ ap (λ (ts : List TaskRecord). map (set_down clock) (filter_map (λ i. awake_with i xs) ids) ++ ts)
+    (to_list clock (awake_with id xs))
 
 pub order_few : (ids : List ℕ) (xs : List Awake) → length (in_order ids xs) ≤ length ids
 unfolding in_order
@@ -119,7 +126,8 @@ hand_after cpu clock ids awake h = record h {
   tasks = h.tasks ++ map (set_down clock) (in_order ids awake);
 }
 
-pub record IsTaking (cpu clock : ℕ) (ids : List ℕ) (before : Lists) (held : HandState) (now : Lists) (hand : HandState) : Type 0 where
+pub record IsTaking (cpu clock : ℕ) (ids : List ℕ) (before : Lists) (held : HandState) (now : Lists)
+    (hand : HandState) : Type 0 where
   pub awake : now.awake ≡ without_all ids before.awake
   pub lists : now ≡ record before { awake = now.awake }
   pub hand_is : hand ≡ hand_after cpu clock ids before.awake held
@@ -190,7 +198,8 @@ taking_more cpu clock ids id before held now new hand next h one l e =
     }
 
 pub taking_all : (cpu clock : ℕ) (ids : List ℕ) (i : ℕ) (before : Lists) (held : HandState) (now : Lists)
-    (hand : HandState) → length ids ≤ i → IsTaking cpu clock (take i ids) before held now hand → IsTaking cpu clock ids before held now hand
+    (hand : HandState) → length ids ≤ i → IsTaking cpu clock (take i ids) before held now hand
+    → IsTaking cpu clock ids before held now hand
 taking_all cpu clock ids i before held now hand far h =
     subst (λ (is : List ℕ). IsTaking cpu clock is before held now hand) (take_all i ids far) h
 

@@ -1,4 +1,5 @@
 -- A tick: another task takes the place of the running one, and pending requests become owed.
+-- For `TaskLists::tick` and `rotate`.
 use Rattle.std.proofs.Common.{◌≡◌, ℕ, ◌<◌, ◌≤◌, ltb, Bool, true, false, not, cond, ◌==◌, List, [], ◌∷◌, ◌++◌, length, map, reverse, find, position, remove, get_or, Option, Some, None, refl, sym, ◌∙◌, ap, arith, subst}
 use Rattle.std.specs.List.{list_all}
 use Rattle.std.proofs.lemmas.Bool.{le-ltb, lt-ltb, and_from}
@@ -29,7 +30,8 @@ rotate_short clock xs h = let l = length-reverse xs in rw (le-ltb 1 (length (rev
 next_turned : (xs : List Awake) (o : Option Awake) → find waits xs ≡ o → next_up (reverse xs) ≡ o
 next_turned xs o h = ap (find waits) (reverse-reverse xs) ∙ h
 
-pub rotate_none : (clock : ℕ) (xs : List Awake) → 2 ≤ length xs → position waits xs ≡ None → reverse xs ≡ rotated clock (reverse xs)
+pub rotate_none : (clock : ℕ) (xs : List Awake) → 2 ≤ length xs → position waits xs ≡ None → reverse xs ≡ rotated clock
+    (reverse xs)
 unfolding rotated
 rotate_none clock xs h p =
     let l = length-reverse xs in
@@ -46,7 +48,8 @@ rotate_some clock xs rest after i a b h p one e r m k =
     let within = (position_parts _ _ (Some i) p) in
     let n : i < length xs = omega arith in
     let o : rest ≡ without_awake a.task.id xs =
-    r ∙ subst (λ (x : Awake). remove xs i ≡ without_awake x.task.id xs) (sym e) (removed_at key xs i a n (one (key (get_or xs i a)))) in
+    r ∙ subst (λ (x : Awake). remove xs i ≡ without_awake x.task.id xs) (sym e)
+    (removed_at key xs i a n (one (key (get_or xs i a)))) in
     let turned : reverse after ≡ map (preempted clock) (without_awake a.task.id (reverse xs)) =
     ap reverse (m ∙ ap (map (preempted clock)) o) ∙ sym (map_reverse (preempted clock) (without_awake a.task.id xs))
     ∙ ap (map (preempted clock)) (sym (filter_reverse (λ (x : Awake). not (x.task.id == a.task.id)) xs)) in
@@ -75,7 +78,8 @@ count_to (Some a) clock xs h =
     omega arith
 
 count_if : (b : Bool) (clock : ℕ) (xs : List Awake) → running_count xs ≡ cond (nobody xs) 0 1
-    → running_count (cond b (rotated_to (next_up xs) clock xs) xs) ≡ cond (nobody (cond b (rotated_to (next_up xs) clock xs) xs)) 0 1
+    → running_count (cond b (rotated_to (next_up xs) clock xs) xs) ≡ cond
+    (nobody (cond b (rotated_to (next_up xs) clock xs) xs)) 0 1
 count_if true clock xs h = count_to (next_up xs) clock xs h
 count_if false clock xs h = h
 
@@ -127,7 +131,8 @@ asked_rotated : (cpu clock : ℕ) (xs : List Awake) → list_all (is_asked_right
 unfolding rotated
 asked_rotated cpu clock xs h = asked_if (ltb 1 (length xs)) cpu clock xs h
 
-owes_asked : (cpu : ℕ) (a : Awake) (b : Bool) → is_pending a.stop ≡ b → is_asked_rightly cpu a ≡ true → is_asked_rightly cpu (owes a) ≡ true
+owes_asked : (cpu : ℕ) (a : Awake) (b : Bool) → is_pending a.stop ≡ b → is_asked_rightly cpu a ≡ true
+    → is_asked_rightly cpu (owes a) ≡ true
 owes_asked cpu a true e h = let k : cond (has a.task.mask cpu) (not true) true ≡ true = rw e at h in rw e k
 owes_asked cpu a false e h = rw e h
 

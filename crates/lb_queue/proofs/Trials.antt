@@ -1,4 +1,5 @@
 -- What the test of a queue rests on: a hand of one task at most may land.
+-- For `lb_tests`.
 use Rattle.std.proofs.Common.{◌≡◌, ℕ, zero, suc, ◌+◌, ◌≤◌, Bool, true, false, cond, eqb, List, [], ◌∷◌, length, slice_get, Some, arith}
 use Rattle.std.specs.Prelude.{All}
 use Rattle.lb_queue.specs.declared.record.TaskRecord.{TaskRecord}

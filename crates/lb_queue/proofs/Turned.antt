@@ -1,4 +1,5 @@
 -- Lists that are kept from the back to the front. For callers too: a search from either end.
+-- For `has_awake`, `TaskLists::renice_awake`, `TaskLists::mask_awake` and others; cited by `lb_ready` too.
 use Rattle.std.proofs.Common.{◌≡◌, ℕ, ◌≤◌, Bool, true, false, cond, ◌==◌, eqb, ◌||◌, List, [], ◌∷◌, ◌++◌, length, map, reverse, filter, find, Option, Some, None, is_some, refl, sym, ◌∙◌, ap, arith, inl, inr, ◌<◌, get_or, remove, position}
 use Rattle.std.specs.List.{list_any}
 use Rattle.std.proofs.lemmas.Bool.{cases_Bool, cond-true}
@@ -48,11 +49,13 @@ map_reverse f (x ∷ xs) = ap (map f) (reverse-append (x ∷ []) xs) ∙ map-app
     ∙ ap (λ zs. zs ++ f x ∷ []) (map_reverse f xs) ∙ sym (reverse-append (f x ∷ []) (map f xs))
 
 -- ---- what is found from either end
-passed : {X : Type 0} (y : X) (b : Bool) (o q r : Option X) → cond b (Some y) o ≡ None → (o ≡ None → q ≡ r) → cond b (Some y) q ≡ r
+passed : {X : Type 0} (y : X) (b : Bool) (o q r : Option X) → cond b (Some y) o ≡ None → (o ≡ None → q ≡ r)
+    → cond b (Some y) q ≡ r
 passed y true o q r h e = absurd (let z : ⊥ = cc in z)
 passed y false o q r h e = e h
 
-find_push : {X : Type 0} (p : X → Bool) (ys : List X) (x : X) → find p ys ≡ None → find p (ys ++ x ∷ []) ≡ cond (p x) (Some x) None
+find_push : {X : Type 0} (p : X → Bool) (ys : List X) (x : X) → find p ys ≡ None → find p (ys ++ x ∷ []) ≡ cond (p x)
+    (Some x) None
 find_push p [] x h = refl
 find_push p (y ∷ ys) x h = passed y (p y) _ _ _ h (find_push p ys x)
 

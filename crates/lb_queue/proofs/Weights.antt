@@ -1,4 +1,5 @@
 -- No weight is above the first. For callers too.
+-- For `Task::value`; cited by `lb_ready` too.
 use Rattle.std.proofs.Common.{◌≡◌, ℕ, ℤ, zero, suc, ◌≤◌, nat_le, true, List, [], ◌∷◌, refl, arith}
 use Rattle.std.specs.Prelude.{slice_index, pos, ◌+ℤ◌, unsigned_abs}
 use Rattle.std.specs.List.{list_all}

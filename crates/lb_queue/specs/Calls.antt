@@ -1,5 +1,7 @@
 -- The changing calls of a queue with their arguments: when a call may be made, and which state it
 -- leaves. Lists of calls are made one after the other.
+-- For the definitions of `Laws` and `Moves`, and so for the laws `sound`, `clock_rises` and others; cited by
+-- `lb_cell`, `lb_core` and other crates.
 use Rattle.std.specs.Prelude.{◌≡◌, ℕ, ℤ, pos, negsuc, ◌<◌, ◌≤◌, ◌≤ℤ◌, true, false, Bool, Option, Some, None, IsSome, All, List, [], ◌∷◌, length}
 use Rattle.std.specs.List.{list_all}
 use Rattle.lb_base.specs.declared.mask.Mask.{Mask}

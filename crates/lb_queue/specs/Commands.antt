@@ -1,6 +1,8 @@
 -- What a queue answers to the commands on a task, and what it is afterwards: a wake, a sleep, an
 -- exit, a new mask and a new nice value. Each is one function of the state, the moment and the
 -- arguments. A refusal changes the clock alone, and a queue that does not know the task stays.
+-- Cited by the contracts of `Awake::set_mask`, `Awake::renice`, `TaskLists::mask_awake` and others; also by
+-- `lb_cell`, `lb_core` and other crates.
 use Rattle.std.specs.Prelude.{ℕ, ℤ, ◌==◌, Bool, true, false, not, ◌||◌, if◌then◌else◌, Option, Some, None, List, [], ◌∷◌, ◌++◌, map}
 use Rattle.lb_base.specs.declared.mask.Mask.{Mask}
 use Rattle.lb_base.specs.Mask.{has}

@@ -1,5 +1,7 @@
 -- The figure of a queue: how many tasks are awake, and the sums of what the tasks' signals say at the
 -- queue's clock, with its flags.
+-- Cited by the contracts of `Awake::value`, `TaskLists::sums`, `Queue::figure` and others; also by `lb_cell`,
+-- `lb_core` and other crates.
 use Rattle.std.specs.Prelude.{ℕ, ◌+◌, ◌^◌, if◌then◌else◌, unwrap_or, List, [], ◌∷◌, length, sum_by}
 use Rattle.lb_base.specs.declared.figure.Fig.{Fig}
 use Rattle.lb_pelt.specs.declared.signal.Run.TheVariants.{Asleep}

@@ -1,6 +1,8 @@
 -- Tasks that leave a queue and land at another. A hand carries them; what leaves is the tasks in
 -- their order with the state that they leave behind, by each of the causes: a wake away from here, a
 -- stop request, a push and a pull. A landing lets them join the front, one after the other.
+-- Cited by the contracts of `TaskLists::next_stop`, `TaskLists::take_pushed`, `TaskLists::set_order` and others; also
+-- by `lb_act`, `lb_cell` and other crates.
 use Rattle.std.specs.Prelude.{ℕ, max, false, if◌then◌else◌, Option, Some, None, List, [], ◌∷◌, ◌++◌, map, filter_map, Bool, true}
 use Rattle.lb_base.specs.Sets.{least}
 use Rattle.lb_pelt.specs.declared.signal.Run.TheVariants.{Asleep}

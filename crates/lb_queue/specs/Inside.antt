@@ -1,5 +1,6 @@
 -- What holds inside a queue besides its tasks: it is of a CPU of its machine, there is room for the
 -- counters of each level, and an open turn has counters at each of its positions.
+-- What contracts see of the type `Queue`.
 use Rattle.std.specs.Prelude.{◌≡◌, ℕ, ◌<◌, ◌≤◌, Bool, true, Option, Some, None, List, length}
 use Rattle.lb_base.specs.Mask.{has}
 use Rattle.lb_base.specs.declared.mask.TheConstants.{MAX_CPUS}

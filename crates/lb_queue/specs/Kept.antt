@@ -1,5 +1,6 @@
 -- What every queue keeps, whatever calls are made on it: each task that it knows stands once, one
 -- task runs where somebody is awake, and the tasks that may not stay are asked to leave.
+-- Cited by the contracts of `TaskLists::land`, `Queue::declare`, `Task::new` and `Task::record`.
 use Rattle.std.specs.Prelude.{◌≡◌, ℕ, pos, negsuc, ◌+◌, ◌<◌, ◌≤◌, ◌≤ℤ◌, Bool, true, false, not, if◌then◌else◌, List, sum_by}
 use Rattle.std.specs.List.{list_all}
 use Rattle.lb_base.specs.Mask.{has}

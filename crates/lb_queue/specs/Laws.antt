@@ -1,5 +1,7 @@
 -- What holds of every queue, whatever calls were made on it: that it is sound, what each call moves and
 -- what it leaves as it is, and where the tasks that leave may go.
+-- Cited by the laws `sound`, `clock_rises`, `owed_is_pending` and others; also by `lb_cell`, `lb_core` and other
+-- crates.
 use Rattle.std.specs.Prelude.{◌≡◌, ℕ, ◌≤◌, Bool, true, false, not, if◌then◌else◌, is_some, Some, IfSome, All, List, length}
 use Rattle.std.specs.List.{list_all}
 use Rattle.lb_base.specs.Mask.{has}

@@ -1,5 +1,6 @@
 -- The tasks of a queue without the rest of it: the three lists, how many tasks they have room for,
 -- and how many landings are booked. What a list is after one task was taken out of it.
+-- Cited by the contracts of `TaskLists::make_room`, `TaskLists::add_booked`, `TaskLists::take_asleep` and others.
 use Rattle.std.specs.Prelude.{◌≡◌, MatchOption, ℕ, ◌+◌, ◌^◌, ◌<◌, ◌≤◌, ◌==◌, nat_le, Bool, true, false, not, ◌&&◌, ◌||◌, Option, Some, None, List, length}
 use Rattle.std.specs.List.{list_all, list_any}
 use Rattle.lb_base.specs.declared.mask.TheConstants.{MAX_CPUS}

@@ -1,5 +1,7 @@
 -- What a call does to the tasks of a queue: which of them move, between its lists and a hand, and what
 -- has to hold of a call so that it keeps what is said of the tasks.
+-- For the definitions of `Laws`, and so for the laws `sound`, `clock_rises` and others; cited by `lb_core`,
+-- `lb_engine` and `lb_ready`.
 use Rattle.std.specs.Prelude.{◌≡◌, ℕ, ◌+◌, ◌≤◌, Bool, true, false, if◌then◌else◌, Option, Some, IfSome, List, [], ◌∷◌}
 use Rattle.std.specs.List.{list_all}
 use Rattle.lb_pelt.specs.declared.signal.Run.{Run}

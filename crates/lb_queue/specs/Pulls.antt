@@ -1,5 +1,6 @@
 -- The steps of a pull: tasks that wait leave by their ids, and those that stay are turned into the
 -- order in which they are to stand.
+-- Cited by the contracts of `TaskLists::set_order`, `set_order`, `load_all` and `load_one`.
 use Rattle.std.specs.Prelude.{◌≡◌, ℕ, ◌==◌, true, false, All, IsSomeAnd, List, ◌++◌, filter}
 use Rattle.lb_base.specs.Mask.{has}
 use Rattle.lb_queue.specs.declared.awake.Awake.{Awake}

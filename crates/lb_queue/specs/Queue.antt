@@ -1,6 +1,8 @@
 -- The state of a CPU's run queue: its tasks, what is asked of it, its clock, its idle time, its
 -- counters and its open turn. Then what is read off a state at once: where a task stands, the clock
 -- that a call sets, and the average idle time after a sample.
+-- Cited by the contracts of `TaskLists::is_idle`, `Queue::new`, `Queue::declare` and others; also by `lb_act`,
+-- `lb_cell` and other crates.
 use Rattle.std.specs.Prelude.{ℕ, ℤ, ◌-◌, ◌/◌, max, Bool, true, false, ◌||◌, if◌then◌else◌, Option, Some, None, is_some, List, [], ◌∷◌, ◌++◌}
 use Rattle.lb_base.specs.declared.mask.Mask.{Mask}
 use Rattle.lb_base.specs.Mask.{has}

@@ -1,6 +1,8 @@
 -- The tick of a queue's CPU, and what is asked of a queue: that a task leaves it (a stop request),
 -- that it pushes one to another CPU (an active request), and that it balances on behalf of idle CPUs
 -- (a kick).
+-- Cited by the contracts of `Awake::asks`, `Awake::stop_request`, `Awake::owe` and others; also by `lb_cell`,
+-- `lb_core` and other crates.
 use Rattle.std.specs.Prelude.{ℕ, nat_lt, nat_le, Bool, true, false, not, ◌&&◌, ◌||◌, if◌then◌else◌, Option, Some, None, is_none, is_some, unwrap_or, List, ◌∷◌, map, length, reverse, find}
 use Rattle.std.specs.List.{list_all, list_any}
 use Rattle.lb_base.specs.Sets.{least}

@@ -1,5 +1,6 @@
 -- Sums of what the signals of some tasks say, and how great they can be: no value is above the
 -- greatest weight, or above 1,025.
+-- Cited by the contracts of `Awake::value`, `awake_sums`, `asleep_sums` and `Task::value`.
 use Rattle.std.specs.Prelude.{◌≡◌, ℕ, ◌*◌, ◌≤◌, List, length, sum_by}
 use Rattle.lb_pelt.specs.declared.signal.Value.{Value}
 use Rattle.lb_queue.specs.declared.sums.Sums.{Sums}

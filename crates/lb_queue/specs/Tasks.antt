@@ -1,5 +1,7 @@
 -- The tasks of a queue in lists by id, and what becomes of them as they run: a task is put down, is
 -- picked, joins the front and leaves. Their signals are advanced at these steps and at no other.
+-- Cited by the contracts of `Awake::waiting`, `Awake::picked`, `Awake::set_down` and others; also by `lb_act`,
+-- `lb_cell` and other crates.
 use Rattle.std.specs.Prelude.{ℕ, ◌+◌, ◌==◌, Bool, true, false, not, if◌then◌else◌, Option, Some, List, [], ◌∷◌, map, filter, find, reverse}
 use Rattle.std.specs.List.{list_any}
 use Rattle.lb_pelt.specs.declared.signal.Run.{Run}

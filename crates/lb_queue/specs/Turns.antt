@@ -1,5 +1,7 @@
 -- Turns: the counters that a turn of a version of the topology finds, the positions that it opens,
 -- the counters after a position's outcome, and the end of a turn.
+-- Cited by the contracts of `Queue::opens`, `Queue::turn`, `Queue::close_look` and others; also by `lb_act`,
+-- `lb_cell` and other crates.
 use Rattle.std.specs.Prelude.{◌≡◌, MatchOption, IfSome, slice_get, ℕ, ◌+◌, ◌==◌, nat_lt, Bool, true, false, not, ◌&&◌, if◌then◌else◌, Option, Some, None, unwrap_or, is_some, List, [], ◌∷◌, map, length, slice_set}
 use Rattle.std.specs.List.{slice_index_or}
 use Rattle.lb_base.specs.declared.mask.Mask.{Mask}

@@ -1,5 +1,7 @@
 -- What a task's signal says at a moment, whether a task is hot then, and the awake tasks as a pull
 -- sees them.
+-- Cited by the contracts of `Awake::view`, `TaskLists::view`, `TaskLists::take_pushed` and others; also by `lb_act`,
+-- `lb_cell` and other crates.
 use Rattle.std.specs.Prelude.{ℕ, ◌-◌, nat_lt, Bool, true, false, Option, Some, None, List, map}
 use Rattle.lb_base.specs.declared.view.TaskView.{TaskView}
 use Rattle.lb_base.specs.Weight.{weight_of}

@@ -1,5 +1,7 @@
 -- Small facts that several files use: tests joined by `or`, options that have a value, and answers that
 -- are the same.
+-- For the lemmas of `EntriesExact`, `FieldsExact` and other files, and so for the laws `texts_read_once`,
+-- `headers_read_back` and others.
 use Rattle.std.proofs.Common.{◌≡◌, Bool, true, false, ◌||◌, Option, Some, None, Result, Ok, Err, refl}
 use Rattle.std.specs.Prelude.{is_none, is_some}
 use Rattle.std.proofs.lemmas.Bool.{false≢true}

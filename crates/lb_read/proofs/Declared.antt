@@ -1,4 +1,5 @@
 -- The lines of an accepted header, behind the version's line, are an accepted trace with this header.
+-- For the lemmas of `Room` and `Sizes`, and so for the law `headers_read_back`.
 use Rattle.std.proofs.Common.{◌≡◌, ℕ, zero, suc, ◌+◌, ◌^◌, ◌<◌, ◌≤◌, Bool, true, false, not, ◌&&◌, eqb, leb, List, [], ◌∷◌, ◌++◌, map, length, take, drop, get_or, Option, Some, None, Result, Ok, refl, sym, ap, subst, ◌∙◌, arith, append_assoc}
 use Rattle.std.specs.Prelude.{codes, decimal}
 use Rattle.std.specs.Fmt.{signed_decimal}
@@ -176,7 +177,8 @@ abbrev with_table : ℕ → List CpuRow → List (List ℕ) → Reading
 with_table n cpus table = so_far n cpus table None None []
 
 distances_back : (row : List ℕ) → list_all is_distance row ≡ true
-    → (map (λ field. number (number_within 1 255 field)) (map decimal row) ≡ row) × (list_all (is_number 1 255) (map decimal row) ≡ true)
+    → (map (λ field. number (number_within 1 255 field)) (map decimal row) ≡ row) ×
+    (list_all (is_number 1 255) (map decimal row) ≡ true)
 distances_back [] fits = (refl, refl)
 distances_back (d ∷ row) fits =
     let p = and_parts (is_distance d) _ fits in
@@ -224,7 +226,8 @@ table_read : (n : ℕ) (cpus : List CpuRow) (done rows : List (List ℕ)) (more 
     → length (done ++ rows) ≡ nodes_of cpus → list_all (λ (row : List ℕ). eqb (length row) (nodes_of cpus)) rows ≡ true
     → list_all (list_all is_distance) rows ≡ true → Stand is_bad_distance done rows →
     is_nested (done ++ rows) ≡ true → lines_from (with_table n cpus done)
-    ((map distances_body rows ++ more) ++ [] ∷ []) ≡ lines_from (with_table (n + length rows) cpus (done ++ rows)) (more ++ [] ∷ [])
+    ((map distances_body rows ++ more) ++ [] ∷ []) ≡ lines_from (with_table (n + length rows) cpus (done ++ rows))
+    (more ++ [] ∷ [])
 table_read n cpus done [] more lt whole sizes fits stand nested =
     let e : n ≡ n + 0 = omega arith in rw (append-nil done, ← e) refl
 table_read n cpus done (row ∷ rows) more lt whole sizes fits stand nested =
@@ -239,7 +242,8 @@ table_read n cpus done (row ∷ rows) more lt whole sizes fits stand nested =
     let line =
     step_on (with_table n cpus done) (with_table (n + 1) cpus (done ++ row ∷ [])) (distances_body row)
     (map distances_body rows ++ more)
-    (distances_step n cpus done row lt (omega (arith, l, whole)) (eqb-true (length row) (nodes_of cpus) q.0) p.0 stand.0 at_last) in
+    (distances_step n cpus done row lt (omega (arith, l, whole)) (eqb-true (length row) (nodes_of cpus) q.0) p.0 stand.0
+    at_last) in
     let rest =
     table_read (n + 1) cpus (done ++ row ∷ []) rows more (omega (arith, lt)) (ap length again ∙ whole) q.1 p.1 stand.1
     (ap is_nested again ∙ nested) in
@@ -349,8 +353,16 @@ task_step n h done task lt few most fits =
       mask = rw (mask_back, not-true (is_empty task.mask) r.1, q.1) refl;
       ticks = refl;
     } in
-    good_is_read (with_tasks n h done) kinds.Task (codes "task") fields (later n lt) refl
-    (refl, (number_free (length done), (signed_over 44 task.nice (omega arith), (number_free task.home, (runs_over task.mask, tt)))))
+    good_is_read (with_tasks n h done) kinds.Task (codes "task") fields (later n lt) refl (
+      refl,
+      (
+        number_free (length done),
+        (
+          signed_over 44 task.nice (omega arith),
+          (number_free task.home, (runs_over task.mask, tt)),
+        ),
+      ),
+    )
     (joined_plain (codes "task") fields refl
     (decimal_plain (length done), (signed_plain task.nice, (decimal_plain task.home, (runs_plain task.mask, tt))))) good
     ∙ ap (λ (t : TaskRow). let o : Result Reading Code = Ok (with_tasks (n + 1) h (done ++ t ∷ [])) in o) same

@@ -1,4 +1,5 @@
--- Reading pieces one after the other.
+-- A list field is read piece after piece: what the pieces so far and those that are left read as.
+-- For `ids_in`, `figures_in` and `all_masks`.
 use Rattle.std.proofs.Common.{◌≡◌, ℕ, List, [], ◌∷◌, ◌++◌, Option, Some, None, refl, sym, ap, ◌∙◌, append_assoc}
 use Rattle.std.specs.Prelude.{option_and_then}
 use Rattle.std.specs.Option.{option_map}
@@ -10,7 +11,8 @@ unfoldable pub each_onto : {A : Type 0} → (List ℕ → Option A) → List A �
 each_onto read found pieces = option_map (λ more. found ++ more) (each read pieces)
 
 onto_more : {A : Type 0} (found : List A) (a : A) (rest : Option (List A))
-    → option_map (λ more. found ++ more) (option_map (λ more. a ∷ more) rest) ≡ option_map (λ more. (found ++ a ∷ []) ++ more) rest
+    → option_map (λ more. found ++ more) (option_map (λ more. a ∷ more) rest) ≡ option_map
+    (λ more. (found ++ a ∷ []) ++ more) rest
 onto_more found a None = refl
 onto_more found a (Some more) = ap Some (sym (append_assoc found (a ∷ []) more))
 

@@ -1,4 +1,6 @@
--- The lines of entries are read exactly.
+-- The reader of an entry's line is exact: a line reads as an entry just where it is that entry's line.
+-- For the lemmas of `WholeComplete` and `WholeSound`, and so for the laws `texts_read_once`, `headers_read_back` and
+-- `histories_read_back`.
 use Rattle.std.proofs.Common.{◌≡◌, ℕ, ◌+◌, true, eqb, cond, List, [], ◌∷◌, ◌++◌, map, length, Option, Some, None, Result, Ok, Err, refl, sym, ap, ◌∙◌, inl, inr, arith}
 use Rattle.std.specs.List.{list_all}
 use Rattle.std.proofs.lemmas.Bool.{cases_Bool, eqb-true}

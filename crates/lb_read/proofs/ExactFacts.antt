@@ -1,4 +1,6 @@
 -- Readers that are put together of exact ones are exact.
+-- For the lemmas of `EntriesExact`, `FieldsExact` and other files, and so for the laws `texts_read_once`,
+-- `headers_read_back` and others.
 use Rattle.std.proofs.Common.{◌≡◌, ℕ, Bool, true, false, ◌&&◌, eqb, inl, inr, List, [], ◌∷◌, ◌++◌, map, Option, Some, None, refl, sym, ap, ◌∙◌, append_assoc}
 use Rattle.std.specs.Prelude.{option_and_then}
 use Rattle.std.specs.Option.{option_map}
@@ -61,7 +63,8 @@ next_to_sound s t v w f g x y fields p rest e =
     let two = y.sound a.0.1 p.1 rest read_is in
     (one.0 ∙ ap (λ more. v p.0 ++ more) two.0 ∙ sym (append_assoc (v p.0) (w p.1) rest), rw (one.1, two.1) refl)
 
-next_to_complete : {A B : Type 0} (s : List (List ℕ) → Option (A × List (List ℕ))) (t : List (List ℕ) → Option (B × List (List ℕ)))
+next_to_complete : {A B : Type 0} (s : List (List ℕ) → Option (A × List (List ℕ)))
+    (t : List (List ℕ) → Option (B × List (List ℕ)))
     (v : A → List (List ℕ)) (w : B → List (List ℕ)) (f : A → Bool) (g : B → Bool) → TakesExactly s v f → TakesExactly t w g
     → (p : A × B) (rest : List (List ℕ)) → (f p.0 && g p.1) ≡ true → next_to s t ((v p.0 ++ w p.1) ++ rest) ≡ Some (p, rest)
 next_to_complete s t v w f g x y p rest e =
@@ -70,7 +73,8 @@ next_to_complete s t v w f g x y p rest e =
     ∙ ap (option_and_then (λ a. option_map (λ b. ((a.0, b.0), b.1)) (t a.1))) (x.complete p.0 (w p.1 ++ rest) h.0)
     ∙ ap (option_map (λ b. ((p.0, b.0), b.1))) (y.complete p.1 rest h.1)
 
-pub next_to_exact : {A B : Type 0} (s : List (List ℕ) → Option (A × List (List ℕ))) (t : List (List ℕ) → Option (B × List (List ℕ)))
+pub next_to_exact : {A B : Type 0} (s : List (List ℕ) → Option (A × List (List ℕ)))
+    (t : List (List ℕ) → Option (B × List (List ℕ)))
     (v : A → List (List ℕ)) (w : B → List (List ℕ)) (f : A → Bool) (g : B → Bool) → TakesExactly s v f → TakesExactly t w g
     → TakesExactly (next_to s t) (λ p. v p.0 ++ w p.1) (λ p. f p.0 && g p.1)
 next_to_exact s t v w f g x y = record { sound = next_to_sound s t v w f g x y; complete = next_to_complete s t v w f g x y }
@@ -89,7 +93,8 @@ pub whole_exact : {A : Type 0} (s : List (List ℕ) → Option (A × List (List 
     → TakesExactly s v f
     → IsExact (whole s) v f
 whole_exact s v f x = record {
-  sound = λ fields a e. let p = bind_pieces (λ q. if_none_left q.0 q.1) (s fields) a e in whole_sound s v f x fields a p.0 p.1 p.2;
+  sound = λ fields a e. let p = bind_pieces (λ q. if_none_left q.0 q.1) (s fields) a e in whole_sound s v f x fields a
+      p.0 p.1 p.2;
   complete = λ a h. ap (whole s) (sym (append-nil (v a))) ∙ ap (option_and_then (λ q. if_none_left q.0 q.1)) (x.complete a [] h);
 }
 
@@ -116,7 +121,8 @@ ending_exact s t v w f g x y = record {
 }
 
 -- ---- another value for what was read
-pub mapped_sound : {X A B : Type 0} (read : X → Option A) (write : A → X) (fits : A → Bool) (make : A → B) (out : B → X) (ok : B → Bool)
+pub mapped_sound : {X A B : Type 0} (read : X → Option A) (write : A → X) (fits : A → Bool) (make : A → B) (out : B → X)
+    (ok : B → Bool)
     → IsExact read write fits → ((a : A) → out (make a) ≡ write a) → ((a : A) → ok (make a) ≡ fits a)
     → (x : X) (b : B) → option_map make (read x) ≡ Some b → (x ≡ out b) × (ok b ≡ true)
 mapped_sound read write fits make out ok e same good x b h =

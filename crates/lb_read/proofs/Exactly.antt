@@ -1,4 +1,5 @@
 -- A line is read exactly, and what was read has one text.
+-- For the law `lines_read_exactly`.
 use Rattle.std.proofs.Common.{◌≡◌, ℕ, List, Some, sym, ◌∙◌, subst}
 use Rattle.lb_read.specs.Entries.{line_in}
 use Rattle.lb_read.specs.Laws.{LinesReadExactly, OneText}

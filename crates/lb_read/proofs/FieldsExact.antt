@@ -1,4 +1,6 @@
--- The readers of fields are exact.
+-- The readers of the fields of an entry are exact: a text reads as a value just where it is that value's spelling.
+-- For the lemmas of `Declared`, `HeaderSteps` and other files, and so for the laws `headers_read_back`,
+-- `texts_read_once` and others.
 use Rattle.std.proofs.Common.{◌≡◌, ℕ, zero, suc, ◌<◌, ◌≤◌, ◌^◌, ℤ, pos, negsuc, neg_ℤ, Bool, true, false, ◌&&◌, eqb, leb, cond, List, [], ◌∷◌, ◌++◌, length, map, Option, Some, None, refl, sym, ap, ◌∙◌, inl, inr, ◌⊎◌, arith}
 use Rattle.std.specs.Prelude.{decimal, codes, option_and_then, is_some}
 use Rattle.std.specs.Fmt.{signed_decimal}
@@ -180,8 +182,11 @@ spelled_sound : (text : List ℕ) (mask : Mask) → option_and_then (if_spelled 
 spelled_sound text mask e =
     let m = bind_pieces (if_spelled text) (list_of text) mask e in
     let c = cond_some (bytes_eq (list_text m.0) text) m.0 mask m.2 in
-    let fits : m.0.bits < 2 ^ 64 = lists_fit text m.0 m.1 in
-    (sym ((bytes_eq-Decides (list_text m.0) text).0 c.0) ∙ ap list_text c.1, sym (ap is_mask c.1) ∙ lt-ltb m.0.bits (2 ^ MAX_CPUS) fits)
+    let fits : m.0.bits < 2 ^ 64 = lists_fit text m.0 m.1 in (
+      sym ((bytes_eq-Decides (list_text m.0) text).0 c.0) ∙ ap list_text c.1,
+      sym (ap is_mask c.1) ∙ lt-ltb m.0.bits
+          (2 ^ MAX_CPUS) fits,
+    )
 
 spelled_complete : (mask : Mask) → is_mask mask ≡ true
     → (mask ≡ no_cpus) ⊎ ((bytes_eq (list_text mask) (codes "-") ≡ false)
@@ -400,8 +405,11 @@ publisher_sound [] p e = absurd (none-some p e)
 publisher_sound (mark ∷ lane) p e = elim (cases_Bool (eqb mark 64)) [
   | inl is ↦
       let m = map_pieces publisher_from (short_in lane) p (rw is at e) in
-      let s = short_exact.sound lane m.0 m.1 in
-      (ap (λ c. 80 ∷ c ∷ lane) (eqb-true mark 64 is) ∙ ap (λ t. 80 ∷ 64 ∷ t) s.0 ∙ ap owner_of_text m.2, sym (ap owner_is_good m.2) ∙ s.1)
+      let s = short_exact.sound lane m.0 m.1 in (
+        ap (λ c. 80 ∷ c ∷ lane) (eqb-true mark 64 is) ∙ ap (λ t. 80 ∷ 64 ∷ t) s.0 ∙ ap owner_of_text m.2,
+        sym
+            (ap owner_is_good m.2) ∙ s.1,
+      )
   | inr not_is ↦ absurd (none-some p (rw not_is at e))
 ]
 

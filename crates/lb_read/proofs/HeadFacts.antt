@@ -1,4 +1,5 @@
 -- Reading the lines at the head of a text that can be repeated.
+-- For `head_of`.
 use Rattle.std.proofs.Common.{◌≡◌, ℕ, ◌+◌, ◌-◌, ◌≤◌, Bool, true, false, ◌&&◌, ◌||◌, cond, List, [], ◌∷◌, ◌++◌, length, drop, refl, sym, ap, ◌∙◌, append_assoc, arith, length-append}
 use Rattle.std.specs.Prelude.{codes, not}
 use Rattle.std.proofs.lemmas.List.{append-nil}

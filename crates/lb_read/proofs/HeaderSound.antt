@@ -1,4 +1,6 @@
 -- Lines of a trace that are good and can be repeated are those that a header writes for what was read.
+-- For the lemmas of `Declared`, `HeaderSteps` and other files, and so for the laws `headers_read_back`,
+-- `texts_read_once` and `histories_read_back`.
 use Rattle.std.proofs.Common.{◌≡◌, ℕ, ◌+◌, true, List, [], ◌∷◌, ◌++◌, map, length, drop, Option, Some, None, refl, sym, ap, subst, ◌∙◌, arith, append_assoc}
 use Rattle.std.specs.Prelude.{decimal, codes}
 use Rattle.std.specs.Fmt.{signed_decimal}
@@ -46,7 +48,8 @@ lanes_bodies (Some lanes) = lanes_body lanes ∷ []
 
 abbrev pub bodies : List CpuRow → List (List ℕ) → Option (List Mask) → Option ℕ → List TaskRow → List (List ℕ)
 bodies cpus distances parts lanes tasks =
-    numbered cpu_body 0 cpus ++ (map distances_body distances ++ (parts_bodies parts ++ (lanes_bodies lanes ++ numbered task_body 0 tasks)))
+    numbered cpu_body 0 cpus ++ (map distances_body
+    distances ++ (parts_bodies parts ++ (lanes_bodies lanes ++ numbered task_body 0 tasks)))
 
 abbrev pub bodies_read : Reading → List (List ℕ)
 bodies_read r = bodies r.cpus r.distances r.parts r.lanes r.tasks
@@ -99,10 +102,12 @@ lanes_push cpus table parts lanes =
 
 pub task_push : (cpus : List CpuRow) (table : List (List ℕ)) (parts : Option (List Mask)) (lanes : Option ℕ)
     (tasks : List TaskRow) (task : TaskRow)
-    → bodies cpus table parts lanes (tasks ++ task ∷ []) ≡ bodies cpus table parts lanes tasks ++ task_body (length tasks) task ∷ []
+    → bodies cpus table parts lanes (tasks ++ task ∷ []) ≡ bodies cpus table parts lanes tasks ++ task_body
+    (length tasks) task ∷ []
 task_push cpus table parts lanes tasks task =
     ap (λ ls. numbered cpu_body 0 cpus ++ (map distances_body table ++ (parts_bodies parts ++ (lanes_bodies lanes ++ ls))))
-    (numbered_push task_body 0 tasks task ∙ ap (λ k. numbered task_body 0 tasks ++ task_body k task ∷ []) (zero_from (length tasks)))
+    (numbered_push task_body 0 tasks task ∙ ap (λ k. numbered task_body 0 tasks ++ task_body k task ∷ [])
+    (zero_from (length tasks)))
     ∙ ap (λ ls. numbered cpu_body 0 cpus ++ (map distances_body table ++ (parts_bodies parts ++ ls)))
     (sym (append_assoc (lanes_bodies lanes) (numbered task_body 0 tasks) (task_body (length tasks) task ∷ [])))
     ∙ push_three (numbered cpu_body 0 cpus) (map distances_body table) (parts_bodies parts)
@@ -140,7 +145,8 @@ cpu_four r a b c d good =
     ∙ ap (λ x. joined 44 (codes "cpu" ∷ decimal (length r.cpus) ∷ x ∷ c ∷ d ∷ [])) eb
     ∙ ap (λ x. joined 44 (codes "cpu" ∷ decimal (length r.cpus) ∷ decimal (cpu_of fields).core ∷ x ∷ d ∷ [])) ec
     ∙ ap
-    (λ x. joined 44 (codes "cpu" ∷ decimal (length r.cpus) ∷ decimal (cpu_of fields).core ∷ decimal (cpu_of fields).cache ∷ x ∷ [])) ed
+    (λ x. joined 44 (codes "cpu" ∷ decimal (length r.cpus) ∷ decimal (cpu_of fields).core ∷ decimal
+    (cpu_of fields).cache ∷ x ∷ [])) ed
 
 pub cpu_text : (r : Reading) (rest : List (List ℕ)) → IsGood r kinds.Cpu (codes "cpu" ∷ rest)
     → joined 44 (codes "cpu" ∷ rest) ≡ cpu_body (length r.cpus) (cpu_of (codes "cpu" ∷ rest))
@@ -148,7 +154,8 @@ cpu_text r rest good =
     let len : length (codes "cpu" ∷ rest) ≡ 5 = eqb-true _ 5 good.size in
     let f = four_fields rest (omega (arith, len)) in
     let P : List (List ℕ) → Type 0 =
-    λ fs. IsGood r kinds.Cpu (codes "cpu" ∷ fs) → joined 44 (codes "cpu" ∷ fs) ≡ cpu_body (length r.cpus) (cpu_of (codes "cpu" ∷ fs)) in
+    λ fs. IsGood r kinds.Cpu (codes "cpu" ∷ fs) → joined 44 (codes "cpu" ∷ fs) ≡ cpu_body (length r.cpus)
+    (cpu_of (codes "cpu" ∷ fs)) in
     let all : P rest = subst P (sym f.4) (cpu_four r f.0 f.1 f.2 f.3) in
     all good
 

@@ -1,4 +1,6 @@
 -- What good lines that can be repeated add to what a header writes, line after line.
+-- For the lemmas of `Declared`, `Refusals` and other files, and so for the laws `texts_read_once`,
+-- `headers_read_back` and `histories_read_back`.
 use Rattle.std.proofs.Common.{◌≡◌, ℕ, zero, suc, ◌<◌, ◌≤◌, Bool, true, false, ◌||◌, eqb, List, [], ◌∷◌, ◌++◌, length, drop, Option, Some, None, Result, Ok, Err, refl, sym, ap, subst, ◌∙◌, inl, inr, arith, append_assoc}
 use Rattle.std.specs.Prelude.{codes, is_none, is_some, not, IfSome}
 use Rattle.std.specs.List.{list_all, slice_split}
@@ -235,7 +237,8 @@ adds_fields r s parted (word ∷ rest) h p d t = elim (cases_Bool (bytes_eq word
       | inl is ↦ at_word r s word (codes "lanes") rest is (on_lanes r s rest h (sym p ∙ (rw (not_parts, not_task, is) at d))) t
       | inr not_lanes ↦ elim (cases_Bool (bytes_eq word (codes "cpu"))) [
         | inl is ↦ at_word r s word (codes "cpu") rest is (on_cpu r s rest h) t
-        | inr not_cpu ↦ at_word r s word (codes "dist") rest (rw (not_parts, not_task, not_lanes, not_cpu) at d) (on_dist r s rest h) t
+        | inr not_cpu ↦ at_word r s word (codes "dist") rest (rw (not_parts, not_task, not_lanes, not_cpu) at d)
+            (on_dist r s rest h) t
       ]
     ]
   ]
@@ -283,16 +286,23 @@ read_ends r s done parted f e =
     let same : r ≡ s = sym passed.same in
     let tests = or_parts _ _ passed.good in
     subst (λ (q : Reading). IsReadAll q done) same
-    (record { lines_are = f.lines; no_rows = f.rows; has_lanes = (or_parts (is_none r.lanes) false tests.1).0; lanes_parted = f.lanes })
+    (record {
+      lines_are = f.lines;
+      no_rows = f.rows;
+      has_lanes = (or_parts (is_none r.lanes) false tests.1).0;
+      lanes_parted = f.lanes;
+    })
 
 -- what is read behind a line
-pub split_on : {A : Type 0} (n : ℕ) (o : Result Reading Code) (rest : Reading → Result A (ℕ × Code)) (a : A) → (on_line n o >>= rest) ≡ Ok a
+pub split_on : {A : Type 0} (n : ℕ) (o : Result Reading Code) (rest : Reading → Result A (ℕ × Code)) (a : A)
+    → (on_line n o >>= rest) ≡ Ok a
     → (t : Reading) × (o ≡ Ok t) × (rest t ≡ Ok a)
 split_on n (Ok t) rest a e = (t, refl, e)
 split_on n (Err code) rest a e = absurd (cc)
 
 pub some_more : (r : Reading) (line : List ℕ) (lines : List (List ℕ)) (last : List ℕ)
-    → lines_from r (line ∷ (lines ++ last ∷ [])) ≡ (on_line r.line (line_at r false line) >>= λ t. lines_from t (lines ++ last ∷ []))
+    → lines_from r (line ∷ (lines ++ last ∷ [])) ≡
+    (on_line r.line (line_at r false line) >>= λ t. lines_from t (lines ++ last ∷ []))
 unfolding lines_from
 some_more r line [] last = refl
 some_more r line (next ∷ lines) last = refl

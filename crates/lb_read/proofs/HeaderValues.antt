@@ -1,5 +1,7 @@
 -- The fields of a good line of a trace, with its lists in their one spelling, are those that a header
 -- writes for what was read of it.
+-- For the lemmas of `HeaderSound` and `Room`, and so for the laws `headers_read_back`, `texts_read_once` and
+-- `histories_read_back`.
 use Rattle.std.proofs.Common.{◌≡◌, ℕ, ◌<◌, ◌^◌, ℤ, Bool, true, false, ◌||◌, eqb, List, [], ◌∷◌, map, length, Option, Some, None, refl, sym, ap, ◌∙◌, inl, inr, arith}
 use Rattle.std.specs.Prelude.{decimal, is_none, is_some}
 use Rattle.std.specs.Fmt.{signed_decimal}

@@ -1,4 +1,6 @@
 -- The readers of entries, by their kinds, and of whole lines are exact.
+-- For the lemmas of `EntriesExact` and `Exactly`, and so for the laws `lines_read_exactly`, `texts_read_once` and
+-- others.
 use Rattle.std.proofs.Common.{◌≡◌, ℕ, Bool, true, false, ◌&&◌, eqb, cond, List, [], ◌∷◌, ◌++◌, map, length, Option, Some, None, refl, sym, ap, ◌∙◌, arith}
 use Rattle.std.specs.Prelude.{decimal, codes, option_and_then}
 use Rattle.std.specs.Fmt.{signed_decimal}
@@ -134,7 +136,11 @@ replies_exact =
 
 requests_exact : IsExact (named request_words) request_word any_value
 requests_exact =
-    record { sound = named_sound request_word any_value request_words (refl, refl, (refl, refl, tt)); complete = λ k f. request_back k }
+    record {
+      sound = named_sound request_word any_value request_words (refl, refl, (refl, refl, tt));
+      complete = λ k f.
+          request_back k;
+    }
   where
     request_back : (k : AskReply) → named request_words (request_word k) ≡ Some k
     request_back requests.New = refl
@@ -203,7 +209,15 @@ whats_named =
                 (
                   refl,
                   refl,
-                  (refl, refl, (refl, refl, (refl, refl, (refl, refl, (refl, refl, (refl, refl, (refl, refl, (refl, refl, tt)))))))),
+                  (
+                    refl,
+                    refl,
+                    (
+                      refl,
+                      refl,
+                      (refl, refl, (refl, refl, (refl, refl, (refl, refl, (refl, refl, (refl, refl, tt)))))),
+                    ),
+                  ),
                 ),
               ),
             ),
@@ -573,7 +587,8 @@ lone_ids_exact =
 abbrev close_reader : List (List ℕ) → Option (((ℕ × OutcomeWord) × ℕ) × ℕ)
 close_reader fields =
     whole
-    (next_to (next_to (next_to (take_field short_in) (take_field (named outcome_words))) (take_field long_in)) (take_field short_in)) fields
+    (next_to (next_to (next_to (take_field short_in) (take_field (named outcome_words))) (take_field long_in))
+    (take_field short_in)) fields
 
 abbrev close_texts : ((ℕ × OutcomeWord) × ℕ) × ℕ → List (List ℕ)
 close_texts p = decimal p.0.0.0 ∷ outcome_word p.0.0.1 ∷ decimal p.0.1 ∷ decimal p.1 ∷ []
@@ -733,7 +748,8 @@ entry_exact = record {
       let s = parts_exact.sound fields m.0 m.1 in
       (s.0 ∙ ap fields_of m.2, sym (ap written_fits m.2) ∙ s.1);
   complete =
-      λ w f. ap (option_map entry_from) (parts_exact.complete (((w.ticket, (w.entry.owner, w.entry.lane)), w.entry.prev), w.entry.what) f);
+      λ w f. ap (option_map entry_from) (parts_exact.complete
+      (((w.ticket, (w.entry.owner, w.entry.lane)), w.entry.prev), w.entry.what) f);
 }
 
 abbrev pub line_of : WrittenEntry → List ℕ

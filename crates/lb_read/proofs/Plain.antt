@@ -1,4 +1,5 @@
 -- The lines of a header have only bytes that may stand in a trace.
+-- For the lemmas of `Declared`, and so for the law `headers_read_back`.
 use Rattle.std.proofs.Common.{◌≡◌, ℕ, zero, suc, ◌+◌, ◌<◌, ◌%◌, ◌/◌, ℤ, pos, negsuc, true, false, eqb, List, [], ◌∷◌, ◌++◌, map, refl, arith, inl, inr}
 use Rattle.std.specs.Prelude.{decimal}
 use Rattle.std.specs.Fmt.{digit_glyph, digits_onto, digits, signed_decimal}

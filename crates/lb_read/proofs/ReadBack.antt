@@ -1,4 +1,5 @@
 -- The text of a history reads as the history.
+-- For the law `histories_read_back`.
 use Rattle.std.proofs.Common.{◌≡◌, ℕ, ◌+◌, ◌&&◌, List, [], ◌∷◌, ◌++◌, map, refl, sym, ap, subst, ◌∙◌}
 use Rattle.std.specs.List.{list_all}
 use Rattle.lb_core.specs.declared.entry.Entry.{Entry}

@@ -1,4 +1,5 @@
 -- A text is refused at the line where going over its lines stops.
+-- For the law `texts_read_once`, and `read_history`.
 use Rattle.std.proofs.Common.{◌≡◌, ℕ, suc, ◌+◌, ◌-◌, ◌≤◌, Bool, true, false, ◌&&◌, ◌||◌, eqb, leb, cond, List, [], ◌∷◌, ◌++◌, ◌==◌, length, drop, Option, Some, None, Result, Ok, Err, refl, sym, ap, subst, ◌∙◌, ◌⊎◌, inl, inr, arith, length-append}
 use Rattle.std.specs.Prelude.{codes, is_ok, is_some, not, IfOk, IfErr}
 use Rattle.std.specs.List.{slice_split, All}
@@ -120,7 +121,8 @@ one_line n head r parted left line next more f f_is number goes = elim (cases_Bo
       let none : f ≡ none_of false (line ∷ next ∷ more) = rw other at f_is in
       let same : n ≡ r.line = let len : length f.bodies ≡ 0 = ap (λ g. length g.bodies) none in omega (arith, number, len) in
       rw other
-      (ap (λ g. read_on n g (lines_from r (g.bodies ++ [] ∷ []))) none ∙ ap (read_on n (none_of false (line ∷ next ∷ more))) (ended_read r)
+      (ap (λ g. read_on n g (lines_from r (g.bodies ++ [] ∷ []))) none ∙ ap
+      (read_on n (none_of false (line ∷ next ∷ more))) (ended_read r)
       ∙ ap (λ k. read_on k (none_of false (line ∷ next ∷ more)) (on_line r.line (ended r))) same
       ∙ read_other r.line line next more (ended r))
   | inl rep ↦ elim (cases_Bool (can_repeat parted (drop 2 line) && has_room left (drop 2 line))) [
@@ -128,7 +130,8 @@ one_line n head r parted left line next more f f_is number goes = elim (cases_Bo
         let none : f ≡ none_of true (line ∷ next ∷ more) = rw (rep, cannot) at f_is in
         let same : n ≡ r.line = let len : length f.bodies ≡ 0 = ap (λ g. length g.bodies) none in omega (arith, number, len) in
         rw (rep, cannot)
-        (ap (λ g. read_on n g (lines_from r (g.bodies ++ [] ∷ []))) none ∙ ap (read_on n (none_of true (line ∷ next ∷ more))) (ended_read r)
+        (ap (λ g. read_on n g (lines_from r (g.bodies ++ [] ∷ []))) none ∙ ap
+        (read_on n (none_of true (line ∷ next ∷ more))) (ended_read r)
         ∙ ap (λ k. read_on k (none_of true (line ∷ next ∷ more)) (on_line r.line (ended r))) same
         ∙ read_stopped r.line (line ∷ next ∷ more) (ended r))
     | inl can ↦
@@ -198,7 +201,8 @@ trace_read bodies free fits =
     (Err (0, bad.TooLong))) le
     ∙ ap (λ ls. lines_from nothing_read ls >>= λ r. Ok (trace_of r)) cut
     ∙ ap (λ o. o >>= λ r. Ok (trace_of r))
-    (some_more nothing_read (codes "lbtrace,1") bodies [] ∙ ap (λ o. on_line 1 o >>= λ t. lines_from t (bodies ++ [] ∷ [])) version_is_read)
+    (some_more nothing_read (codes "lbtrace,1") bodies [] ∙ ap
+    (λ o. on_line 1 o >>= λ t. lines_from t (bodies ++ [] ∷ [])) version_is_read)
 
 from_walk : (header : Header) (o : Result (List WrittenEntry) ℕ) → bad_of (read_from header o) ≡ bad_of o
 from_walk header (Ok ws) = refl
@@ -219,7 +223,8 @@ behind_walk line lines free =
     let head = head_behind (line ∷ lines) in
     let f = head_sound room false (line ∷ lines) (omega arith) in
     ap (λ o. bad_of (read_after head (header_from head o)))
-    (trace_read head.bodies (bodies_free head.bodies head.rest (subst (EachFree 10) f.0 free)) (head_fits room false (line ∷ lines)))
+    (trace_read head.bodies (bodies_free head.bodies head.rest (subst (EachFree 10) f.0 free))
+    (head_fits room false (line ∷ lines)))
     ∙ after_walk head (lines_from version_read (head.bodies ++ [] ∷ []))
     ∙ header_walk (line_after head.bodies) version_read false room line lines 2 refl (omega arith)
 

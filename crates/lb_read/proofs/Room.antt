@@ -1,4 +1,5 @@
 -- The lines of the header of an accepted text are no longer than the text.
+-- For the law `headers_read_back`.
 use Rattle.std.proofs.Common.{◌≡◌, ℕ, ◌+◌, ◌≤◌, Bool, true, false, not, eqb, cond, List, [], ◌∷◌, ◌++◌, map, length, Option, Some, None, Ok, refl, sym, ap, subst, ◌∙◌, inl, inr, arith}
 use Rattle.std.specs.Prelude.{codes, is_some, unwrap_or, decimal}
 use Rattle.std.specs.Fmt.{signed_decimal}
@@ -77,7 +78,8 @@ numbered_more line n (y ∷ ys) x =
     omega (arith, more, a, b, e)
 
 from_zero : {A : Type 0} (line : ℕ → A → List ℕ) (xs : List A) (x : A)
-    → length (lines_text (numbered line 0 (xs ++ x ∷ []))) ≡ length (lines_text (numbered line 0 xs)) + (length (line (length xs) x) + 1)
+    → length (lines_text (numbered line 0 (xs ++ x ∷ []))) ≡ length
+    (lines_text (numbered line 0 xs)) + (length (line (length xs) x) + 1)
 from_zero line xs x =
     let m = numbered_more line 0 xs x in let z : 0 + length xs ≡ length xs = omega arith in
     let e : length (line (0 + length xs) x) ≡ length (line (length xs) x) = ap (λ k. length (line k x)) z in omega (arith, m, e)
@@ -239,7 +241,8 @@ other_kind word rest p t l c d = elim (cases_Bool (bytes_eq word (codes "lbtrace
   | inr not_it ↦ rw (not_it, c, d, p, l, t) (beside_none word
       ((codes "wake", kinds.Row rows.Wake) ∷ (codes "sleep", kinds.Row rows.Sleep) ∷
       (codes "exit", kinds.Row rows.Exit) ∷ (codes "mask", kinds.Row rows.Mask) ∷
-      (codes "nice", kinds.Row rows.Nice) ∷ (codes "tick", kinds.Row rows.Tick) ∷ (codes "rebuild", kinds.Row rows.Rebuild) ∷ []) refl)
+      (codes "nice", kinds.Row rows.Nice) ∷ (codes "tick", kinds.Row rows.Tick) ∷
+      (codes "rebuild", kinds.Row rows.Rebuild) ∷ []) refl)
 ]
 
 grows : (r : Reading) (fields : List (List ℕ)) → Tested r fields → Grows r (after_line r (line_kind fields) fields) fields
@@ -364,7 +367,8 @@ header_fits n s (Some parts) (Some lanes) p_is l_is grown fits a =
     let same =
     ap
     (λ (o : Option (List Mask)). length (trace_text
-    (bodies s.cpus s.distances (Some (unwrap_or o (first_cpus (length s.cpus) ∷ []))) (Some (unwrap_or s.lanes 0)) s.tasks))) p_is in
+    (bodies s.cpus s.distances (Some (unwrap_or o (first_cpus (length s.cpus) ∷ []))) (Some (unwrap_or s.lanes 0))
+    s.tasks))) p_is in
     let also =
     ap (λ (o : Option ℕ). length (trace_text (bodies s.cpus s.distances (Some parts) (Some (unwrap_or o 0)) s.tasks))) l_is in
     omega (arith, more, whole, ps, ls, lines, same, also, fits)

@@ -1,5 +1,6 @@
 -- The one spelling of a list of CPUs is no longer than any other: each end of a run that is written is
 -- an end of some item of the other.
+-- For the lemmas of `Room`, and so for the law `headers_read_back`.
 use Rattle.std.proofs.Common.{◌≡◌, ℕ, zero, suc, ◌+◌, ◌<◌, ◌≤◌, Bool, true, false, ◌&&◌, ◌||◌, eqb, ltb, leb, cond, List, [], ◌∷◌, ◌++◌, map, length, Option, Some, None, refl, sym, ap, subst, ◌∙◌, inl, inr, arith}
 use Rattle.std.specs.Prelude.{◌⊎◌, decimal, option_and_then}
 use Rattle.std.specs.Option.{option_map}
@@ -36,7 +37,8 @@ run_cost : (run : Run) → length (run_text run) + 1 ≡ cost run
 run_cost run = by_test (eqb run.0 run.1)
   where
     by_test : (b : Bool)
-        → length (cond b (decimal run.0) (decimal run.0 ++ 45 ∷ decimal run.1)) + 1 ≡ cond b (width run.0) (width run.0 + width run.1)
+        → length (cond b (decimal run.0) (decimal run.0 ++ 45 ∷ decimal run.1)) + 1 ≡ cond b (width run.0)
+        (width run.0 + width run.1)
     by_test true = refl
     by_test false = let l = length-append (decimal run.0) (45 ∷ decimal run.1) in omega (arith, l)
 
@@ -72,7 +74,8 @@ one_item text cpu (Some n) run whole e f =
     subst (IsItem text) is (record { enough = rw (eq-eqb n n refl) (omega (arith, same)); low = omega (arith, most) })
 
 two_items : (text first last : List ℕ) (a : ℕ) (o : Option ℕ) (run : Run) → text ≡ first ++ 45 ∷ last
-    → first ≡ decimal a → number_within a 63 last ≡ o → option_map (λ (n : ℕ). let r : Run = (a, n) in r) o ≡ Some run → IsItem text run
+    → first ≡ decimal a → number_within a 63 last ≡ o → option_map (λ (n : ℕ). let r : Run = (a, n) in r) o ≡ Some run
+    → IsItem text run
 two_items text first last a None run whole is e f = absurd (let z : ⊥ = cc in z)
 two_items text first last a (Some b) run whole is e f =
     let same : (let r : Run = (a, b) in r) ≡ run = cc in
@@ -171,7 +174,8 @@ total_or p q zero = omega arith
 total_or p q (suc n) = by_test (p n) (q n) (total_or p q n)
   where
     by_test : (b c : Bool) → total (λ k. p k || q k) n ≤ total p n + total q n
-        → total (λ k. p k || q k) n + cond (b || c) (width n) 0 ≤ (total p n + cond b (width n) 0) + (total q n + cond c (width n) 0)
+        → total (λ k. p k || q k) n + cond (b || c) (width n)
+        0 ≤ (total p n + cond b (width n) 0) + (total q n + cond c (width n) 0)
     by_test true true m = omega (arith, m)
     by_test true false m = omega (arith, m)
     by_test false true m = omega (arith, m)
@@ -182,7 +186,8 @@ total_apart p q zero each = omega arith
 total_apart p q (suc n) each = by_test (p n) (q n) (each n) (total_apart p q n each)
   where
     by_test : (b c : Bool) → (b ≡ true → c ≡ false) → total p n + total q n ≤ total (λ k. p k || q k) n
-        → (total p n + cond b (width n) 0) + (total q n + cond c (width n) 0) ≤ total (λ k. p k || q k) n + cond (b || c) (width n) 0
+        → (total p n + cond b (width n) 0) + (total q n + cond c (width n) 0) ≤ total (λ k. p k || q k) n + cond
+        (b || c) (width n) 0
     by_test true true f m = absurd (let z = f refl in let y : ⊥ = cc in y)
     by_test true false f m = omega (arith, m)
     by_test false true f m = omega (arith, m)
@@ -374,7 +379,8 @@ item_edge run k c t all (inl f) = elim (cases_eq k run.0) [
     before : (k : ℕ) → run.0 ≤ k → k ≤ run.1 → (k ≡ run.0 → ⊥) → ((j : ℕ) → j + 1 ≡ k → c j ≡ false) → ⊥
     before zero low high other f = other (omega (arith, low))
     before (suc j) low high other f =
-        let y = all j (it_has j run (omega (arith, low, other)) (omega (arith, high))) in let n = f j (omega arith) in let z : ⊥ = cc in z
+        let y = all j (it_has j run (omega (arith, low, other)) (omega (arith, high))) in let n = f j (omega arith) in
+        let z : ⊥ = cc in z
 item_edge run k c t all (inr g) = elim (cases_eq k run.1) [
   | inl same ↦ rw (eq-eqb k run.1 same) (or_true (eqb k run.0))
   | inr other ↦
@@ -448,7 +454,8 @@ pub lists_are_short : (text : List ℕ) (mask : Mask) → list_of text ≡ Some 
 unfolding runs_text list_of
 lists_are_short [] mask e =
     let none : no_cpus ≡ mask = cc in subst
-    (λ (m : Mask). length (join_with_byte 59 (map run_text (runs_of (members m)))) ≤ 0) none (let z = empty_length in omega (arith, z))
+    (λ (m : Mask). length (join_with_byte 59 (map run_text (runs_of (members m)))) ≤ 0) none
+    (let z = empty_length in omega (arith, z))
 lists_are_short (b ∷ text) mask e =
     let fits = lists_fit (b ∷ text) mask e in
     let w = writes_runs mask fits in

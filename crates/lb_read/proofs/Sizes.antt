@@ -1,4 +1,5 @@
--- How long the lines of a header are at most.
+-- How long the lines of a header are at most, in bytes.
+-- For the lemmas of `Room` and `Shortest`, and so for the law `headers_read_back`.
 use Rattle.std.proofs.Common.{◌≡◌, ℕ, ℤ, pos, negsuc, suc, ◌+◌, ◌*◌, ◌<◌, ◌≤◌, Bool, true, false, ◌&&◌, eqb, ltb, cond, List, [], ◌∷◌, ◌++◌, map, length, Some, refl, ap, arith}
 use Rattle.std.specs.Prelude.{codes, decimal}
 use Rattle.std.specs.Fmt.{signed_decimal}
@@ -228,7 +229,8 @@ headers_have_room h a few =
     let behind = text_append (map distances_body h.distances) tail in
     let whole = text_append (numbered cpu_body 0 h.cpus) (map distances_body h.distances ++ tail) in
     let first = line_length (codes "lbtrace,1") (bodies h.cpus h.distances (Some h.parts) (Some h.lanes) h.tasks) in
-    let same : length (trace_text (trace_lines h)) ≡ length (trace_text (bodies h.cpus h.distances (Some h.parts) (Some h.lanes) h.tasks)) =
+    let same : length (trace_text (trace_lines h)) ≡ length
+    (trace_text (bodies h.cpus h.distances (Some h.parts) (Some h.lanes) h.tasks)) =
     ap (λ ls. length (trace_text ls)) (lines_are h) in
     omega (
       arith,

@@ -1,4 +1,5 @@
 -- Going over lines from the first place stops at the first bad one.
+-- For the lemmas of `Refusals`, and so for the laws `texts_read_once` and `histories_read_back`.
 use Rattle.std.proofs.Common.{◌≡◌, ℕ, zero, suc, ◌+◌, ◌<◌, Bool, true, false, ◌&&◌, List, [], ◌∷◌, ◌==◌, cond, length, take, drop, Option, Some, None, refl, ap, ◌∙◌, inl, inr, arith}
 use Rattle.std.specs.Prelude.{fold, is_none, not, unwrap_or}
 use Rattle.std.proofs.lemmas.Bool.{cases_Bool, cases_order, both_ways}
@@ -45,7 +46,8 @@ on_last place n m last e = elim (cases_Bool (may_end place && length last == 0))
 ]
 
 before_more : (place after : Place) (line next : List ℕ) (more : List (List ℕ)) (k : ℕ) → place_next place line ≡ Some after
-    → ((j : ℕ) → j < k → bad_from after (next ∷ more) j ≡ false) → (j : ℕ) → j < suc k → bad_from place (line ∷ next ∷ more) j ≡ false
+    → ((j : ℕ) → j < k → bad_from after (next ∷ more) j ≡ false) → (j : ℕ) → j < suc k
+    → bad_from place (line ∷ next ∷ more) j ≡ false
 before_more place after line next more k at rest zero lt = ap is_none at
 before_more place after line next more k at rest (suc j) lt = later place after line next more j at ∙ rest j (omega (arith, lt))
 
@@ -82,7 +84,8 @@ good_last place n last e zero lt = elim (cases_Bool (may_end place && length las
 ]
 
 good_more : (place : Place) (n : ℕ) (line next : List ℕ) (more : List (List ℕ)) (o : Option Place) → place_next place line ≡ o
-    → ((q : Place) → walk q (n + 1) (next ∷ more) ≡ None → (k : ℕ) → k < length (next ∷ more) → bad_from q (next ∷ more) k ≡ false)
+    → ((q : Place) → walk q (n + 1) (next ∷ more) ≡ None → (k : ℕ) → k < length (next ∷ more) → bad_from q (next ∷ more)
+    k ≡ false)
     → walk_on n o (λ q. walk q (n + 1) (next ∷ more)) ≡ None → (k : ℕ) → k < length (line ∷ next ∷ more)
     → bad_from place (line ∷ next ∷ more) k ≡ false
 good_more place n line next more None at rest e k lt = absurd (cc)

@@ -1,4 +1,6 @@
 -- What is read of a text is a header and entries of which the text is the text.
+-- For the lemmas of `Declared`, `Refusals` and `Room`, and so for the laws `texts_read_once`, `headers_read_back` and
+-- `histories_read_back`.
 use Rattle.std.proofs.Common.{◌≡◌, ℕ, ◌+◌, ◌-◌, ◌≤◌, Bool, true, false, ◌&&◌, ◌||◌, eqb, leb, cond, List, [], ◌∷◌, ◌++◌, map, length, take, drop, Option, Some, None, Result, Ok, Err, refl, sym, ap, subst, ◌∙◌, inl, inr, arith, append_assoc}
 use Rattle.std.specs.Prelude.{codes, is_some, not, unwrap_or}
 use Rattle.std.specs.List.{list_all, slice_split, onto_first, join_with_byte, All}
@@ -153,7 +155,8 @@ header_as cpus table parts lanes tasks =
     (λ ls. map as_line (numbered cpu_body 0 cpus) ++ (ls ++ (parts_line parts ∷ lanes_line lanes ∷ numbered task_line 0 tasks)))
     (distances_as table)
     ∙ ap
-    (λ ls. map as_line (numbered cpu_body 0 cpus) ++ (map as_line (map distances_body table) ++ (parts_line parts ∷ lanes_line lanes ∷ ls)))
+    (λ ls. map as_line (numbered cpu_body 0 cpus) ++
+    (map as_line (map distances_body table) ++ (parts_line parts ∷ lanes_line lanes ∷ ls)))
     (tasks_as 0 tasks)
     ∙ ap (λ ls. map as_line (numbered cpu_body 0 cpus) ++ ls) (sym (map_append (map distances_body table) tail))
     ∙ sym (map_append (numbered cpu_body 0 cpus) (map distances_body table ++ tail)))
@@ -180,7 +183,14 @@ printed_some s lines (Some parts) (Some lanes) p l a some_p some_l = record {
         tasks = s.tasks;
       })) p
       ∙ ap
-      (λ o. header_lines (record { cpus = s.cpus; distances = s.distances; parts = parts; lanes = unwrap_or o 0; tasks = s.tasks })) l
+      (λ o. header_lines (record {
+        cpus = s.cpus;
+        distances = s.distances;
+        parts = parts;
+        lanes = unwrap_or o 0;
+        tasks =
+            s.tasks;
+      })) l
       ∙ header_as s.cpus s.distances parts lanes s.tasks
       ∙ ap (λ o. version_line ∷ map as_line (bodies s.cpus s.distances o (Some lanes) s.tasks)) (sym p)
       ∙ ap (λ o. version_line ∷ map as_line (bodies s.cpus s.distances s.parts o s.tasks)) (sym l)
@@ -247,7 +257,8 @@ after_part f (Ok header) read e = from_part header (entries_in (line_after f.bod
         → (◌≡◌ {A = Result Header ℕ} (Ok header) (Ok read.header)) × (o ≡ Ok read.entries)
     from_part header (Err n) read e = absurd (ok_err read n e)
     from_part header (Ok ws) read e =
-        let is = same_ok (record { header = header; entries = ws }) read e in (ap (λ r. Ok r.header) is, ap (λ r. Ok r.entries) is)
+        let is = same_ok (record { header = header; entries = ws }) read e in
+        (ap (λ r. Ok r.header) is, ap (λ r. Ok r.entries) is)
 
 behind_sound : (lines : List (List ℕ)) (read : Read) → EachFree 10 lines → read_behind lines ≡ Ok read
     → IsDeclared read.header × (list_all written_fits read.entries ≡ true)

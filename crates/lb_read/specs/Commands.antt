@@ -1,4 +1,5 @@
 -- How it is read what a row asks for, with its moment.
+-- Cited by the contracts of `command_in`, `wake_in`, `sleep_in` and others.
 use Rattle.std.specs.Prelude.{ℕ, List, ◌==◌, Option, Some, None, option_and_then, if◌then◌else◌, ℤ, length}
 use Rattle.lb_read.specs.declared.kinds.CommandKind.{CommandKind}
 use Rattle.std.specs.Option.{option_map}

@@ -1,4 +1,5 @@
 -- How the decision of a look is read.
+-- Cited by the contracts of `decision_in` and `pull_in`.
 use Rattle.std.specs.Prelude.{ℕ, List, Option}
 use Rattle.lb_base.specs.declared.view.MoveKind.{MoveKind}
 use Rattle.lb_read.specs.declared.kinds.DecisionKind.{DecisionKind}

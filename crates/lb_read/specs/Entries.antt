@@ -1,5 +1,6 @@
 -- How the line of an entry is read: its ticket, its owner, the ticket of the lane's entry before it, and
 -- what it says, with a space between each two fields.
+-- Cited by the contracts of `entry_of` and `origin_in`.
 use Rattle.std.specs.Prelude.{ℕ, List, Option}
 use Rattle.std.specs.Option.{option_map}
 use Rattle.lb_core.specs.declared.entry.Owner.{Owner}

@@ -1,5 +1,6 @@
 -- Readers of lists of fields, put together from readers of one field, and what it says that a reader
 -- is exact for a spelling.
+-- Cited by the contracts of `decision_in`, `next_long`, `next_short` and others.
 use Rattle.std.specs.Prelude.{◌≡◌, ℕ, ◌==◌, Bool, true, List, [], ◌∷◌, ◌++◌, Option, Some, None, option_and_then, if◌then◌else◌}
 use Rattle.std.specs.Option.{option_map}
 use Rattle.std.specs.List.{slice_split}

@@ -1,5 +1,6 @@
 -- How one field of an entry is read: a number, a list of CPUs, numbers of tasks, figures, a target. Each
 -- is read in its one spelling.
+-- Cited by the contracts of `mask_in`, `ids_in`, `figures_in` and others.
 use Rattle.std.specs.Prelude.{ℕ, List, [], codes, Option, Some, None, option_and_then, if◌then◌else◌}
 use Rattle.std.specs.Option.{option_map}
 use Rattle.std.specs.Str.{bytes_eq}

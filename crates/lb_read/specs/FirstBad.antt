@@ -1,6 +1,7 @@
 -- Which line of a text is the first that is no line of a history at its place. What may stand at a place
 -- is said by the lines before it: the first line; then the lines of the header, each read as a line of
 -- the trace that it repeats; and, once the header has its lanes, the entries.
+-- Cited by the contract of `read_history`; also by `lb`.
 use Rattle.std.specs.Prelude.{◌≡◌, ℕ, ◌+◌, ◌-◌, ◌<◌, ◌==◌, Bool, true, false, not, ◌&&◌, ◌||◌, List, [], ◌∷◌, length, take, drop, fold, Option, Some, None, is_some, is_none, unwrap_or, if◌then◌else◌, Result, Ok, Err, is_ok}
 use Rattle.std.specs.Str.{bytes_eq}
 use Rattle.lb_trace.specs.declared.trace.Code.{Code}

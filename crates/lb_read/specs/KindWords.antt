@@ -1,4 +1,5 @@
 -- The words of decisions, of commands and of entries, each with its kind.
+-- Cited by the contracts of `decision_in`, `decision_named`, `next_command` and others.
 use Rattle.std.specs.Prelude.{ℕ, List, [], ◌∷◌, codes}
 use Rattle.lb_read.specs.declared.kinds.WhatKind.{WhatKind}
 use Rattle.lb_read.specs.declared.kinds.WhatKind.TheVariants as whats

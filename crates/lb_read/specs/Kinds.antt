@@ -1,5 +1,6 @@
 -- How it is read what an entry says: the fields behind the word of its kind. It is trusted: by Entries, FirstBad and Laws
 -- rest on it.
+-- Cited by the contracts of `what_in`, `row_in`, `adopt_in` and others.
 use Rattle.std.specs.Prelude.{ℕ, List, Option}
 use Rattle.lb_base.specs.declared.shape.Kind.{Kind}
 use Rattle.lb_queue.specs.declared.answers.Reply.{Reply}

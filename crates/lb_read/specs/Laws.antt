@@ -1,4 +1,6 @@
 -- Laws of the texts that read as histories.
+-- Cited by the laws `lines_read_exactly`, `texts_read_once`, `headers_read_back` and `histories_read_back`; also by
+-- `lb`.
 use Rattle.std.specs.Prelude.{◌≡◌, ℕ, ◌⊎◌, ◌↔◌, true, List, Some, Ok}
 use Rattle.lb_trace.specs.declared.trace.Trace.{Trace}
 use Rattle.lb_trace.specs.Grammar.{reading_of}

@@ -1,5 +1,6 @@
 -- How it is read whose an entry is, and which lane drew it: `L` and the lane; `Q`, the CPU, `@` and the
 -- lane; or `P@` and the lane.
+-- Cited by the contracts of `owner_in`, `publisher_in` and `queue_in`.
 use Rattle.std.specs.Prelude.{ℕ, List, [], ◌∷◌, ◌==◌, Option, None, if◌then◌else◌}
 use Rattle.std.specs.Option.{option_map}
 use Rattle.lb_core.specs.declared.entry.Owner.{Owner}

@@ -1,6 +1,7 @@
 -- The lines of a history's header: behind `= ` each repeats a line of a trace that declares the machine,
 -- its partition, its lanes or a task, with its lists of CPUs in their one spelling. The partition stands
 -- before the lanes.
+-- Cited by the contracts of `can_follow`, `parted_by`, `is_spelled` and others.
 use Rattle.std.specs.Prelude.{ℕ, ◌+◌, ◌-◌, ◌==◌, nat_le, Bool, true, false, not, ◌&&◌, ◌||◌, List, [], ◌∷◌, length, take, drop, Option, Some, None, if◌then◌else◌, codes}
 use Rattle.std.specs.List.{slice_split, list_all}
 use Rattle.std.specs.Str.{bytes_eq}

@@ -1,5 +1,6 @@
 -- The text of a history, line after line: the header and the entries that it reads as, or its first bad
 -- line, from 1.
+-- Cited by the contracts of `header_in`, `first_line`, `head_of` and others; also by `lb`.
 use Rattle.std.specs.Prelude.{◌≡◌, ℕ, ◌+◌, ◌-◌, ◌==◌, false, List, [], ◌∷◌, length, Option, Some, None, if◌then◌else◌, codes, Result, Ok, Err}
 use Rattle.std.specs.List.{slice_split}
 use Rattle.std.specs.Str.{bytes_eq}

@@ -1,6 +1,7 @@
 -- What it says that a text reads as a history, by texts alone: it is the text of a header and of entries
 -- with their tickets; the header's lines without `= ` are, behind `lbtrace,1`, an accepted trace without
 -- rows, and that trace has this header; and what each entry says is in range.
+-- Cited by the contract of `read_history`; also by `lb` and `lb_audit`.
 use Rattle.std.specs.Prelude.{◌≡◌, ℕ, true, List, [], ◌++◌, drop, map, Result, Ok, Err}
 use Rattle.std.specs.List.{list_all}
 use Rattle.lb_trace.specs.declared.trace.Code.{Code}

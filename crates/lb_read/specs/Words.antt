@@ -1,5 +1,6 @@
 -- The words that stand in entries, each beside what it says: why a turn is made, what a pull is to even
 -- out, what a queue answers, why tasks leave it, and how a position ends.
+-- Cited by the contracts of `turn_named`, `move_named`, `reply_named` and others.
 use Rattle.std.specs.Prelude.{ℕ, List, [], ◌∷◌, codes}
 use Rattle.lb_base.specs.declared.shape.Kind.{Kind}
 use Rattle.lb_base.specs.declared.shape.Kind.TheVariants as kinds

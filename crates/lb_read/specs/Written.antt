@@ -1,5 +1,7 @@
 -- Entries as a text has them, each with the ticket that is written on its line; and what is read of the
 -- text of a history, whose entries have their places as tickets, from 1.
+-- For the definitions of `Laws` and `Whole`, and so for the laws `lines_read_exactly`, `texts_read_once` and others;
+-- cited by `lb` and `lb_audit`.
 use Rattle.std.specs.Prelude.{ℕ, ◌+◌, Bool, List, [], ◌∷◌}
 use Rattle.lb_core.specs.declared.entry.Entry.{Entry}
 use Rattle.lb_core.specs.declared.history.History.{History}

@@ -1,4 +1,5 @@
 -- What the calls of a queue ask holds in every ready machine.
+-- For the law `calls_may_be_made`.
 use Rattle.std.proofs.Common.{arith, ◌≡◌, ℕ, ℤ, pos, negsuc, ◌≤ℤ◌, zero, suc, ◌<◌, ◌≤◌, Bool, true, false, cond, ◌==◌, ◌&&◌, ◌||◌, List, [], ◌∷◌, length, map, find, ltb, get_or, Option, Some, None, is_some, refl, sym, ◌∙◌, ap, subst, slice_get, not, ◌-◌}
 use Rattle.std.specs.Prelude.{IfSome, MatchOption}
 use Rattle.std.proofs.lemmas.Bool.{and_parts, or_parts, eqb-true, eq-eqb, leb-true, not-true, not-false}
@@ -102,7 +103,8 @@ if_each : {X : Type 0} (o : Option X) (P : X → Type 0) → ((x : X) → o ≡ 
 if_each None P f = tt
 if_each (Some x) P f = f x refl
 
-leaves_rightly : (f : Form) (h : Header) (c : Course) (q : QueueState) → IfSome (out_by f h c q) (λ l. LeavingAsks l.cause c.command l.to q)
+leaves_rightly : (f : Form) (h : Header) (c : Course) (q : QueueState) → IfSome (out_by f h c q)
+    (λ l. LeavingAsks l.cause c.command l.to q)
 leaves_rightly f h c q = if_each (out_by f h c q) (λ l. LeavingAsks l.cause c.command l.to q)
     (λ l e. of_out (λ (l : Leaving). LeavingAsks l.cause c.command l.to q) f h c q l (record {
       wake = λ t to i j a. rw j a;
@@ -145,17 +147,21 @@ nowhere f t xs z = by_test (find (λ x. f x == t) xs) refl
         absurd (omega arith)
 
 -- ---- where a task is
-nowhere_else : (m : MachineState) (t : ℕ) (p : Place) → IsPlaced m → same_place p (place_at m t) ≡ false → occurs t (standing m p) ≡ 0
+nowhere_else : (m : MachineState) (t : ℕ) (p : Place) → IsPlaced m → same_place p (place_at m t) ≡ false
+    → occurs t (standing m p) ≡ 0
 nowhere_else m t p placed n = placed.once p t ∙ rw (n, and_false (ltb t (length m.places))) refl
 
 pub tasks_stand : TasksStand
 tasks_stand m t k lt = by_place (place_at m t) refl
   where
-    awake : (cpu : ℕ) → same_place (AwakeAt cpu) (place_at m t) ≡ false → is_some (awake_with t (queue_at m.queues cpu).awake) ≡ false
+    awake : (cpu : ℕ) → same_place (AwakeAt cpu) (place_at m t) ≡ false
+        → is_some (awake_with t (queue_at m.queues cpu).awake) ≡ false
     awake cpu n = nowhere (λ (a : Awake). a.task.id) t (queue_at m.queues cpu).awake (nowhere_else m t (AwakeAt cpu) k.placed n)
 
-    asleep : (cpu : ℕ) → same_place (AsleepAt cpu) (place_at m t) ≡ false → is_some (task_with t (queue_at m.queues cpu).asleep) ≡ false
-    asleep cpu n = nowhere (λ (x : TaskRecord). x.id) t (queue_at m.queues cpu).asleep (nowhere_else m t (AsleepAt cpu) k.placed n)
+    asleep : (cpu : ℕ) → same_place (AsleepAt cpu) (place_at m t) ≡ false
+        → is_some (task_with t (queue_at m.queues cpu).asleep) ≡ false
+    asleep cpu n = nowhere (λ (x : TaskRecord). x.id) t (queue_at m.queues cpu).asleep
+        (nowhere_else m t (AsleepAt cpu) k.placed n)
 
     gone : (cpu : ℕ) → same_place (GoneAt cpu) (place_at m t) ≡ false → is_some (task_with t (queue_at m.queues cpu).gone) ≡ false
     gone cpu n = nowhere (λ (x : TaskRecord). x.id) t (queue_at m.queues cpu).gone (nowhere_else m t (GoneAt cpu) k.placed n)
@@ -204,15 +210,18 @@ landing_asks m lane cpu k lt e = record {
         let h = there_at (λ (x : TaskRecord). x.id) (course_at m.courses lane).hand i d inside in
         or_none _ _ (or_none _ _ (nowhere (λ (a : Awake). a.task.id) t.id (queue_at m.queues cpu).awake
         (elsewhere m t.id lane (AwakeAt cpu) k.placed h refl))
-        (nowhere (λ (x : TaskRecord). x.id) t.id (queue_at m.queues cpu).asleep (elsewhere m t.id lane (AsleepAt cpu) k.placed h refl)))
-        (nowhere (λ (x : TaskRecord). x.id) t.id (queue_at m.queues cpu).gone (elsewhere m t.id lane (GoneAt cpu) k.placed h refl));
+        (nowhere (λ (x : TaskRecord). x.id) t.id (queue_at m.queues cpu).asleep
+        (elsewhere m t.id lane (AsleepAt cpu) k.placed h refl)))
+        (nowhere (λ (x : TaskRecord). x.id) t.id (queue_at m.queues cpu).gone
+        (elsewhere m t.id lane (GoneAt cpu) k.placed h refl));
   };
 }
 
 -- ---- turns
 -- where a turn opens, the queue is that of the course's CPU
 abbrev AtTurn : MachineState → ℕ → ℕ → Type 0
-AtTurn m lane cpu = (cpu ≡ (course_at m.courses lane).cpu) × IsVersion m (course_at m.courses lane).version (course_at m.courses lane).masks
+AtTurn m lane cpu = (cpu ≡ (course_at m.courses lane).cpu) × IsVersion m (course_at m.courses lane).version
+    (course_at m.courses lane).masks
 
 fit_of : (m : MachineState) (cpu : ℕ) (q : QueueState) (version : ℕ) (masks : List Mask)
     → FitsDomains (length m.versions) (domains_in_version m q.version cpu) q → IsVersion m version masks
@@ -228,7 +237,8 @@ fit_of m cpu q version masks k v e = by_counters q.counters k.counters
         ∙ ap (λ (x : List Mask). length (domains_of m.header.cpus m.header.distances x cpu)) same ∙ sym c
 
 fits_here : (m : MachineState) (lane cpu : ℕ) → AtTurn m lane cpu → IsReady m
-    → FitCounters (queue_at m.queues cpu) (course_at m.courses lane).version (shapes_of (turn_domains m.header (course_at m.courses lane)))
+    → FitCounters (queue_at m.queues cpu) (course_at m.courses lane).version
+    (shapes_of (turn_domains m.header (course_at m.courses lane)))
 fits_here m lane cpu t k =
     let c = course_at m.courses lane in
     subst (λ (u : ℕ). FitCounters (queue_at m.queues cpu) c.version
@@ -246,7 +256,8 @@ nodes_few cpus h = all_weaker is_cpu _ (λ row k. (and_parts _ _ k).1) cpus h
 
 pub few_domains : DomainLaws → (h : Header) (masks : List Mask) (cpu : ℕ) → IsHeader h
     → length (domains_of h.cpus h.distances masks cpu) ≤ 18
-few_domains laws h masks cpu accepted = laws.few h.cpus h.distances masks cpu (can_be_read h accepted) (nodes_few h.cpus accepted.cpus)
+few_domains laws h masks cpu accepted = laws.few h.cpus h.distances masks cpu (can_be_read h accepted)
+    (nodes_few h.cpus accepted.cpus)
 
 turn_asks : DomainLaws → (m : MachineState) (lane cpu : ℕ) → IsReady m → cpu < length m.header.cpus
     → AtTurn m lane cpu → (s : Sight) → s.header ≡ m.header → s.course ≡ course_at m.courses lane
@@ -293,7 +304,8 @@ form_asks laws LandedForm m lane cpu (Close p w i n) e k lt t d o s h c q =
     rw (h, c, q) (place_asks laws m lane cpu (eqb-true cpu (course_at m.courses lane).cpu o) t)
 form_asks laws f m lane cpu (Ask r) e k lt t d o s h c q = tt
 form_asks laws f m lane cpu (Kick r) e k lt t d o s h c q = tt
-form_asks laws Done m lane cpu Over e k lt t d o s h c q = let x = eqb-true cpu (course_at m.courses lane).cpu o in rw (q, x, t.opened) refl
+form_asks laws Done m lane cpu Over e k lt t d o s h c q = let x = eqb-true cpu (course_at m.courses lane).cpu o in rw
+    (q, x, t.opened) refl
 form_asks laws f m lane cpu w e k lt t d o s h c q = absurd (let y : ⊥ = cc in y)
 
 no_queue_is : (o : Owner) (due : Option ℕ) → is_no_queue o ≡ true → is_queue o due ≡ true → ⊥
@@ -346,7 +358,8 @@ calls_may_be_made laws m e k h = by_what e.owner e.lane e.prev e.what h (calls_m
 span_below : DomainLaws → (m : MachineState) (c : Course) (p : ℕ) → IsReady m → p < length (turn_domains m.header c)
     → (k : ℕ) → has (get_or (turn_domains m.header c) p no_domain).shape.span k ≡ true → k < 64
 span_below laws m c p r lt k y = let a =
-    (laws.inside m.header.cpus m.header.distances c.masks c.cpu p lt).in_machine k y in let b = r.accepted.most_cpus in omega arith
+    (laws.inside m.header.cpus m.header.distances c.masks c.cpu p lt).in_machine k y in let b = r.accepted.most_cpus in
+    omega arith
 
 spares_in : (f : Form) (h : Header) (c : Course) (q : QueueState) (lane p : ℕ) (x : Mask) (names : List FigName)
     (d : Decision) → draws f h c q lane (Look p x names d) ≡ true → Spares f h (unnamed c) → SparesLocal h c
@@ -437,13 +450,16 @@ looks_may_be_decided laws m e k h n = by_what e.owner e.lane e.prev e.what h n
           local = parts.own;
           kept = spares_in c.form m.header c (sight m e).queue lane p x names d lets.drawn (k.spares lane);
           figures = λ j y. let lt = narrow j y in let l =
-              length-map-range_with_len (λ cpu. fig_or_none (find (λ f. f.cpu == cpu) (figures_named m.figures names))) 0 64 in omega arith;
+              length-map-range_with_len (λ cpu. fig_or_none (find (λ f. f.cpu == cpu) (figures_named m.figures names)))
+              0 64 in omega arith;
           named = λ j y n. named_by o lane prev (Look p x names d) names (turn_domain m.header c).shape.span
               (not-false _ wrong.0) (look_due c.form (sight m e) lane p x names d lets.drawn) j (narrow j y) y n;
           sums = record {
             nr = small_sum (λ g. g.nr) figs c.excluded (turn_domain m.header c).groups parts.apart (λ j lt. (small j lt).nr);
-            load = small_sum (λ g. g.load) figs c.excluded (turn_domain m.header c).groups parts.apart (λ j lt. (small j lt).load);
-            util = small_sum (λ g. g.util) figs c.excluded (turn_domain m.header c).groups parts.apart (λ j lt. (small j lt).util);
+            load = small_sum (λ g. g.load) figs c.excluded (turn_domain m.header c).groups parts.apart
+                (λ j lt. (small j lt).load);
+            util = small_sum (λ g. g.util) figs c.excluded (turn_domain m.header c).groups parts.apart
+                (λ j lt. (small j lt).util);
             runnable = small_sum (λ g. g.runnable) figs c.excluded (turn_domain m.header c).groups parts.apart
                 (λ j lt. (small j lt).runnable);
           };
@@ -458,7 +474,8 @@ looks_may_be_decided laws m e k h n = by_what e.owner e.lane e.prev e.what h n
         let wrong = or_parts _ _ (or_parts (breaks_here Figure (sight m e) e) _ n).0 in
         record {
           figures = λ j y. let lt = narrow j y in let l =
-              length-map-range_with_len (λ cpu. fig_or_none (find (λ f. f.cpu == cpu) (figures_named m.figures names))) 0 64 in omega arith;
+              length-map-range_with_len (λ cpu. fig_or_none (find (λ f. f.cpu == cpu) (figures_named m.figures names)))
+              0 64 in omega arith;
           named = λ j y. named_by o lane prev (Scan names t) names (widest_span m.header c)
               (not-false _ wrong.0) due.0 j (narrow j y) y (ap (λ (x : Mask). has x j) due.1 ∙ none_excluded j);
         }

@@ -1,5 +1,7 @@
 -- What an entry changes in the machine: one course, at most one queue with its figures, and the
 -- published versions.
+-- For the lemmas of `Figures`, `Keeping` and other files, and so for the laws `calls_may_be_made`, `ready` and
+-- others.
 use Rattle.std.proofs.Common.{arith, ◌≡◌, ℕ, ◌+◌, ◌-◌, ◌<◌, ◌≤◌, Bool, true, false, cond, ◌==◌, if◌then◌else◌, List, [], ◌∷◌, ◌++◌, length, set, Option, Some, refl, sym, ◌∙◌, ap, inl, inr, length-set, get_or-set_same, get_or-set_other, length-append, get_or}
 use Rattle.std.proofs.lemmas.Bool.{cases_eq, eq-eqb, ne_eqb, cases_lt}
 use Rattle.std.proofs.lemmas.List.{get_or_past}
@@ -46,7 +48,8 @@ pub course_of_lane : (m : MachineState) (e : Entry) → MayBeAdded m e → cours
 unfolding after
 course_of_lane m e h = get_or-set_same m.courses e.lane _ no_course (lane_there m e h)
 
-pub course_elsewhere : (m : MachineState) (e : Entry) (l : ℕ) → (l ≡ e.lane → ⊥) → course_at (after m e).courses l ≡ course_at m.courses l
+pub course_elsewhere : (m : MachineState) (e : Entry) (l : ℕ) → (l ≡ e.lane → ⊥) → course_at (after m e).courses
+    l ≡ course_at m.courses l
 unfolding after
 course_elsewhere m e l n = get_or-set_other m.courses e.lane l (course_left m e) no_course n
 
@@ -154,7 +157,8 @@ sizes_kept m o lane prev w k h =
       few_versions = let a = (versions_more w (sight m e).course.command m.versions).1 in let b = k.few_versions in omega arith;
       published = λ cpu lt. let b = k.published cpu lt in let c =
           figures_now m o lane prev w cpu (k.queues ∙ sym k.figures) h in by_test (same_owner o (Queue cpu)) cpu lt c;
-      drawn = λ cpu. let a = (drawn_more m o lane prev w cpu (k.queues ∙ sym k.figures) h).1 in let b = k.drawn cpu in omega arith;
+      drawn = λ cpu. let a = (drawn_more m o lane prev w cpu (k.queues ∙ sym k.figures) h).1 in let b = k.drawn cpu in
+          omega arith;
       lasts = length-set m.last lane (m.ticket + 1) ∙ k.lasts;
       ticks = ticks_same w lane m.ticked ∙ k.ticks;
       last = set_under m.last (λ l. m.ticket + 1) lane (m.ticket + 1) (omega arith) (λ l. let b = k.last l in omega arith);

@@ -1,4 +1,5 @@
 -- The counters of a queue stay in range: those that a turn finds, and those that a close leaves.
+-- For the lemmas of `Keeping` and `Ranges`, and so for the laws `calls_may_be_made`, `ready` and others.
 use Rattle.std.proofs.Common.{arith, ◌≡◌, ℕ, suc, ◌+◌, ◌<◌, ◌≤◌, Bool, true, false, cond, ◌==◌, List, [], ◌∷◌, length, map, Option, Some, None, refl, sym, ltb, zero, ◌*◌, ◌-◌, ◌^◌, ◌||◌, set, inl, inr, get_or-set_same, get_or-set_other, length-set, unwrap_or, subst}
 use Rattle.std.specs.Prelude.{◌⊎◌}
 use Rattle.std.proofs.lemmas.Bool.{ltb-true, cases_eq, cases_lt}
@@ -38,12 +39,14 @@ doubled interval weight lt few = omega arith
 
 interval_in : (o : Outcome) (interval weight : ℕ) → interval ≤ 1024 → weight ≤ 64 → interval_after o interval weight ≤ 1024
 interval_in NotMine interval weight h few = h
-interval_in Balanced interval weight h few = pick _ _ _ 1024 (λ e. doubled interval weight (ltb-true interval (2 * weight) e) few) h
+interval_in Balanced interval weight h few = pick _ _ _ 1024
+    (λ e. doubled interval weight (ltb-true interval (2 * weight) e) few) h
 interval_in (Moved n) interval weight h few = omega arith
-interval_in Pinned interval weight h few = pick _ _ _ 1024 (λ e. elim (either_of (ltb interval (2 * weight)) (ltb interval 512) e) [
-  | inl less ↦ doubled interval weight (ltb-true interval (2 * weight) less) few
-  | inr less ↦ let lt = ltb-true interval 512 less in omega (arith, lt)
-]) h
+interval_in Pinned interval weight h few = pick _ _ _ 1024
+    (λ e. elim (either_of (ltb interval (2 * weight)) (ltb interval 512) e) [
+      | inl less ↦ doubled interval weight (ltb-true interval (2 * weight) less) few
+      | inr less ↦ let lt = ltb-true interval 512 less in omega (arith, lt)
+    ]) h
 interval_in Failed interval weight h few = omega arith
 interval_in Asking interval weight h few = omega arith
 
@@ -127,8 +130,10 @@ counters_in laws s lane (Out cause to ids) h = by_out (out_by s.course.form s.he
     by_out (Some l) e = subst AreInRange (sym (out_alike laws s.course.form s.header s.course s.queue l e).counted) h
 counters_in laws s lane (Landed ids) h =
     subst AreInRange (sym (land_alike laws s.queue s.course.at (cause_of s.course) s.course.moment s.course.hand).counted) h
-counters_in laws s lane (Turn ps) h = found_counters_in s.queue s.course.at s.course.version (shapes_of (turn_domains s.header s.course)) h
+counters_in laws s lane (Turn ps) h = found_counters_in s.queue s.course.at s.course.version
+    (shapes_of (turn_domains s.header s.course)) h
 counters_in laws s lane (Close p w i f) h =
     set_in (unwrap_or s.queue.counters []) (turn_domain s.header s.course).shape.position _
-    (closed_in s.queue s.course.at (turn_domain s.header s.course).shape (outcome_of s.header s.course) (flag_of s.course.taken) h) h
+    (closed_in s.queue s.course.at (turn_domain s.header s.course).shape (outcome_of s.header s.course)
+    (flag_of s.course.taken) h) h
 counters_in laws s lane w h = h

@@ -1,5 +1,7 @@
 -- How many numbers below a bound pass a test: more pass a wider test; and what a search over a range
 -- finds.
+-- For the lemmas of `Courses`, `Decisions` and other files, and so for the laws `lanes_suit`, `entries_fit` and
+-- others.
 use Rattle.std.proofs.Common.{◌/◌, ◌^◌, arith, ◌≡◌, ℕ, zero, suc, ◌+◌, ◌-◌, ◌<◌, ◌≤◌, Bool, true, false, not, cond, ◌≢◌, ◌==◌, ◌&&◌, ◌||◌, find, Some, refl, sym, ◌∙◌, ap, subst, sum_by, ltb, inl, inr}
 use Rattle.std.specs.List.{range_with_len}
 use Rattle.std.specs.Int.{bit_at}
@@ -24,7 +26,8 @@ cond_by P false x y h k = k
 abbrev one : Bool → ℕ
 one b = cond {A = ℕ} b 1 0
 
-sums : (f g : ℕ → ℕ) (i n : ℕ) → ((k : ℕ) → i ≤ k → k < i + n → f k ≤ g k) → sum_by f (range_with_len i n) ≤ sum_by g (range_with_len i n)
+sums : (f g : ℕ → ℕ) (i n : ℕ) → ((k : ℕ) → i ≤ k → k < i + n → f k ≤ g k) → sum_by f (range_with_len i n) ≤ sum_by g
+    (range_with_len i n)
 sums f g i zero h = omega arith
 sums f g i (suc n) h =
     let a = h i (omega arith) (omega arith) in
@@ -39,7 +42,8 @@ sums_less f g i (suc n) j l u e h =
     let x = sum_by-cons f i (range_with_len (i + 1) n) in
     let y = sum_by-cons g i (range_with_len (i + 1) n) in
     elim (cases_eq i j) [
-      | inl z ↦ let e' : f i < g i = rw z e in let b = sums f g (i + 1) n (λ k l u. h k (omega arith) (omega arith)) in omega arith
+      | inl z ↦ let e' : f i < g i = rw z e in let b = sums f g (i + 1) n (λ k l u. h k (omega arith) (omega arith)) in
+          omega arith
       | inr z ↦ let a = h i (omega arith) (omega arith) in let b =
           sums_less f g (i + 1) n j (omega arith) (omega arith) e (λ k l u. h k (omega arith) (omega arith)) in omega arith
     ]
@@ -84,7 +88,8 @@ all_count i (suc n) = let r = all_count (i + 1) n in omega (arith, sum_by-cons (
 
 pub count_most : (p : ℕ → Bool) (n : ℕ) → count_where p n ≤ n
 unfolding count_where
-count_most p n = let e = all_count 0 n in let s = sums (λ k. one (p k)) (λ k. 1) 0 n (λ k l u. ones (p k) true (λ h. refl)) in omega arith
+count_most p n = let e = all_count 0 n in let s = sums (λ k. one (p k)) (λ k. 1) 0 n
+    (λ k l u. ones (p k) true (λ h. refl)) in omega arith
 
 pub count_missing : (p : ℕ → Bool) (n j : ℕ) → j < n → p j ≡ false → count_where p n < n
 unfolding count_where
@@ -119,7 +124,8 @@ without_lacks g x k lt h =
     let a = and_parts (bit_set g.bits k) _ (sym (bit_set_and g.bits (2 ^ 64 - 1 - x.bits) k) ∙ h) in
     let small : x.bits < 2 ^ 64 = elim (cases_lt x.bits (2 ^ 64)) [
       | inl s ↦ s
-      | inr l ↦ let z : 2 ^ 64 - 1 - x.bits ≡ 0 = omega arith in let b = bit_set_zero k in let w = a.1 in absurd (let y : ⊥ = cc in y)
+      | inr l ↦ let z : 2 ^ 64 - 1 - x.bits ≡ 0 = omega arith in let b = bit_set_zero k in let w = a.1 in absurd
+          (let y : ⊥ = cc in y)
     ] in
     let b = bit_set_without (2 ^ 64 - 1) x.bits k (omega arith) small in
     let c = bit_set_and (2 ^ 64 - 1) (2 ^ 64 - 1 - x.bits) k in

@@ -1,5 +1,7 @@
 -- What a course becomes: to show something of the course after an entry, show it of the few courses
 -- that each kind of entry can leave.
+-- For the lemmas of `Fitting`, `Keeping` and other files, and so for the laws `calls_may_be_made`, `ready` and
+-- others.
 use Rattle.std.proofs.Common.{length, ltb, ◌&&◌, ◌<◌, set, ◌≡◌, ℕ, Bool, true, false, cond, Option, Some, None, refl}
 use Rattle.std.proofs.lemmas.Bool.{and_parts, ltb-true}
 use Rattle.lb_base.specs.declared.shape.Kind.{Kind}
@@ -41,7 +43,8 @@ goes_to_by P (Some p) c n s = s p refl
 -- the next position is one of the turn's
 pub goes_on_by : (P : Course → Type 0) (c : Course) → P (goes_to None c)
     → ((p : ℕ) → has c.positions p ≡ true → P (goes_to (Some p) c)) → P (goes_to (least_above c.positions c.position) c)
-goes_on_by P c n s = goes_to_by P (least_above c.positions c.position) c n (λ p e. s p (least_above_found c.positions c.position p e).0)
+goes_on_by P c n s = goes_to_by P (least_above c.positions c.position) c n
+    (λ p e. s p (least_above_found c.positions c.position p e).0)
 
 -- a turn on behalf of idle CPUs is of a tickless one
 kicks_by : (P : Course → Type 0) (o : Option ℕ) (c : Course) → P (comes_to_rest c)

@@ -1,5 +1,6 @@
 -- What a decision pulls: from a CPU that is not excluded, is of a group after the local one and has tasks
 -- by its figure, and an amount that is in range where the statistics of the groups are.
+-- For the lemmas of `Keeping`, `Ranges` and `Work`, and so for the laws `calls_may_be_made`, `ready` and others.
 use Rattle.std.proofs.Common.{arith, ◌≡◌, ℕ, ◌<◌, Bool, true, false, cond, ◌==◌, List, length, Option, Some, None, refl, sym, subst, ltb, ◌+◌, ◌-◌, ◌*◌, ◌/◌, ◌^◌, ◌≤◌, not, ◌&&◌, min, max, inl, inr}
 use Rattle.std.proofs.lemmas.Bool.{and_parts, cases_lt}
 use Rattle.std.specs.Prelude.{All}
@@ -82,7 +83,8 @@ from_group shape groups figs busy excluded stats (Some b) e =
     let i = imbalance_of shape busy (domain_average stats) (stats_at stats 0) (stats_at stats b) in
     let P = Pulls groups figs excluded (amount_at shape busy stats) in
     cond_by P (is_level shape busy (domain_average stats) (stats_at stats 0) (stats_at stats b)) Balanced _ tt
-    (cond_by P (i.amount == 0) Balanced _ tt (from_source groups figs b excluded (amount_at shape busy stats) i _ refl later refl))
+    (cond_by P (i.amount == 0) Balanced _ tt
+    (from_source groups figs b excluded (amount_at shape busy stats) i _ refl later refl))
 
 pub source_found : (shape : Shape) (groups : List Mask) (figs : List Fig) (cpu : ℕ) (kind : Kind) (excluded : Mask)
     (s : ℕ) (k : MoveKind) (i : ℕ) → Pull s k i ≡ decision shape groups figs cpu kind excluded →
@@ -117,7 +119,8 @@ half_in shape local busiest r b = by_test _
     by_test true = let n = b.nr in omega (arith, n)
     by_test false = let n = r.idle in omega (arith, n)
 
-average_in : (average : ℕ) (local busiest : Stats) → IsInRange busiest → (load_to_average average local busiest).amount ≤ most_moved
+average_in : (average : ℕ) (local busiest : Stats) → IsInRange busiest
+    → (load_to_average average local busiest).amount ≤ most_moved
 average_in average local busiest b =
     let x = (busiest.avg - average) * busiest.cap in
     let y = (average - local.avg) * local.cap in
@@ -138,7 +141,8 @@ amount_as g l shape busy average local busiest r b = average_in average local bu
 stats_in : (stats : List Stats) (i : ℕ) → All IsInRange stats → IsInRange (stats_at stats i)
 stats_in stats i all = elim (cases_lt i (length stats)) [
   | inl lt ↦ all i no_stats lt
-  | inr ge ↦ rw (get_or_past stats i no_stats ge) (record { nr = omega arith; avg = omega arith; cap = omega arith; idle = omega arith })
+  | inr ge ↦ rw (get_or_past stats i no_stats ge)
+      (record { nr = omega arith; avg = omega arith; cap = omega arith; idle = omega arith })
 ]
 
 -- what a decision pulls
@@ -147,7 +151,8 @@ AmountIn (Pull s k i) = i ≤ most_moved
 AmountIn d = Unit {0}
 
 pub amount_in : (shape : Shape) (groups : List Mask) (figs : List Fig) (cpu : ℕ) (kind : Kind) (excluded : Mask)
-    (d : Decision) → d ≡ decision shape groups figs cpu kind excluded → All IsInRange (all_stats shape groups figs excluded) → AmountIn d
+    (d : Decision) → d ≡ decision shape groups figs cpu kind excluded
+    → All IsInRange (all_stats shape groups figs excluded) → AmountIn d
 unfolding imbalance_of
 amount_in shape groups figs cpu kind excluded (Pull s k i) e all =
     let stats = all_stats shape groups figs excluded in

@@ -1,4 +1,5 @@
 -- What comes next by its definition is the one serial entry of its lane that may be added.
+-- For the law `next_entries`.
 use Rattle.std.proofs.Common.{cond, ◌≡◌, ℕ, ◌+◌, ◌<◌, Bool, true, false, not, ◌==◌, ◌&&◌, ◌||◌, List, [], ◌∷◌, length, map, Option, Some, None, is_some, refl, sym, ◌∙◌, ap, subst, ltb}
 use Rattle.std.specs.Prelude.{IfSome}
 use Rattle.std.proofs.lemmas.Bool.{and_parts, and_from, or_parts, eqb-true, lt-ltb, ltb-true, not-true, not-false}
@@ -43,7 +44,8 @@ use Rattle.lb_ready.proofs.Staging.{staged}
 
 -- ---- what comes next may be added
 abbrev next_at : Form → MachineState → ℕ → Entry
-next_at f m lane = let c = course_at m.courses lane in drawn m lane (owner_of (what_next f m c) lane (cpu_next f m c)) (what_next f m c)
+next_at f m lane = let c = course_at m.courses lane in drawn m lane (owner_of (what_next f m c) lane (cpu_next f m c))
+    (what_next f m c)
 
 takes_none : (f : Form) (row : Option Row) (lane : ℕ) (w : What) → is_rest f ≡ false → Takes f row lane w
 takes_none Rest row lane w h = absurd (let y : ⊥ = cc in y)
@@ -82,7 +84,8 @@ taking m lane row lt live f own may =
     let r = and_parts (not m.closing) _ q.0 in
     record {
       own = refl;
-      may = added_at_rest m lane (Lane lane) _ lt live f (row_keeps m lane row (not-true _ r.0) (not-true _ q.1) (not-true _ p.1));
+      may = added_at_rest m lane (Lane lane) _ lt live f
+          (row_keeps m lane row (not-true _ r.0) (not-true _ q.1) (not-true _ p.1));
       serial = r.1;
       takes = subst (λ (x : Form). Takes x (Some row) lane (row_by m lane (course_at m.courses lane) row)) (sym f)
           (ap (λ (l : ℕ). let taken : Row = record { lane = l; at = row.at; command = row.command } in taken ∷ []) (sym own));
@@ -97,7 +100,8 @@ closing asked m lane k live f h lt =
     subst (λ (l : ℕ). IsSerialNext m l None (next_at Rest m l)) (sym z)
     (here (subst (λ (l : ℕ). l < length m.courses) z lt) (subst (λ (l : ℕ). (course_at m.courses l).form ≡ Rest) z f) p.1)
   where
-    here : 0 < length m.courses → (course_at m.courses 0).form ≡ Rest → all_rest m ≡ true → IsSerialNext m 0 None (next_at Rest m 0)
+    here : 0 < length m.courses → (course_at m.courses 0).form ≡ Rest → all_rest m ≡ true
+        → IsSerialNext m 0 None (next_at Rest m 0)
     here lt f all = record {
       own = refl;
       may = added_at_rest m 0 _ _ lt live f (closes asked m k all);
@@ -106,7 +110,8 @@ closing asked m lane k live f h lt =
     }
 
 next_form : AskedIsNext → (m : MachineState) (lane : ℕ) (row : Option Row) (e : Entry) (f : Form)
-    → (course_at m.courses lane).form ≡ f → IsReady m → m.ended ≡ false → lane < length m.courses → IfSome row (λ r. r.lane ≡ lane) →
+    → (course_at m.courses lane).form ≡ f → IsReady m → m.ended ≡ false → lane < length m.courses
+    → IfSome row (λ r. r.lane ≡ lane) →
     next_in f row m lane (course_at m.courses lane) ≡ Some e → IsSerialNext m lane row e
 next_form asked m lane (Some row) e Rest f k live lt own h = by_test (may_take m lane (course_at m.courses lane) row) refl h
   where
@@ -139,11 +144,13 @@ unfolding next_entry
 next_is_serial asked m lane row e k own h = by_test (m.ended || not (ltb lane (length m.courses))) refl h
   where
     by_test : (b : Bool) → (m.ended || not (ltb lane (length m.courses))) ≡ b
-        → cond b None (next_in (course_at m.courses lane).form row m lane (course_at m.courses lane)) ≡ Some e → IsSerialNext m lane row e
+        → cond b None (next_in (course_at m.courses lane).form row m lane (course_at m.courses lane)) ≡ Some e
+        → IsSerialNext m lane row e
     by_test true t i = absurd (let y : ⊥ = cc in y)
     by_test false t i =
         let p = or_parts m.ended _ t in
-        next_form asked m lane row e (course_at m.courses lane).form refl k p.0 (ltb-true lane (length m.courses) (not-false _ p.1)) own i
+        next_form asked m lane row e (course_at m.courses lane).form refl k p.0
+        (ltb-true lane (length m.courses) (not-false _ p.1)) own i
 
 -- ---- serial entries of one lane agree in their choices
 abbrev DueNames : Header → Course → What → Type 0
@@ -160,7 +167,8 @@ due_names m o lane prev (Look p x names d) k h =
     numbers_same _ _ (not-false _ (or_parts _ _ (unbroken_here m e h Figure)).0) ∙ ap members due
 due_names m o lane prev (Scan names t) k h =
     let e = entry o lane prev (Scan names t) in
-    let due = (scan_due (course_at m.courses lane).form m.ended (sight m e) lane names t (form_lets m e h).1 (k.fits lane).form).0 in
+    let due = (scan_due (course_at m.courses lane).form m.ended (sight m e) lane names t (form_lets m e h).1
+    (k.fits lane).form).0 in
     numbers_same _ _ (not-false _ (or_parts _ _ (unbroken_here m e h Figure)).0) ∙ ap members due
 due_names m o lane prev w k h = tt
 
@@ -175,7 +183,8 @@ newest_numbers m (f ∷ names) h =
 
 same_numbers_named : (m : MachineState) (a b : List FigName) (cpus : List ℕ) → are_newest m a ≡ true
     → are_newest m b ≡ true → map (λ f. f.cpu) a ≡ cpus → map (λ f. f.cpu) b ≡ cpus → map (λ f. f.n) a ≡ map (λ f. f.n) b
-same_numbers_named m a b cpus h k x y = newest_numbers m a h ∙ ap (map (λ cpu. entries_at m cpu)) (x ∙ sym y) ∙ sym (newest_numbers m b k)
+same_numbers_named m a b cpus h k x y = newest_numbers m a h ∙ ap (map (λ cpu. entries_at m cpu)) (x ∙ sym y) ∙ sym
+    (newest_numbers m b k)
 
 no_row : (n at lane : ℕ) (command : Command) → row_of (RowEntry n at command) lane ≡ [] → ⊥
 no_row n at lane command h = let y : ⊥ = cc in y
@@ -226,7 +235,8 @@ one_serial law m lane row a b k x y =
     let at_lane = λ (e : Entry) (s : IsSerialNext m lane row e). subst
     (λ (l : ℕ). DueNames m.header (course_at m.courses l) e.what) s.own (due_names m e.owner e.lane e.prev e.what k s.may) in
     law m a b (x.own ∙ sym y.own) x.may y.may
-    (agree m (course_at m.courses lane) lane a.what b.what x.serial y.serial (at_lane a x) (at_lane b y) (rows_same m lane row a b x y))
+    (agree m (course_at m.courses lane) lane a.what b.what x.serial y.serial (at_lane a x) (at_lane b y)
+    (rows_same m lane row a b x y))
 
 -- ---- where there is a serial entry, one comes next
 somewhere : (p : Place) (o : Owner) → is_at p o ≡ true → is_some (cpu_of_place p) ≡ true
@@ -276,7 +286,8 @@ is_answered m o lane prev (Out cause to tasks) f h =
     let d = rw f at (form_lets m e h).1 in
     let p = rw f at (unbroken_elsewhere m e h PlaceRule) in
     woken (course_at m.courses lane).command m o d p
-is_answered m o lane prev (Pub v) f h = rebuilt (course_at m.courses lane).command m (rw f at (form_lets m (entry o lane prev (Pub v)) h).1)
+is_answered m o lane prev (Pub v) f h = rebuilt (course_at m.courses lane).command m
+    (rw f at (form_lets m (entry o lane prev (Pub v)) h).1)
 is_answered m o lane prev w f h = absurd (let d = rw f at (form_lets m (entry o lane prev w) h).1 in let y : ⊥ = cc in y)
 
 same_tick : (m : MachineState) (lane n n' at at' : ℕ) (command : Command)
@@ -293,7 +304,8 @@ is_taken m o lane prev (RowEntry n at command) row f h s t =
     let a : Row = record { lane = lane; at = at; command = command } in
     let same_row : a ≡ row = cc in
     let begun : m.closing ≡ false = rw f at (staged m e (unbroken m e h Stage)).at_rest in
-    let here = or_parts (not (n == (course_at m.courses lane).rows + 1)) (is_undeclared m.header command) (unbroken_here m e h RowRule) in
+    let here = or_parts (not (n == (course_at m.courses lane).rows + 1)) (is_undeclared m.header command)
+    (unbroken_here m e h RowRule) in
     let free = same_tick m lane ((course_at m.courses lane).rows + 1) n at at command ∙ unbroken_elsewhere m e h RowRule in
     subst (λ (r : Row). may_take m lane (course_at m.courses lane) r ≡ true) same_row
     (and_from _ _ (and_from _ _ (and_from _ _ (rw begun refl) s) (rw here.1 refl)) (rw free refl))
@@ -344,6 +356,8 @@ serial_is_next asked law m lane row e k own s =
     subst (λ (l : ℕ). MayBeAdded m (entry e.owner l e.prev e.what)) s.own s.may in
     let live = (or_parts m.ended _ (unbroken_elsewhere m (entry e.owner lane e.prev e.what) may EndRule)).0 in
     let lt : lane < length m.courses = lane_there m (entry e.owner lane e.prev e.what) may in
-    let there : (m.ended || not (ltb lane (length m.courses))) ≡ false = or_none _ _ live (not_not _ (lt-ltb lane (length m.courses) lt)) in
-    subst (λ (b : Bool). cond b None (next_in (course_at m.courses lane).form row m lane (course_at m.courses lane)) ≡ Some e) (sym there)
+    let there : (m.ended || not (ltb lane (length m.courses))) ≡ false = or_none _ _ live
+    (not_not _ (lt-ltb lane (length m.courses) lt)) in
+    subst (λ (b : Bool). cond b None (next_in (course_at m.courses lane).form row m lane (course_at m.courses lane)) ≡
+    Some e) (sym there)
     (comes_next asked law m lane row e (course_at m.courses lane).form refl k live lt own s may s.takes)

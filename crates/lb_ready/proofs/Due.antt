@@ -1,5 +1,7 @@
 -- When an entry that a lane draws keeps every rule: each rule is asked in the form of the lane's course. What
 -- a lane's next entry has to be, so that it may be added; and tasks that leave, by whatever form.
+-- For the lemmas of `Calls`, `Drawing` and other files, and so for the laws `calls_may_be_made`, `next_entries` and
+-- others.
 use Rattle.std.proofs.Common.{cond, ◌≡◌, ℕ, ◌<◌, Bool, true, false, not, ◌==◌, ◌&&◌, ◌||◌, List, [], ◌∷◌, length, map, get_or, Option, Some, None, refl, sym, ◌∙◌, ltb, arith, is_some}
 use Rattle.std.specs.List.{list_any}
 use Rattle.std.proofs.lemmas.Bool.{and_from, or_parts, eq-eqb, lt-ltb}
@@ -107,13 +109,15 @@ figure_in f m c o (Look p x names d) = refl
 figure_in f m c o (Scan names t) = refl
 figure_in f m c o w = refl
 
-pick_in : (m : MachineState) (c : Course) (o : Owner) (w : What) → pick_wrong c.form (seen m c o w) w ≡ breaks_pick (seen m c o w) w
+pick_in : (m : MachineState) (c : Course) (o : Owner) (w : What) → pick_wrong c.form (seen m c o w) w ≡ breaks_pick
+    (seen m c o w) w
 unfolding leaving
 pick_in m c o (Out cause to tasks) = refl
 pick_in m c o w = refl
 
 pub each_kept : (m : MachineState) (lane : ℕ) (o : Owner) (w : What) → lane < length m.courses → m.ended ≡ false
-    → Keeps (course_at m.courses lane).form m lane (course_at m.courses lane) o w → (r : Rule) → breaks m (drawn_by m lane o w) r ≡ false
+    → Keeps (course_at m.courses lane).form m lane (course_at m.courses lane) o w → (r : Rule)
+    → breaks m (drawn_by m lane o w) r ≡ false
 unfolding sight stage_allows
 each_kept m lane o w lt live k Ticket = refl
 each_kept m lane o w lt live k Prev = rw (eq-eqb (get_or m.last lane 0) (get_or m.last lane 0) refl) refl
@@ -197,7 +201,8 @@ pub record Knows (m : MachineState) (c : Course) : Type 0 where
   pub named : NamesPublished m c
   pub asked : AskedIsNext
 
-pub stage_by : (a b u r s : Bool) → a ≡ true → b ≡ true → u ≡ false → r ≡ false → s ≡ false → (not (a && b) || (u || r || s)) ≡ false
+pub stage_by : (a b u r s : Bool) → a ≡ true → b ≡ true → u ≡ false → r ≡ false → s ≡ false
+    → (not (a && b) || (u || r || s)) ≡ false
 stage_by a b u r s x y z v w = rw (x, y, z, v, w) refl
 
 pub same : (n : ℕ) → (n == n) ≡ true
@@ -216,7 +221,8 @@ pub out_goes : (f : Form) (m : MachineState) (lane : ℕ) (c : Course) (cpu : �
     → Draws f m lane c cpu (out_of (out_by f m.header c (queue_at m.queues cpu)))
 out_goes f m lane c cpu k lt there w d r p = draws_out f m lane c cpu (out_by f m.header c (queue_at m.queues cpu)) there goes
   where
-    goes : (l : Leaving) → out_by f m.header c (queue_at m.queues cpu) ≡ Some l → Draws f m lane c cpu (Out l.cause l.to (ids l.hand))
+    goes : (l : Leaving) → out_by f m.header c (queue_at m.queues cpu) ≡ Some l
+        → Draws f m lane c cpu (Out l.cause l.to (ids l.hand))
     goes l e = record { keeps = keeps; serial = refl; rowless = λ l. refl; nice = refl; lives = refl }
       where
         keeps : Keeps f m lane c (Queue cpu) (Out l.cause l.to (ids l.hand))

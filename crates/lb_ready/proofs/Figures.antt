@@ -1,6 +1,8 @@
 -- Figures. A CPU past the machine has none, is no source and is not tickless. Each figure is small: a
 -- queue has at most 4,096 tasks of each kind, and what each says is bounded; so over groups without a
 -- CPU in common the sums are small too.
+-- For the lemmas of `Calls`, `Fitting` and `Keeping`, and so for the laws `calls_may_be_made`, `ready` and others;
+-- cited by `lb_service` too.
 use Rattle.std.proofs.Common.{arith, ◌≡◌, ℕ, ◌<◌, ◌≤◌, Bool, true, false, cond, ◌==◌, ◌&&◌, List, [], ◌∷◌, length, find, get_or, Some, refl, sym, ◌∙◌, ap, ltb, inl, inr, zero, suc, ◌+◌, ◌*◌, ◌^◌, ◌||◌, ◌++◌, filter, sum_by, subst, set, get_or-set_same, get_or-set_other}
 use Rattle.std.proofs.lemmas.Bool.{and_parts, eqb-true, ltb-true, cases_lt, cases_eq, le-ltb}
 use Rattle.std.proofs.lemmas.List.FromFn.{get_or-map-range_with_len}
@@ -50,7 +52,8 @@ use Rattle.lb_ready.proofs.Changes.{queue_left}
 -- ---- one CPU
 pub by_cpu_at : (figs : List CpuFig) (k : ℕ) → k < 64 → fig_at (by_cpu figs) k ≡ fig_or_none (find (λ f. f.cpu == k) figs)
 unfolding by_cpu
-by_cpu_at figs k lt = get_or-map-range_with_len (λ cpu. fig_or_none (find (λ f. f.cpu == cpu) figs)) 0 64 k k no_fig lt (omega arith)
+by_cpu_at figs k lt = get_or-map-range_with_len (λ cpu. fig_or_none (find (λ f. f.cpu == cpu) figs)) 0 64 k k no_fig lt
+    (omega arith)
 
 -- no figure stands past the machine
 no_fig_past : (figures : List (List Fig)) (names : List FigName) (k : ℕ) → length figures ≤ k
@@ -70,7 +73,8 @@ pub no_figure_past : (figures : List (List Fig)) (names : List FigName) (k : ℕ
 no_figure_past figures names k lt le = by_cpu_at (figures_named figures names) k lt ∙ no_fig_past figures names k le
 
 -- ---- tickless CPUs
-pub tickless_at : (figs : List CpuFig) (k : ℕ) → has (tickless_in figs) k ≡ true → (k < 64) × (is_tickless (fig_at (by_cpu figs) k) ≡ true)
+pub tickless_at : (figs : List CpuFig) (k : ℕ) → has (tickless_in figs) k ≡ true
+    → (k < 64) × (is_tickless (fig_at (by_cpu figs) k) ≡ true)
 unfolding tickless_in tickless_cpus
 tickless_at figs k h =
     let p = and_parts (ltb k 64) _ (sym (mask_where_has
@@ -121,7 +125,8 @@ figure_small laws n cpu k ticket q i a s = record {
       (λ t y. let v = (down t y).load_small in let b = weight_of_bound t.nice in omega arith) i.asleep in omega arith;
   util = let x = said (λ a. (awake_value q.clock a).util) 1025 (λ a. is_task_in n a.task) q.awake
       (λ e y. (up e y).util_small) i.awake in let z =
-      said (λ t. (asleep_value q.clock t).util) 1025 (is_task_in n) q.asleep (λ t y. (down t y).util_small) i.asleep in omega arith;
+      said (λ t. (asleep_value q.clock t).util) 1025 (is_task_in n) q.asleep (λ t y. (down t y).util_small) i.asleep in
+      omega arith;
   runnable = let x = said (λ a. (awake_value q.clock a).runnable) 1025 (λ a. is_task_in n a.task) q.awake
       (λ e y. (up e y).runnable_small) i.awake in omega arith;
 }
@@ -174,7 +179,8 @@ small_kept laws m (Queue own) lane prev w h same placed most fits old cpu n =
     let l = lens (after m e) own placed most in
     let a : length q.awake ≤ 4096 = rw is at l.0 in
     let b : length q.asleep ≤ 4096 = rw is at l.1 in
-    let new = figure_small laws (length m.header.cpus) own (length (figures_at m.figures own)) (m.ticket + 1) q (fits own refl) a b in
+    let new = figure_small laws (length m.header.cpus) own (length (figures_at m.figures own)) (m.ticket + 1) q
+    (fits own refl) a b in
     elim (cases_eq own cpu) [
       | inl i ↦ subst (λ (u : ℕ). IsSmall
           (get_or (figures_at (set m.figures own (figures_at m.figures own ++ f ∷ [])) u) n no_fig)) i
@@ -203,7 +209,8 @@ named_small figures (f ∷ names) k old = by_test (f.cpu == k) (named_small figu
 abbrev with : (ℕ → Bool) → (ℕ → ℕ) → ℕ → ℕ
 with p f k = cond {A = ℕ} (p k) (f k) 0
 
-filtered : (f : ℕ → ℕ) (p : ℕ → Bool) (i n : ℕ) → sum_by f (filter p (range_with_len i n)) ≡ sum_by (with p f) (range_with_len i n)
+filtered : (f : ℕ → ℕ) (p : ℕ → Bool) (i n : ℕ) → sum_by f (filter p (range_with_len i n)) ≡ sum_by (with p f)
+    (range_with_len i n)
 filtered f p i zero = refl
 filtered f p i (suc n) = by_test (p i) (filtered f p (i + 1) n) ∙ sym (sum_by-cons (with p f) i (range_with_len (i + 1) n))
   where

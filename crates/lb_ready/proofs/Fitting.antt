@@ -1,5 +1,6 @@
 -- What a course keeps, by kind of entry: it fits the machine, and no excluded CPU is of the local group.
 -- At each position none is excluded at first, and then the source of a pull, which is of a later group.
+-- For the lemmas of `Calls`, `Keeping` and `Ranges`, and so for the laws `calls_may_be_made`, `ready` and others.
 use Rattle.std.proofs.Common.{◌^◌, ◌≤◌, ◌+◌, cond, arith, ◌≡◌, ℕ, ◌<◌, Bool, true, false, ◌==◌, [], length, Option, Some, None, refl, subst, zero, suc, ◌||◌, List, ◌∷◌, get_or, ◌∙◌, ltb}
 use Rattle.std.proofs.lemmas.Bool.{and_parts, eqb-true}
 use Rattle.std.specs.List.{list_all}
@@ -135,7 +136,8 @@ ends_fit h n c k = ends_by (Fits false h n) (turn_kind c) h c (rests_fit false h
 abbrev pub Brings : Header → ℕ → Sight → ℕ → What → Type 0
 Brings h n s cpu (Row number at command) = (number ≤ n) × Names h (Some command)
 Brings h n s cpu (Look p x names d) = source_of (Some d) < length h.cpus
-Brings h n s cpu (Scan names t) = ((k : ℕ) → has (tickless_in s.figs) k ≡ true → k < length h.cpus) × (t ≡ least (tickless_in s.figs))
+Brings h n s cpu (Scan names t) = ((k : ℕ) → has (tickless_in s.figs) k ≡ true → k < length h.cpus) ×
+    (t ≡ least (tickless_in s.figs))
 Brings h n s cpu (Did r) = cpu < length h.cpus
 Brings h n s cpu w = Unit {0}
 
@@ -235,7 +237,8 @@ course_fits h n s lane cpu now (Kick r) few same d o b k =
     kicked_by (Fits false h n) r s.course (rests_fit false h n s.course k)
     (λ t y. due_fit false h n Nohz t s.course refl (k.tickless t y) k)
 course_fits h n s lane cpu now Over few same d o b k = rw same (ends_fit h n s.course k)
-course_fits h n s lane cpu now (Pub v) few same d o b k = let r = rests_fit false h n s.course k in record { says = r.says; form = tt }
+course_fits h n s lane cpu now (Pub v) few same d o b k = let r = rests_fit false h n s.course k in record
+    { says = r.says; form = tt }
 
 -- ---- for every lane
 pub drew_fits : (e : Bool) (h : Header) (n : ℕ) (o : Owner) (u : ℕ) (c : Course) → Fits e h n c → Fits e h n (drew o u c)
@@ -312,7 +315,8 @@ spares_after f h s lane cpu now Shut same y o l k =
     rw same (ends_by (KeepsLocal h) (turn_kind s.course) h s.course tt (λ some. tt) (λ t q. tt))
 spares_after f h s lane cpu now Over same y o l k =
     rw same (ends_by (KeepsLocal h) (turn_kind s.course) h s.course tt (λ some. tt) (λ t q. tt))
-spares_after f h s lane cpu now (Close p w i n) same y o l k = closes_by (KeepsLocal h) w s.course tt tt (λ p q j z. none_excluded j)
+spares_after f h s lane cpu now (Close p w i n) same y o l k = closes_by (KeepsLocal h) w s.course tt tt
+    (λ p q j z. none_excluded j)
 spares_after f h s lane cpu now (Ask r) same y o l k = goes_on_by (KeepsLocal h) s.course tt (λ p q j z. none_excluded j)
 spares_after f h s lane cpu now (Kick r) same y o l k = kicked_by (KeepsLocal h) r s.course tt (λ t q. tt)
 spares_after f h s lane cpu now w same y o l k = tt

@@ -1,5 +1,6 @@
 -- In each form but rest the lane has a serial entry that may be added. A row is answered by the queue that
 -- knows its task: where no task is in a hand, there is one.
+-- For the lemmas of `Calls` and `Running`, and so for the laws `calls_may_be_made`, `serial_runs` and others.
 use Rattle.std.proofs.Common.{cond, ◌≡◌, ℕ, ◌<◌, Bool, true, false, not, ◌==◌, ◌&&◌, ◌||◌, List, [], ◌∷◌, length, map, Option, Some, None, refl, sym, ◌∙◌, ltb, subst, arith, ◌≤◌, max, is_some, is_none, ap, ◌+◌, ◌-◌, find, inl, inr}
 use Rattle.std.specs.List.{list_any}
 use Rattle.std.specs.Prelude.{unwrap_or}
@@ -75,7 +76,8 @@ closed_goes : (m : MachineState) (lane : ℕ) (c : Course) → Knows m c → Nex
 unfolding draws
 closed_goes m lane c k = record { keeps = keeps; serial = refl; rowless = λ l. refl; nice = refl; lives = refl }
   where
-    keeps : Keeps Closed m lane c (Queue (source_of c.decision)) (Ask (ask_active (queue_at m.queues (source_of c.decision)) c.at c.cpu).0)
+    keeps : Keeps Closed m lane c (Queue (source_of c.decision))
+        (Ask (ask_active (queue_at m.queues (source_of c.decision)) c.at c.cpu).0)
     keeps Stage = stage_by _ _ _ _ _ (same (source_of c.decision)) refl
         (queue_there m (source_of c.decision) k.sizes k.says.pulled) refl refl
     keeps ReplyRule = not_not _ (ask_itself (ask_active (queue_at m.queues (source_of c.decision)) c.at c.cpu).0)
@@ -141,12 +143,14 @@ all_newest m (cpu ∷ cpus) = and_from (entries_at m cpu == entries_at m cpu) _ 
 
 newest_published : (m : MachineState) (cpus : List ℕ) → list_any (λ n. ltb (entries_at m n.cpu) n.n) (newest m cpus) ≡ false
 newest_published m [] = refl
-newest_published m (cpu ∷ cpus) = or_none _ _ (le-ltb (entries_at m cpu) (entries_at m cpu) (omega arith)) (newest_published m cpus)
+newest_published m (cpu ∷ cpus) = or_none _ _ (le-ltb (entries_at m cpu) (entries_at m cpu) (omega arith))
+    (newest_published m cpus)
 
 newest_new : (m : MachineState) (c : Course) (cpus : List ℕ) → ((cpu : ℕ) → named_at c cpu ≤ entries_at m cpu)
     → list_any (λ n. ltb n.n (named_at c n.cpu)) (newest m cpus) ≡ false
 newest_new m c [] h = refl
-newest_new m c (cpu ∷ cpus) h = or_none _ _ (let k = h cpu in le-ltb (entries_at m cpu) (named_at c cpu) k) (newest_new m c cpus h)
+newest_new m c (cpu ∷ cpus) h = or_none _ _ (let k = h cpu in le-ltb (entries_at m cpu) (named_at c cpu) k)
+    (newest_new m c cpus h)
 
 newest_cpus : (m : MachineState) (cpus : List ℕ) → map (λ n. n.cpu) (newest m cpus) ≡ cpus
 newest_cpus m [] = refl
@@ -154,7 +158,8 @@ newest_cpus m (cpu ∷ cpus) = ap (λ (xs : List ℕ). cpu ∷ xs) (newest_cpus 
 
 -- the figures of these CPUs are named rightly
 names_right : (m : MachineState) (c : Course) (cpus due : List ℕ) → due ≡ cpus → NamesPublished m c
-    → (not (same_numbers (map (λ n. n.cpu) (newest m cpus)) due) || list_any (λ n. ltb n.n (named_at c n.cpu)) (newest m cpus)) ≡ false
+    → (not (same_numbers (map (λ n. n.cpu) (newest m cpus)) due) || list_any (λ n. ltb n.n (named_at c n.cpu))
+    (newest m cpus)) ≡ false
 names_right m c cpus due e k = or_none _ _
     (not_not (same_numbers (map (λ n. n.cpu) (newest m cpus)) due) (rw (newest_cpus m cpus, e) (numbers_itself cpus)))
     (newest_new m c cpus k.figures)
@@ -236,7 +241,13 @@ most a n h k = le-ltb n (max a 1) (max-le h k)
 
 due_goes : (m : MachineState) (lane : ℕ) (c : Course) → Knows m c → same_kind (turn_kind c) TickTurn ≡ false → Next Due m lane c
 unfolding draws
-due_goes m lane c k n = record { keeps = keeps; serial = same (length m.versions); rowless = λ l. refl; nice = refl; lives = refl }
+due_goes m lane c k n = record {
+  keeps = keeps;
+  serial = same (length m.versions);
+  rowless = λ l. refl;
+  nice = refl;
+  lives = refl;
+}
   where
     keeps : Keeps Due m lane c (Lane lane) (Adopt (length m.versions) (turn_kind c) c.cpu)
     keeps Stage = stage_by _ _ _ _ (same_kind (turn_kind c) TickTurn && push_is_due c (queue_at m.queues c.cpu))
@@ -269,7 +280,8 @@ looked_goes m lane c k some = by_pull (is_pull c.decision) refl
         subst (looked_by m lane c) (sym e)
         (out_goes Looked m lane c s k k.says.pulled
         (pull_there c.decision m.header c c.at (queue_at m.queues s) e) (rw e (same s)) (λ l. e) (λ l. refl) (λ l. refl))
-    by_pull false e = subst (looked_by m lane c) (sym e) (close_goes Looked m lane c k (rw e (same c.cpu)) (rw (some, e) refl) refl refl)
+    by_pull false e = subst (looked_by m lane c) (sym e)
+        (close_goes Looked m lane c k (rw e (same c.cpu)) (rw (some, e) refl) refl refl)
 
 -- ---- at a tick
 active_there : (o : Option ℕ) (at : ℕ) (q : QueueState) → is_some o ≡ true → is_some (push_out o at q) ≡ true
@@ -283,15 +295,18 @@ served_there asked (Some s) c q e h = refl
 served_there asked None c q e h = active_there q.active c.at q (by_owed (has_owed q) refl h)
   where
     by_owed : (b : Bool) → has_owed q ≡ b → (b || push_is_due c q) ≡ true → is_some q.active ≡ true
-    by_owed true o h = let k = asked q true ∙ o in absurd (let z : is_some (next_stop q true) ≡ false = rw e refl in let y : ⊥ = cc in y)
+    by_owed true o h = let k = asked q true ∙ o in absurd
+        (let z : is_some (next_stop q true) ≡ false = rw e refl in let y : ⊥ = cc in y)
     by_owed false o h = (and_parts (is_some q.active) (not c.pushed) h).0
 
-served : (m : MachineState) (lane : ℕ) (c : Course) (cpu : ℕ) → Knows m c → cpu < length m.header.cpus → ticked_cpu c.command ≡ Some cpu →
+served : (m : MachineState) (lane : ℕ) (c : Course) (cpu : ℕ) → Knows m c → cpu < length m.header.cpus
+    → ticked_cpu c.command ≡ Some cpu →
     Draws Serving m lane c cpu (cond (has_owed (queue_at m.queues cpu) || push_is_due c (queue_at m.queues cpu))
     (out_of (out_by Serving m.header c (queue_at m.queues cpu))) (Adopt (length m.versions) TickTurn cpu))
 unfolding draws
 served m lane c cpu k lt t = draws_by Serving m lane c cpu
-    (has_owed (queue_at m.queues cpu) || push_is_due c (queue_at m.queues cpu)) _ (Adopt (length m.versions) TickTurn cpu) leaves adopts
+    (has_owed (queue_at m.queues cpu) || push_is_due c (queue_at m.queues cpu)) _
+    (Adopt (length m.versions) TickTurn cpu) leaves adopts
   where
     leaves : (has_owed (queue_at m.queues cpu) || push_is_due c (queue_at m.queues cpu)) ≡ true
         → Draws Serving m lane c cpu (out_of (out_by Serving m.header c (queue_at m.queues cpu)))
@@ -318,7 +333,8 @@ served m lane c cpu k lt t = draws_by Serving m lane c cpu
 serving_goes : (m : MachineState) (lane : ℕ) (c : Course) → Knows m c → is_tick c.command ≡ true → Next Serving m lane c
 serving_goes m lane c k h = by_command c.command refl k.says.names h
   where
-    by_command : (command : Option Command) → c.command ≡ command → Names m.header command → is_tick command ≡ true → Next Serving m lane c
+    by_command : (command : Option Command) → c.command ≡ command → Names m.header command → is_tick command ≡ true
+        → Next Serving m lane c
     by_command (Some (Tick cpu)) e n h =
         let t : ticked_cpu c.command ≡ Some cpu = ap ticked_cpu e in
         subst (λ (o : Option ℕ). let u = unwrap_or o (unwrap_or (cpu_open Serving m c) 0) in let q = queue_at m.queues u in
@@ -356,7 +372,8 @@ stands m t p placed lt e =
     let once : occurs t (standing m p) ≡ 1 = placed.once p t ∙ rw its refl in
     omega arith
 
-pub somewhere : {X : Type 0} (f : X → ℕ) (t : ℕ) (xs : List X) → 1 ≤ occurs t (map f xs) → is_some (find (λ x. f x == t) xs) ≡ true
+pub somewhere : {X : Type 0} (f : X → ℕ) (t : ℕ) (xs : List X) → 1 ≤ occurs t (map f xs)
+    → is_some (find (λ x. f x == t) xs) ≡ true
 somewhere f t xs h = by_test (find (λ x. f x == t) xs) refl
   where
     by_test : (o : Option _) → find (λ x. f x == t) xs ≡ o → is_some o ≡ true
@@ -441,7 +458,8 @@ did_goes m lane c cpu k lt d w p s n o = record { keeps = keeps; serial = refl; 
     keeps : Keeps Asked m lane c (Queue cpu) (Did (answer_to c.command c.at (queue_at m.queues cpu)).0)
     keeps Stage = stage_by _ _ _ _ _ w d (queue_there m cpu k.sizes lt) refl refl
     keeps PlaceRule = p
-    keeps ReplyRule = or_none _ _ (or_none _ _ s n) (not_not _ (reply_itself (answer_to c.command c.at (queue_at m.queues cpu)).0))
+    keeps ReplyRule = or_none _ _ (or_none _ _ s n)
+        (not_not _ (reply_itself (answer_to c.command c.at (queue_at m.queues cpu)).0))
     keeps Owed = or_none _ _ o refl
     keeps r = refl
 

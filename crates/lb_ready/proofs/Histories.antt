@@ -1,5 +1,6 @@
 -- The histories of an accepted trace: they have as many rows as the trace, end, and what each entry says is
 -- in range.
+-- For the laws `entries_fit` and `histories_end`.
 use Rattle.std.proofs.Common.{arith, ◌≡◌, ℕ, suc, ◌≤◌, Bool, true, false, cond, ◌==◌, List, [], ◌∷◌, length, refl, sym, ◌∙◌, ap, inl, inr, ◌+◌, ◌*◌, ◌<◌, ◌++◌, map, replicate, get_or, subst}
 use Rattle.std.specs.List.{list_all, range_with_len}
 use Rattle.std.proofs.lemmas.Bool.{and_from, and_parts, eq-eqb, eqb-true, ne_eqb, cases_eq}
@@ -35,18 +36,21 @@ abbrev LaneByLane : List TraceRow → List TraceRow → Type 0
 LaneByLane xs ys = (lane : ℕ) → of_lane lane xs ≡ of_lane lane ys
 
 -- all of them are accepted where the others are
-all_of_lanes : (p : TraceRow → Bool) (xs : List TraceRow) → ((lane : ℕ) → list_all p (of_lane lane xs) ≡ true) → list_all p xs ≡ true
+all_of_lanes : (p : TraceRow → Bool) (xs : List TraceRow) → ((lane : ℕ) → list_all p (of_lane lane xs) ≡ true)
+    → list_all p xs ≡ true
 all_of_lanes p [] each = refl
 all_of_lanes p (x ∷ xs) each =
     let own : (x.lane == x.lane) ≡ true = eq-eqb x.lane x.lane refl in
     let here : list_all p (x ∷ of_lane x.lane xs) ≡ true = rw own at (each x.lane) in
-    and_from (p x) _ (and_parts (p x) _ here).0 (all_of_lanes p xs (λ lane. behind (x.lane == lane) (of_lane lane xs) (each lane)))
+    and_from (p x) _ (and_parts (p x) _ here).0
+    (all_of_lanes p xs (λ lane. behind (x.lane == lane) (of_lane lane xs) (each lane)))
   where
     behind : (b : Bool) (rest : List TraceRow) → list_all p (cond b (x ∷ rest) rest) ≡ true → list_all p rest ≡ true
     behind true rest y = (and_parts (p x) _ y).1
     behind false rest y = y
 
-pub all_lane_by_lane : (p : TraceRow → Bool) (xs ys : List TraceRow) → LaneByLane xs ys → list_all p ys ≡ true → list_all p xs ≡ true
+pub all_lane_by_lane : (p : TraceRow → Bool) (xs ys : List TraceRow) → LaneByLane xs ys → list_all p ys ≡ true
+    → list_all p xs ≡ true
 all_lane_by_lane p xs ys same all = all_of_lanes p xs
     (λ lane. ap (list_all p) (same lane) ∙ all_filter p (λ (row : TraceRow). row.lane == lane) ys all)
 
@@ -69,7 +73,8 @@ first_gone lane (y ∷ ys) = by_test (y.lane == lane) refl (first_gone lane ys)
     by_test true e k = refl
     by_test false e k = rw e k
 
-others_stay : (lane other : ℕ) (ys : List TraceRow) → (other ≡ lane → ⊥) → of_lane other (without_first lane ys) ≡ of_lane other ys
+others_stay : (lane other : ℕ) (ys : List TraceRow) → (other ≡ lane → ⊥)
+    → of_lane other (without_first lane ys) ≡ of_lane other ys
 others_stay lane other [] n = refl
 others_stay lane other (y ∷ ys) n = by_test (y.lane == lane) refl (others_stay lane other ys n)
   where

@@ -1,5 +1,6 @@
 -- The opening machine of an accepted header is ready, and every entry that may be added, and is in range,
 -- keeps the machine ready.
+-- For the laws `calls_may_be_made` and `ready`.
 use Rattle.std.proofs.Common.{◌≤◌, map, arith, ◌≡◌, ℕ, ◌+◌, ◌<◌, Bool, true, false, cond, ◌==◌, List, [], ◌∷◌, length, replicate, get_or, None, refl, ap, inl, inr, ◌∙◌, not, Option, Some, sym, subst, ltb, ◌++◌}
 use Rattle.std.proofs.lemmas.List.{get_or-replicate, length-replicate, get_or_past}
 use Rattle.std.specs.List.{list_all, range_with_len}
@@ -214,7 +215,8 @@ row_names h n at (Rebuild parts) d r = tt
 
 source_brought : (m : MachineState) (names : List FigName) (shape : Shape) (groups : List Mask) (cpu : ℕ)
     (kind : Kind) (excluded : Mask) (d : Decision) → HasSizes m → 0 < length m.header.cpus →
-    d ≡ decision shape groups (by_cpu (figures_named m.figures names)) cpu kind excluded → source_of (Some d) < length m.header.cpus
+    d ≡ decision shape groups (by_cpu (figures_named m.figures names)) cpu kind excluded → source_of (Some d) < length
+    m.header.cpus
 source_brought m names shape groups cpu kind excluded NotMine sizes some e = some
 source_brought m names shape groups cpu kind excluded Balanced sizes some e = some
 source_brought m names shape groups cpu kind excluded (Pull s k i) sizes some e =
@@ -302,7 +304,8 @@ out_fits laws m cpu lane prev cause to ids k h =
     record {
       course = drew_fits false m.header (m.ticket + 1) (Queue cpu) ((sight m e).count + 1) _
           (off_fits m.header (m.ticket + 1) (out_by c.form m.header c q) l c is g.to g.hand (later m.header m.ticket c says));
-      queue = let r : rest_of (out_by c.form m.header c q) q ≡ l.rest = ap (λ (x : Option Leaving). rest_of x q) is in rw r g.rest;
+      queue = let r : rest_of (out_by c.form m.header c q) q ≡ l.rest = ap (λ (x : Option Leaving). rest_of x q) is in
+          rw r g.rest;
     }
 
 -- ---- courses
@@ -320,7 +323,8 @@ course_kept m o lane prev w k h r n =
     (form_lets m e h).1 n (brings m o lane prev w k.sizes some h r says.counted) (later m.header m.ticket s.course says))
 
 courses_kept : (m : MachineState) (o : Owner) (lane prev : ℕ) (w : What) → IsReady m
-    → MayBeAdded m (entry o lane prev w) → Fits (ended_after w false) m.header (m.ticket + 1) (course_left m (entry o lane prev w)) →
+    → MayBeAdded m (entry o lane prev w) → Fits (ended_after w false) m.header (m.ticket + 1)
+    (course_left m (entry o lane prev w)) →
     (l : ℕ) → Fits (ended_after w m.ended) m.header (m.ticket + 1) (course_at (after m (entry o lane prev w)).courses l)
 courses_kept m o lane prev w k h new =
     let e = entry o lane prev w in
@@ -340,7 +344,8 @@ new_course laws m o lane prev w k h r = course_kept m o lane prev w k h r refl
 
 -- ---- queues
 new_queue : (laws : QueueLaws) → (m : MachineState) (cpu lane prev : ℕ) (w : What) → IsReady m
-    → MayBeAdded m (entry (Queue cpu) lane prev w) → IsQueueOf (length m.header.cpus) cpu (queue_left m (entry (Queue cpu) lane prev w))
+    → MayBeAdded m (entry (Queue cpu) lane prev w) → IsQueueOf (length m.header.cpus) cpu
+    (queue_left m (entry (Queue cpu) lane prev w))
 unfolding queue_after sight
 new_queue laws m cpu lane prev (Out cause to ids) k h = (out_fits laws m cpu lane prev cause to ids k h).queue
 new_queue laws m cpu lane prev w k h =
@@ -365,7 +370,12 @@ pub record DomainLaws : Type 0 where
   pub part : GroupsPart
 
 pub can_be_read : (h : Header) → IsHeader h → CanBeRead h.cpus h.distances
-can_be_read h accepted = record { some = let s = accepted.some_cpu in omega arith; few = accepted.most_cpus; good = accepted.machine }
+can_be_read h accepted = record {
+  some = let s = accepted.some_cpu in omega arith;
+  few = accepted.most_cpus;
+  good =
+      accepted.machine;
+}
 
 -- the domain of the position in work
 abbrev pub InWork : MachineState → Course → Type 0
@@ -374,7 +384,8 @@ InWork m c = c.position < length (turn_domains m.header c)
 pub parted : DomainLaws → (m : MachineState) (lane : ℕ) → IsReady m → InWork m (course_at m.courses lane)
     → IsParted (course_at m.courses lane).cpu (turn_domain m.header (course_at m.courses lane))
 parted laws m lane k lt = let c = course_at m.courses lane in
-    laws.part m.header.cpus m.header.distances c.masks (can_be_read m.header k.accepted) c.cpu (k.fits lane).says.turned c.position lt
+    laws.part m.header.cpus m.header.distances c.masks (can_be_read m.header k.accepted) c.cpu (k.fits lane).says.turned
+    c.position lt
 
 pub look_inside : (f : Form) (m : MachineState) (lane p : ℕ) (x : Mask) (names : List FigName) (d : Decision)
     (q : QueueState) → draws f m.header (course_at m.courses lane) q lane (Look p x names d) ≡ true
@@ -437,7 +448,8 @@ counters_now : (laws : QueueLaws) (m : MachineState) (o : Owner) (lane prev : �
     → AreInRange (queue_at m.queues cpu).counters → AreInRange (queue_left m (entry o lane prev w)).counters
 unfolding queue_after sight
 counters_now laws m (Queue u) lane prev w cpu i a = let e : u ≡ cpu = cc in
-    counters_in laws (sight m (entry (Queue u) lane prev w)) lane w (subst (λ (x : ℕ). AreInRange (queue_at m.queues x).counters) (sym e) a)
+    counters_in laws (sight m (entry (Queue u) lane prev w)) lane w
+    (subst (λ (x : ℕ). AreInRange (queue_at m.queues x).counters) (sym e) a)
 counters_now laws m o lane prev w cpu i a = absurd (let y : ⊥ = cc in y)
 
 -- ---- ready machines
@@ -455,7 +467,8 @@ pub record LawsBelow : Type 0 where
 pub record AtFront (m : MachineState) : Type 0 where
   pub permitted : IsPermitted m
   pub turns : (lane : ℕ) → KeepsTurn m lane (course_at m.courses lane)
-  pub counts : (cpu : ℕ) → (let q = queue_at m.queues cpu in FitsDomains (length m.versions) (domains_in_version m q.version cpu) q)
+  pub counts : (cpu : ℕ) → (let q = queue_at m.queues cpu in FitsDomains (length m.versions)
+      (domains_in_version m q.version cpu) q)
 
 at_front : (laws : LawsBelow) (m : MachineState) → IsHeader m.header → IsReached m → AtFront m
 at_front laws m accepted k = subst AtFront k.is (record {
@@ -465,7 +478,8 @@ at_front laws m accepted k = subst AtFront k.is (record {
 })
 
 -- one entry more
-follow_more : (es : List Entry) (m : MachineState) (e : Entry) → MayFollow es m → MayBeAdded (run es m) e → MayFollow (es ++ e ∷ []) m
+follow_more : (es : List Entry) (m : MachineState) (e : Entry) → MayFollow es m → MayBeAdded (run es m) e
+    → MayFollow (es ++ e ∷ []) m
 follow_more [] m e l h = (h, tt)
 follow_more (x ∷ es) m e l h = (l.0, follow_more es (after m x) e l.1 h)
 
@@ -490,7 +504,8 @@ ready_start laws h accepted =
       placed = placed.0;
       permitted = facts.permitted;
       hands = placed.1;
-      fits = λ lane. let c = opening_course_at h lane in rw c.1 (opening_fits h c.0 (let some = accepted.some_cpu in omega arith));
+      fits = λ lane. let c = opening_course_at h lane in rw c.1
+          (opening_fits h c.0 (let some = accepted.some_cpu in omega arith));
       queues = λ cpu lt. rw (queue_there h cpu lt) (opening_queue_of h cpu accepted);
       owed = λ cpu y. let n = nothing_owed h cpu in absurd (let z : ⊥ = cc in z);
       named = λ lane. let c = opening_course_at h lane in rw c.1 (opening_named (start h) c.0);

@@ -1,5 +1,6 @@
 -- What every lane keeps whatever its form, from entry to entry along the legal front that led there: a number
 -- for each CPU, a position that a mask has room for, and masks that part the CPUs.
+-- For the law `lanes_suit`.
 use Rattle.std.proofs.Common.{arith, ◌≡◌, ℕ, ◌+◌, ◌<◌, inl, inr, false, List, [], ◌∷◌, length, set, Option, Some, None, refl, sym, ◌∙◌, ap, subst, length-set, get_or-set_same, get_or-set_other}
 use Rattle.std.specs.Prelude.{IfSome}
 use Rattle.std.proofs.lemmas.Bool.{or_parts, not-false, cases_eq}
@@ -89,7 +90,8 @@ course_suits h s cpu now (End cpus) b k = k
 course_suits h s cpu now (Did r) b k = answered_by (Suits h) s.course.command cpu s.queue now s.course
     (rests_suit h s.course k) k (λ u e. k)
 course_suits h s cpu now (Out cause to tasks) b k = off_suit h (leaving s) s.course k
-course_suits h s cpu now (Landed tasks) b k = lands_by (Suits h) (cause_of s.course) s.course (rests_suit h s.course k) (λ t. k) (λ e. k)
+course_suits h s cpu now (Landed tasks) b k = lands_by (Suits h) (cause_of s.course) s.course (rests_suit h s.course k)
+    (λ t. k) (λ e. k)
 course_suits h s cpu now (Turn ps) b k =
     to_suit h (least ps) (record s.course {
       positions = ps;
@@ -112,7 +114,8 @@ declared_parts law h (Rebuild parts) d =
     (law (length h.cpus) parts).1 (record { below = not-false _ p.0; apart = not-false _ p.1 })
 declared_parts law h command d = tt
 
-brought : PartitionLaw → (m : MachineState) (o : Owner) (lane prev : ℕ) (w : What) → MayBeAdded m (entry o lane prev w) → Brings m.header w
+brought : PartitionLaw → (m : MachineState) (o : Owner) (lane prev : ℕ) (w : What) → MayBeAdded m (entry o lane prev w)
+    → Brings m.header w
 unfolding sight
 brought law m o lane prev (Row n at command) h =
     declared_parts law m.header command ((or_parts _ _ (unbroken_here m (entry o lane prev (Row n at command)) h RowRule)).1)
@@ -121,7 +124,8 @@ brought law m o lane prev w h = tt
 abbrev AllSuit : MachineState → Type 0
 AllSuit m = (lane : ℕ) → lane < length m.courses → Suits m.header (course_at m.courses lane)
 
-new_suits : PartitionLaw → (m : MachineState) (o : Owner) (lane prev : ℕ) (w : What) → MayBeAdded m (entry o lane prev w) → AllSuit m →
+new_suits : PartitionLaw → (m : MachineState) (o : Owner) (lane prev : ℕ) (w : What)
+    → MayBeAdded m (entry o lane prev w) → AllSuit m →
     Suits m.header (course_after (sight m (entry o lane prev w)) (entry o lane prev w))
 unfolding sight course_after
 new_suits law m o lane prev w h k =

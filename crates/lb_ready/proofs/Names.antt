@@ -1,4 +1,5 @@
 -- What a lane has named was published: versions and figures.
+-- For the lemmas of `Keeping` and `Ranges`, and so for the laws `calls_may_be_made`, `ready` and others.
 use Rattle.std.proofs.Common.{◌≡◌, ℕ, Bool, true, false, List, Option, Some, None, refl, arith, ◌+◌, ◌-◌, ◌≤◌, ◌==◌, [], ◌∷◌, length, set, sym, ◌∙◌, ap, subst, ltb, inl, inr}
 use Rattle.std.specs.List.{list_any}
 use Rattle.std.proofs.lemmas.Bool.{or_parts, cases_lt, eqb-true, eq-eqb, not-false, lt-ltb}
@@ -57,7 +58,8 @@ is_nameless (Scan fs t) = false
 is_nameless (Pub v) = false
 is_nameless w = true
 
-pub course_names : (w : What) (s : Sight) (cpu : ℕ) (now : QueueState) → is_nameless w ≡ true → NamesAlike s.course (course_by w s cpu now)
+pub course_names : (w : What) (s : Sight) (cpu : ℕ) (now : QueueState) → is_nameless w ≡ true
+    → NamesAlike s.course (course_by w s cpu now)
 unfolding turn_ends
 course_names (Row n at command) s cpu now h = itself s.course
 course_names (End cpus) s cpu now h = itself s.course
@@ -122,7 +124,8 @@ unpublished n v h = elim (cases_lt n v) [ inl lt ↦ (let t = lt-ltb n v lt in a
 named_by : (m : MachineState) (o : Owner) (lane prev : ℕ) (w : What) (cpu : ℕ) (now : QueueState) → HasSizes m
     → MayBeAdded m (entry o lane prev w) → NamesPublished m (course_at m.courses lane) →
     Named m w (length (versions_after w (course_at m.courses lane).command m.versions))
-    (course_by w (sight m (entry o lane prev w)) cpu now).named_version (course_by w (sight m (entry o lane prev w)) cpu now).named
+    (course_by w (sight m (entry o lane prev w)) cpu now).named_version
+    (course_by w (sight m (entry o lane prev w)) cpu now).named
 unfolding sight
 named_by m o lane prev (Adopt v kind u) cpu now sizes h k =
     record {
@@ -174,7 +177,8 @@ count_now m u lane prev w sizes h =
     let there = cpu_there m u lane prev w h in
     let f = figures_now m (Queue u) lane prev w u (sizes.queues ∙ sym sizes.figures) h in
     let s : (u == u) ≡ true = eq-eqb u u refl in
-    let g : length (figures_at (after m (entry (Queue u) lane prev w)).figures u) ≡ length (figures_at m.figures u) + 1 = f ∙ rw s refl in
+    let g : length (figures_at (after m (entry (Queue u) lane prev w)).figures u) ≡ length
+    (figures_at m.figures u) + 1 = f ∙ rw s refl in
     let some = sizes.published u (let q = sizes.queues in omega arith) in
     omega arith
 
@@ -182,7 +186,8 @@ count_of : (m : MachineState) (o : Owner) (lane prev : ℕ) (w : What) → HasSi
     → (u : ℕ) → o ≡ Queue u → owned_count o m + 1 ≤ entries_at (after m (entry o lane prev w)) u
 count_of m (Queue v) lane prev w sizes h u i =
     let e : v ≡ u = cc in
-    subst (λ (x : ℕ). entries_at m v + 1 ≤ entries_at (after m (entry (Queue v) lane prev w)) x) e (count_now m v lane prev w sizes h)
+    subst (λ (x : ℕ). entries_at m v + 1 ≤ entries_at (after m (entry (Queue v) lane prev w)) x) e
+    (count_now m v lane prev w sizes h)
 count_of m Publisher lane prev w sizes h u i = absurd (let y : ⊥ = cc in y)
 count_of m (Lane l) lane prev w sizes h u i = absurd (let y : ⊥ = cc in y)
 
@@ -198,7 +203,8 @@ names_kept m o lane prev w sizes h k =
     record {
       version = let v = version_same o (s.count + 1) c in let a = n.version in rw v a;
       figures = drew_under m (after m e) o (s.count + 1) c (λ u i. count_of m o lane prev w sizes h u i)
-          (λ cpu. let a = n.numbers cpu in let b = (drawn_more m o lane prev w cpu (sizes.queues ∙ sym sizes.figures) h).0 in omega arith);
+          (λ cpu. let a = n.numbers cpu in let b =
+          (drawn_more m o lane prev w cpu (sizes.queues ∙ sym sizes.figures) h).0 in omega arith);
     }
 
 -- what the other lanes have named stays published
@@ -206,6 +212,8 @@ pub names_stay : (m : MachineState) (o : Owner) (lane prev : ℕ) (w : What) (c 
     → MayBeAdded m (entry o lane prev w) → NamesPublished m c → NamesPublished (after m (entry o lane prev w)) c
 unfolding after
 names_stay m o lane prev w c sizes h k = record {
-  version = let a = (versions_more w (sight m (entry o lane prev w)).course.command m.versions).0 in let b = k.version in omega arith;
-  figures = λ cpu. let a = k.figures cpu in let b = (drawn_more m o lane prev w cpu (sizes.queues ∙ sym sizes.figures) h).0 in omega arith;
+  version = let a = (versions_more w (sight m (entry o lane prev w)).course.command m.versions).0 in let b = k.version
+      in omega arith;
+  figures = λ cpu. let a = k.figures cpu in let b =
+      (drawn_more m o lane prev w cpu (sizes.queues ∙ sym sizes.figures) h).0 in omega arith;
 }

@@ -1,4 +1,5 @@
 -- A stop request is owed only while the lane that ticked the queue's CPU serves the tick.
+-- For the lemmas of `Keeping`, and so for the laws `calls_may_be_made`, `ready` and others.
 use Rattle.std.proofs.Common.{◌≡◌, ◌⊎◌, ◌+◌, ℕ, Bool, true, false, not, cond, ◌&&◌, Option, Some, None, is_some, refl, sym, ◌∙◌, ap, subst, inl, inr}
 use Rattle.std.proofs.lemmas.Bool.{and_parts, eqb-true, not-false, cases_eq}
 use Rattle.lb_base.specs.declared.mask.Mask.{Mask}
@@ -71,7 +72,8 @@ none_owed q k = any_all (λ a. is_owed a.stop) q.awake ∙ ap not k.awake
 by_absence : (q q' : QueueState) → (Passes unowed q → Passes unowed q') → has_owed q' ≡ true → has_owed q ≡ true
 by_absence q q' step h = not_brought (has_owed q) _ (λ e. none_owed q' (step (owed_none q e))) h
 
-request_unowed : (cpu : ℕ) (mask : Mask) (s : StopRequest) → not (is_owed s) ≡ true → not (is_owed (request_after cpu mask s)) ≡ true
+request_unowed : (cpu : ℕ) (mask : Mask) (s : StopRequest) → not (is_owed s) ≡ true
+    → not (is_owed (request_after cpu mask s)) ≡ true
 request_unowed cpu mask s h = by_mask (has mask cpu) (is_pending s)
   where
     by_mask : (b p : Bool) → not (is_owed (cond b Free (cond p s Pending))) ≡ true
@@ -80,7 +82,8 @@ request_unowed cpu mask s h = by_mask (has mask cpu) (is_pending s)
     by_mask false false = refl
 
 takes_unowed : (q : QueueState) (command : Option Command) → is_tick command ≡ false → Takes unowed q command
-takes_unowed q (Some (SetMask id mask)) n = λ good. record { awake = λ s t i h. request_unowed q.cpu mask s h; asleep = λ t i h. refl }
+takes_unowed q (Some (SetMask id mask)) n = λ good. record
+    { awake = λ s t i h. request_unowed q.cpu mask s h; asleep = λ t i h. refl }
 takes_unowed q (Some (Tick cpu)) n = absurd (let y : ⊥ = cc in y)
 takes_unowed q command n = tt
 
@@ -98,7 +101,8 @@ owed_before laws (Out cause to tasks) s lane n h = by_out (out_by s.course.form 
     by_out : (o : Option Leaving) → out_by s.course.form s.header s.course s.queue ≡ o
         → has_owed (rest_of o s.queue) ≡ true → has_owed s.queue ≡ true
     by_out None e h = h
-    by_out (Some l) e h = by_absence s.queue l.rest (λ k. (out_passes laws unowed s.course.form s.header s.course s.queue l e k).rest) h
+    by_out (Some l) e h = by_absence s.queue l.rest
+        (λ k. (out_passes laws unowed s.course.form s.header s.course s.queue l e k).rest) h
 owed_before laws (Landed tasks) s lane n h =
     by_absence s.queue (land s.queue s.course.at (cause_of s.course) s.course.moment s.course.hand)
     (land_passes laws unowed s.queue s.course.at (cause_of s.course) s.course.moment s.course.hand (all_free s.course.hand)) h
@@ -114,7 +118,8 @@ back_serves : (b : Bool) (c : Course) (cpu : ℕ) → is_tick c.command ≡ b �
 back_serves true c cpu e t = t
 back_serves false c cpu e t = absurd (let k = ap is_some t in let y : ⊥ = cc in y)
 
-lands_serves : (o : OutCause) (c : Course) (cpu : ℕ) → is_pulling o ≡ false → ticked_cpu c.command ≡ Some cpu → Serves (lands o c) cpu
+lands_serves : (o : OutCause) (c : Course) (cpu : ℕ) → is_pulling o ≡ false → ticked_cpu c.command ≡ Some cpu
+    → Serves (lands o c) cpu
 lands_serves PullOut c cpu n t = absurd (let y : ⊥ = cc in y)
 lands_serves o c cpu n t = back_serves (is_tick c.command) c cpu refl t
 
@@ -190,7 +195,8 @@ owed_from laws m o lane prev w h =
 
 -- the entry's lane serves on
 serves_on : (m : MachineState) (o : Owner) (lane prev : ℕ) (w : What) (cpu : ℕ) → MayBeAdded m (entry o lane prev w)
-    → Serves (course_at m.courses lane) cpu → has_owed (queue_at m.queues cpu) ≡ true → IsServedBy (after m (entry o lane prev w)) cpu
+    → Serves (course_at m.courses lane) cpu → has_owed (queue_at m.queues cpu) ≡ true
+    → IsServedBy (after m (entry o lane prev w)) cpu
 unfolding course_after sight
 serves_on m o lane prev w cpu h k y =
     let e = entry o lane prev w in
@@ -221,7 +227,8 @@ serves_tick m o lane prev w cpu h i t = absurd (let y : ⊥ = cc in y)
 
 pub owed_kept : (laws : QueueLaws) (m : MachineState) (o : Owner) (lane prev : ℕ) (w : What)
     → ((cpu : ℕ) → has_owed (queue_at m.queues cpu) ≡ true → IsServedBy m cpu) → MayBeAdded m (entry o lane prev w) →
-    (cpu : ℕ) → has_owed (queue_at (after m (entry o lane prev w)).queues cpu) ≡ true → IsServedBy (after m (entry o lane prev w)) cpu
+    (cpu : ℕ) → has_owed (queue_at (after m (entry o lane prev w)).queues cpu) ≡ true
+    → IsServedBy (after m (entry o lane prev w)) cpu
 owed_kept laws m o lane prev w old h cpu owes = elim (owed_from laws m o lane prev w h cpu owes) [
   | inl y ↦
       let k = old cpu y in

@@ -1,4 +1,5 @@
 -- The queue that an entry leaves is still that of its CPU, and nobody is sent past the machine.
+-- For the lemmas of `Figures` and `Keeping`, and so for the laws `calls_may_be_made`, `ready` and others.
 use Rattle.std.proofs.Common.{◌+◌, ◌*◌, arith, ◌≡◌, ℕ, ◌<◌, Bool, true, false, cond, ◌==◌, Option, Some, None, unwrap_or, refl, ap, ◌∙◌}
 use Rattle.std.specs.List.{list_all}
 use Rattle.std.proofs.lemmas.Bool.{and_parts, and_from, or_parts, not-false, lt-ltb, ltb-true, le-leb, leb-true}
@@ -56,7 +57,8 @@ is_so_bounded x k = and_from _ _ (and_from _ _
     (le-leb x.runnable_sum (1024 * (46718 + x.part) + 49152) k.runnable_small))
     (le-leb x.util_sum (1024 * (46718 + x.part) + 49152) k.util_small)
 
-pub still_bounded : (laws : QueueLaws) → (x : Sums) (run : Run) (clock : ℕ) → is_bounded x ≡ true → is_bounded (advanced x run clock) ≡ true
+pub still_bounded : (laws : QueueLaws) → (x : Sums) (run : Run) (clock : ℕ) → is_bounded x ≡ true
+    → is_bounded (advanced x run clock) ≡ true
 still_bounded laws x run clock h = is_so_bounded (advanced x run clock) (laws.advanced_is x run clock (bounded_is x h))
 
 pub still_in : (laws : QueueLaws) (n : ℕ) (t : TaskRecord) (run : Run) (clock : ℕ) → is_task_in n t ≡ true
@@ -81,7 +83,8 @@ masks_pass : (laws : QueueLaws) → (n cpu : ℕ) (q : QueueState) → IsQueueOf
 masks_pass laws n cpu q k = record { awake = k.awake; asleep = k.asleep; gone = k.gone }
 
 good_mask : (n cpu : ℕ) (q : QueueState) (m : Mask) → IsQueueOf n cpu q → is_bad_mask q m ≡ false → is_mask_in n m ≡ true
-good_mask n cpu q m k h = let p = or_parts (is_empty m) _ h in let b = not-false _ p.1 in and_from _ _ (rw k.machine at b) (rw p.0 refl)
+good_mask n cpu q m k h = let p = or_parts (is_empty m) _ h in let b = not-false _ p.1 in and_from _ _
+    (rw k.machine at b) (rw p.0 refl)
 
 masked_in : (n : ℕ) (mask : Mask) (t : TaskRecord) → is_mask_in n mask ≡ true → is_task_in n t ≡ true
     → is_task_in n (with_mask mask t) ≡ true
@@ -107,12 +110,14 @@ still_queue laws n cpu q q' k a p = record {
 }
 
 -- an active request goes to this CPU, or stays
-asked_stays : (n : ℕ) (o : Option ℕ) (to : ℕ) → to < n → ((u : ℕ) → o ≡ Some u → u < n) → (u : ℕ) → asked_for o to ≡ Some u → u < n
+asked_stays : (n : ℕ) (o : Option ℕ) (to : ℕ) → to < n → ((u : ℕ) → o ≡ Some u → u < n) → (u : ℕ)
+    → asked_for o to ≡ Some u → u < n
 asked_stays n None to lt old u e = let k : to ≡ u = cc in rw (← k) lt
 asked_stays n (Some v) to lt old u e = old u e
 
 pub queue_fits : (laws : QueueLaws) → (n cpu : ℕ) (s : Sight) (w : What) (lane : ℕ) → is_out w ≡ false
-    → s.course.cpu < n → list_all (λ t. is_task_in n t) s.course.hand ≡ true → IsQueueOf n cpu s.queue → IsQueueOf n cpu (queue_by w s lane)
+    → s.course.cpu < n → list_all (λ t. is_task_in n t) s.course.hand ≡ true → IsQueueOf n cpu s.queue
+    → IsQueueOf n cpu (queue_by w s lane)
 unfolding close_look ask_active kick
 queue_fits laws n cpu s (Did r) lane o lt h k =
     still_queue laws n cpu s.queue (answer_to s.course.command s.course.at s.queue).1 k
@@ -165,7 +170,8 @@ next_goes : (n cpu : ℕ) (o : Option Awake) (owed : Bool) (q : QueueState) (s :
 unfolding next_asked
 next_goes n cpu None owed q s some k a e = absurd (let y : ⊥ = cc in y)
 next_goes n cpu (Some x) owed q s some k a e =
-    let m : is_task_in n x.task ≡ true = all_find (λ (y : Awake). is_task_in n y.task) (is_next_asked owed q.awake) q.awake x k.awake a in
+    let m : is_task_in n x.task ≡ true = all_find (λ (y : Awake). is_task_in n y.task) (is_next_asked owed q.awake)
+    q.awake x k.awake a in
     let t = least_or_none n x.task.mask (least x.task.mask) some ((and_parts (is_mask_in n x.task.mask) _ m).0) refl in
     let w : unwrap_or (least x.task.mask) 0 ≡ s.to = cc in
     rw (← w) t

@@ -1,5 +1,6 @@
 -- What an entry says that may be added to a ready machine is in the ranges of its text. The figures that
 -- it names are of rising CPUs, and there is one at least.
+-- For the laws `entries_fit` and `ready`.
 use Rattle.std.proofs.Common.{arith, ◌≡◌, ℕ, zero, suc, ◌+◌, ◌<◌, ◌≤◌, Bool, true, false, ltb, List, [], ◌∷◌, map, filter, Option, Some, None, refl, sym, ◌∙◌, ap, ◌-◌, ◌^◌, cond, not, ◌==◌, ◌&&◌, ◌||◌, length, get_or, subst}
 use Rattle.std.specs.List.{range_with_len, list_any, list_all}
 use Rattle.std.proofs.lemmas.Bool.{and_from, and_parts, or_parts, lt-ltb, le-leb, eqb-true, eq-eqb, ltb-true, not-false}
@@ -100,8 +101,10 @@ each_figure [] drawn short published few = refl
 each_figure (f ∷ fs) drawn short published few =
     let s = and_parts (is_short f.cpu) _ short in
     let p = or_parts (ltb (drawn f.cpu) f.n) _ published in
-    let n : f.n ≤ 18446744073709551615 = let le = unpublished (drawn f.cpu) f.n p.0 in let most = few f.cpu in omega (arith, le, most) in
-    and_from (is_figure f) _ (and_from (is_short f.cpu) _ s.0 (le-leb f.n 18446744073709551615 n)) (each_figure fs drawn s.1 p.1 few)
+    let n : f.n ≤ 18446744073709551615 = let le = unpublished (drawn f.cpu) f.n p.0 in let most = few f.cpu in omega
+    (arith, le, most) in
+    and_from (is_figure f) _ (and_from (is_short f.cpu) _ s.0 (le-leb f.n 18446744073709551615 n))
+    (each_figure fs drawn s.1 p.1 few)
 
 some_named : (mask : Mask) (k : ℕ) (names : List FigName) → map (λ (f : FigName). f.cpu) names ≡ members mask → k < 64
     → has mask k ≡ true → is_any names ≡ true
@@ -192,7 +195,8 @@ hand_short m lane k = all_that_occur is_short (ids (course_at m.courses lane).ha
     (λ t le. by_test t (is_its_place m (HandOf lane) t) refl (k.placed.once (HandOf lane) t) le)
   where
     by_test : (t : ℕ) (b : Bool) → is_its_place m (HandOf lane) t ≡ b
-        → times m (HandOf lane) t ≡ cond {A = ℕ} (is_its_place m (HandOf lane) t) 1 0 → 1 ≤ times m (HandOf lane) t → is_short t ≡ true
+        → times m (HandOf lane) t ≡ cond {A = ℕ} (is_its_place m (HandOf lane) t) 1 0 → 1 ≤ times m (HandOf lane) t
+        → is_short t ≡ true
     by_test t true e o le = short t (length m.header.tasks)
         (let lt = ltb-true t (length m.places) (and_parts (ltb t (length m.places)) _ e).0 in
         let z = k.placed.mapped in omega (arith, lt, z)) k.accepted.most_tasks
@@ -248,7 +252,8 @@ target_ok (Some cpu) x h = by_least (least x) refl h
   where
     by_least : (o : Option ℕ) → least x ≡ o → same_number (Some cpu) o ≡ true → is_short cpu ≡ true
     by_least None e y = absurd (let z : ⊥ = cc in z)
-    by_least (Some c) e y = let i = eqb-true cpu c y in let lt = (least_found x c e).1 in le-leb cpu 4294967295 (omega (arith, i, lt))
+    by_least (Some c) e y = let i = eqb-true cpu c y in let lt = (least_found x c e).1 in le-leb cpu 4294967295
+        (omega (arith, i, lt))
 
 in_work_short : DomainLaws → (m : MachineState) (c : Course) → IsReady m → InWork m c → is_short c.position ≡ true
 in_work_short laws m c k inside =
@@ -268,11 +273,14 @@ positions_fit : (kind : Kind) (q : QueueState) (cs : _) (shapes : _) (now : ℕ)
 unfolding due_positions
 positions_fit TickTurn q cs shapes now = where_narrow _
 positions_fit Idle q cs shapes now = cond_by (λ x. x.bits < 2 ^ 64) (nobody q.awake) _ no_cpus (where_narrow _) none_wide
-positions_fit Nohz q cs shapes now = cond_by (λ x. x.bits < 2 ^ 64) (nobody q.awake && q.tickless) _ no_cpus (where_narrow _) none_wide
+positions_fit Nohz q cs shapes now = cond_by (λ x. x.bits < 2 ^ 64) (nobody q.awake && q.tickless) _ no_cpus
+    (where_narrow _) none_wide
 
-found_fit : (q : QueueState) (at : ℕ) (kind : Kind) (version : ℕ) (shapes : _) → (positions_found q at kind version shapes).bits < 2 ^ 64
+found_fit : (q : QueueState) (at : ℕ) (kind : Kind) (version : ℕ) (shapes : _)
+    → (positions_found q at kind version shapes).bits < 2 ^ 64
 unfolding positions_found
-found_fit q at kind version shapes = positions_fit kind q (counters_found q at version shapes) shapes (milliseconds (clock_at q at))
+found_fit q at kind version shapes = positions_fit kind q (counters_found q at version shapes) shapes
+    (milliseconds (clock_at q at))
 
 -- ---- tasks that leave
 out_is : (o : Option Leaving) (cause : _) (to : ℕ) (tasks : List ℕ) → is_other_out o cause to tasks ≡ false
@@ -307,7 +315,8 @@ row_in m o lane prev n at command k =
     let p = and_parts _ _ (and_parts _ true k.row).0 in
     let number = row_next m o lane prev n at command k.may (k.ready.fits lane).says.counted in
     let few = k.few in
-    and_from _ _ (and_from _ _ (row_long n m.ticket number few) (and_parts _ _ p.0).1) (command_in m.header command k.ready.accepted p.1)
+    and_from _ _ (and_from _ _ (row_long n m.ticket number few) (and_parts _ _ p.0).1)
+    (command_in m.header command k.ready.accepted p.1)
 
 look_in : ReadyLaws → (m : MachineState) (o : Owner) (lane prev p : ℕ) (x : Mask) (names : List FigName)
     (d : Decision) → Known m o lane prev (Look p x names d) → what_fits (Look p x names d) ≡ true
@@ -324,7 +333,8 @@ look_in laws m o lane prev p x names d k =
     let said = or_parts _ _ (unbroken_here m e k.may DecisionRule) in
     let place : p ≡ c.position = eqb-true p c.position (not-false (p == c.position) rule.0) in
     let mask : x ≡ c.excluded = mask_is x c.excluded (not-false _ rule.1) in
-    let decided = decision_is d (decision domain.shape domain.groups (by_cpu s.figs) c.cpu (turn_kind c) c.excluded) (not-false _ said.1) in
+    let decided = decision_is d (decision domain.shape domain.groups (by_cpu s.figs) c.cpu (turn_kind c) c.excluded)
+    (not-false _ said.1) in
     let fits = (k.ready.fits lane).says.narrow in
     let cpu = cpu_below m.header c.cpu k.ready.accepted (k.ready.fits lane).says.turned in
     let there = left_has domain.shape.span c.excluded c.cpu fits cpu
@@ -360,11 +370,13 @@ scan_in laws m o lane prev names t k =
     let last = length (turn_domains h c) - 1 in
     let some = due.2 in
     let domain = domain_at (turn_domains h c) last in
-    let parted = laws.domains.part h.cpus h.distances c.masks (can_be_read h k.ready.accepted) c.cpu turned last (omega (arith, some)) in
+    let parted = laws.domains.part h.cpus h.distances c.masks (can_be_read h k.ready.accepted) c.cpu turned last
+    (omega (arith, some)) in
     let fits = (k.ready.fits lane).says.narrow in
     let none : has c.excluded c.cpu ≡ false = ap (λ (y : Mask). has y c.cpu) due.1 ∙ none_excluded c.cpu in
     let there = left_has domain.shape.span c.excluded c.cpu fits cpu
-    (group_in_span domain.shape.span domain.groups parted.whole 0 (some_group domain.groups c.cpu parted.own) c.cpu parted.own) none in
+    (group_in_span domain.shape.span domain.groups parted.whole 0 (some_group domain.groups c.cpu parted.own) c.cpu
+    parted.own) none in
     let wrong = or_parts _ _ (unbroken_here m e k.may Figure) in
     let figures = named_fit m c.form s names
     (without domain.shape.span c.excluded) c.cpu k.ready k.few due.0 cpu there (not-false _ wrong.0)
@@ -421,7 +433,8 @@ what_in laws m o lane prev (Adopt v kind cpu) k =
     let there : cpu < length m.header.cpus =
     subst (λ (y : ℕ). y < length m.header.cpus)
     (drew_cpu o (s.count + 1) (course_by (Adopt v kind cpu) s (cpu_of o) (queue_after s e))) next.fits.says.turned in
-    and_from _ _ (long v (omega (arith, version, most, few))) (short cpu (length m.header.cpus) there (few_cpus m.header k.ready.accepted))
+    and_from _ _ (long v (omega (arith, version, most, few)))
+    (short cpu (length m.header.cpus) there (few_cpus m.header k.ready.accepted))
 what_in laws m o lane prev (Look p x names d) k = look_in laws m o lane prev p x names d k
 what_in laws m o lane prev (Scan names t) k = scan_in laws m o lane prev names t k
 what_in laws m o lane prev (End cpus) k =
@@ -481,7 +494,8 @@ owner_in m o lane prev w k h = by_owner o h
     by_owner (Queue cpu) h =
         let lt = cpu_there m cpu lane prev w h in
         let z = k.sizes.queues in
-        and_from _ _ (short cpu (length m.header.cpus) (omega (arith, lt, z)) (few_cpus m.header k.accepted)) (of_lane (Queue cpu) h)
+        and_from _ _ (short cpu (length m.header.cpus) (omega (arith, lt, z)) (few_cpus m.header k.accepted))
+        (of_lane (Queue cpu) h)
 
 -- the whole entry, at the next ticket
 pub entry_in : ReadyLaws → (m : MachineState) (e : Entry) → IsReady m → m.ticket < MAX_TICKET → MayBeAdded m e

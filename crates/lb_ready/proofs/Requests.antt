@@ -1,5 +1,7 @@
 -- Stop requests: which steps of a queue ask a task to leave, and which serve a request; and that
 -- where a task is asked, one is next.
+-- For the lemmas of `Calls`, `Figures` and other files, and so for the laws `calls_may_be_made`, `entries_fall` and
+-- others.
 use Rattle.std.proofs.Common.{arith, ◌≡◌, ◌≢◌, ℕ, ◌+◌, ◌≤◌, Bool, true, false, not, cond, ◌==◌, ◌&&◌, ◌||◌, List, [], ◌∷◌, find, Option, Some, None, is_some, refl, sym, ◌∙◌, ap}
 use Rattle.std.specs.List.{list_all, list_any}
 use Rattle.std.proofs.lemmas.Bool.{and_parts, and_from, eqb-true, eq-eqb, ne_eqb, not-false}
@@ -98,7 +100,8 @@ takes_free u q command n = tt
 pub answer_asks : (laws : QueueLaws) (tasks : ℕ) (command : Option Command) (at : ℕ) (q : QueueState)
     → asked_count tasks (answer_to command at q).1 ≤ asked_count tasks q + 1
 answer_asks laws tasks command at q = count_more _ (is_asked q.awake) tasks (named_by command)
-    (λ u n h. by_absence u q (answer_to command at q).1 (answer_passes laws (free_of u) command at q (takes_free u q command n)) h)
+    (λ u n h. by_absence u q (answer_to command at q).1
+    (answer_passes laws (free_of u) command at q (takes_free u q command n)) h)
 
 pub land_asks : (laws : QueueLaws) (tasks at : ℕ) (cause : OutCause) (moment : ℕ) (hand : List TaskRecord)
     (q : QueueState) → asked_count tasks (land q at cause moment hand) ≤ asked_count tasks q
@@ -163,7 +166,8 @@ stopped_free laws q id to at distinct some = by_test (is_asked (leaves_awake q a
         let there = asked_there (leaves_awake q at (awake_with id q.awake)).1.awake id e in
         let moved = laws.moves q distinct (TakeStopCall at id to) OnAwake id in
         let hand = leaves_in_hand (awake_with id q.awake) id at q
-        (λ a i. eqb-true a.task.id id (found (λ (x : Awake). x.task.id == id) (λ (x : Awake). x.task.id) q.awake a i).passes) some in
+        (λ a i. eqb-true a.task.id id (found (λ (x : Awake). x.task.id == id) (λ (x : Awake). x.task.id) q.awake a
+        i).passes) some in
         let one = distinct.awake id in
         absurd (omega arith)
     by_test false e = refl
@@ -184,7 +188,8 @@ served laws (Some a) owed q s at distinct e h =
     record {
       before = sym (found_any (λ a. a.task.id == s.id && is_pending a.stop) q.awake)
           ∙ any_found (is_next_asked owed q.awake) _ q.awake a e (and_from _ _ named (asked_of owed a f.0));
-      after = stopped_free laws q s.id s.to at distinct (any_found (is_next_asked owed q.awake) (λ x. x.task.id == s.id) q.awake a e named);
+      after = stopped_free laws q s.id s.to at distinct
+          (any_found (is_next_asked owed q.awake) (λ x. x.task.id == s.id) q.awake a e named);
     }
 
 pub next_served : (laws : QueueLaws) (owed : Bool) (q : QueueState) (s : Stop) (at : ℕ) → AreDistinct q
@@ -200,4 +205,8 @@ stands_once m placed place t = by_test (is_its_place m place t) (placed.once pla
     by_test false e = omega arith
 
 pub distinct : (m : MachineState) (cpu : ℕ) → IsPlaced m → AreDistinct (queue_at m.queues cpu)
-distinct m cpu placed = record { awake = λ u. stands_once m placed (AwakeAt cpu) u; asleep = λ u. stands_once m placed (AsleepAt cpu) u }
+distinct m cpu placed = record {
+  awake = λ u. stands_once m placed (AwakeAt cpu) u;
+  asleep = λ u. stands_once m placed
+      (AsleepAt cpu) u;
+}

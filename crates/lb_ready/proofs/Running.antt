@@ -1,6 +1,7 @@
 -- A serial run is never stuck: a lane that serves a row goes on, and where all lanes rest a row is taken
 -- up, or the history is closed. So every accepted trace has a serial history: the entries that are due are
 -- drawn until none is left.
+-- For the law `serial_runs`.
 use Rattle.std.proofs.Common.{cond, arith, ◌≡◌, ℕ, suc, ◌+◌, ◌<◌, Bool, true, false, List, [], ◌∷◌, length, Option, Some, None, is_some, is_none, refl, sym, ◌∙◌, ap, subst, ltb, inl, inr, ◌⊎◌, zero, not, ◌==◌, ◌++◌, get_or, replicate, set, add-one, length-set, get_or-set_same, get_or-set_other}
 use Rattle.std.specs.List.{list_all}
 use Rattle.std.specs.Prelude.{unwrap_or}
@@ -161,7 +162,8 @@ pub rest_is : (f : Form) → is_rest f ≡ true → f ≡ Rest
 rest_is Rest h = refl
 rest_is f h = absurd (let y : ⊥ = cc in y)
 
-all_at : (cs : List Course) → ((l : ℕ) → is_rest (course_at cs l).form ≡ true) → list_all (λ (c : Course). is_rest c.form) cs ≡ true
+all_at : (cs : List Course) → ((l : ℕ) → is_rest (course_at cs l).form ≡ true)
+    → list_all (λ (c : Course). is_rest c.form) cs ≡ true
 all_at [] h = refl
 all_at (c ∷ cs) h = and_from (is_rest c.form) _ (h 0) (all_at cs (λ l. h (suc l)))
 
@@ -175,12 +177,14 @@ at_rest m lane o w lt live r k =
 
 -- a lane at rest may take up a row that names what is declared and ticks no CPU of another lane
 pub row_keeps : (m : MachineState) (lane : ℕ) (row : Row) → m.closing ≡ false
-    → is_undeclared m.header row.command ≡ false → ticked_elsewhere m lane (row_by m lane (course_at m.courses lane) row) ≡ false →
+    → is_undeclared m.header row.command ≡ false → ticked_elsewhere m lane
+    (row_by m lane (course_at m.courses lane) row) ≡ false →
     Keeps Rest m lane (course_at m.courses lane) (Lane lane) (row_by m lane (course_at m.courses lane) row)
 unfolding draws
 row_keeps m lane row begun declared free = keeps
   where
-    keeps : Keeps Rest m lane (course_at m.courses lane) (Lane lane) (RowEntry ((course_at m.courses lane).rows + 1) row.at row.command)
+    keeps : Keeps Rest m lane (course_at m.courses lane) (Lane lane)
+        (RowEntry ((course_at m.courses lane).rows + 1) row.at row.command)
     keeps Stage = stage_by _ _ _ _ _ (same lane) refl refl begun refl
     keeps RowRule = or_none _ _ (or_none _ _ (not_not _ (same ((course_at m.courses lane).rows + 1))) declared) free
     keeps r = refl
@@ -189,7 +193,8 @@ pub rows_are_taken : PartitionLaw → RowsAreTaken
 rows_are_taken law m row k live begun rest accepted free =
     let p = and_parts _ _ accepted in
     let q = and_parts (ltb row.lane m.header.lanes) _ p.0 in
-    let lt : row.lane < length m.courses = let a = ltb-true row.lane m.header.lanes q.0 in let s = k.sizes.courses in omega arith in (
+    let lt : row.lane < length m.courses = let a = ltb-true row.lane m.header.lanes q.0 in let s = k.sizes.courses in
+    omega arith in (
       at_rest m row.lane (Lane row.lane) _ lt live (rest row.lane)
           (row_keeps m row.lane row begun (is_declared law m.header row.command p.1) free),
       all_at m.courses rest,
@@ -238,7 +243,8 @@ closes asked m k all = by_pending (first_pending m) refl
         subst (closing m) (sym e) n.keeps
 
 -- it takes up no row
-pub closing_rowless : (m : MachineState) → (b : Bool) (o : Option Leaving) (l : ℕ) → row_of (cond b (out_of o) (End (unserved m))) l ≡ []
+pub closing_rowless : (m : MachineState) → (b : Bool) (o : Option Leaving) (l : ℕ)
+    → row_of (cond b (out_of o) (End (unserved m))) l ≡ []
 closing_rowless m true None l = refl
 closing_rowless m true (Some x) l = refl
 closing_rowless m false o l = refl
@@ -289,7 +295,8 @@ pub record RowsFit (h : Header) (ticked : List (Option ℕ)) (rows : List Row) :
   pub free : list_all (is_free ticked) rows ≡ true
   pub agree : ticks_agree rows ≡ true
 
-free_row : (m : MachineState) (r : Row) (n : ℕ) → is_free m.ticked r ≡ true → ticked_elsewhere m r.lane (RowEntry n r.at r.command) ≡ false
+free_row : (m : MachineState) (r : Row) (n : ℕ) → is_free m.ticked r ≡ true → ticked_elsewhere m r.lane
+    (RowEntry n r.at r.command) ≡ false
 free_row m r n h = by_command r.command (not-true _ h)
   where
     by_command : (command : Command) → ticks_another m.ticked r.lane command ≡ false
@@ -299,7 +306,8 @@ free_row m r n h = by_command r.command (not-true _ h)
 
 -- after a row of a lane, which those to come agree with
 still_free : (ticked : List (Option ℕ)) (lane n at : ℕ) (command : Command) (r s : Row) → r.lane ≡ lane
-    → r.command ≡ command → agree r s ≡ true → is_free ticked s ≡ true → is_free (ticked_after (RowEntry n at command) lane ticked) s ≡ true
+    → r.command ≡ command → agree r s ≡ true → is_free ticked s ≡ true
+    → is_free (ticked_after (RowEntry n at command) lane ticked) s ≡ true
 still_free ticked lane n at (Tick cpu) r s l e a f = by_command s.command refl f
   where
     by_command : (other : Command) → s.command ≡ other → not (ticks_another ticked s.lane other) ≡ true
@@ -307,12 +315,14 @@ still_free ticked lane n at (Tick cpu) r s l e a f = by_command s.command refl f
     by_command (Tick u) o f = elim (cases_eq u cpu) [
       | inl i ↦ elim (cases_lt cpu (length ticked)) [
         | inl lt ↦
-            let k : get_or (set ticked cpu (Some lane)) u None ≡ Some lane = rw i (get_or-set_same ticked cpu (Some lane) None lt) in
+            let k : get_or (set ticked cpu (Some lane)) u None ≡ Some lane = rw i
+            (get_or-set_same ticked cpu (Some lane) None lt) in
             let b : both_tick r.command s.command ≡ true = rw (e, o) (eq-eqb u cpu i) in
             let d : (r.lane == s.lane) ≡ true = rw b at a in
             rw (k, ← l, d) refl
         | inr ge ↦ let k : get_or (set ticked cpu (Some lane)) u None ≡ None =
-            get_or_past (set ticked cpu (Some lane)) u None (let z = length-set ticked cpu (Some lane) in omega arith) in rw k refl
+            get_or_past (set ticked cpu (Some lane)) u None (let z = length-set ticked cpu (Some lane) in omega arith)
+            in rw k refl
       ]
       | inr n ↦ rw (get_or-set_other ticked cpu u (Some lane) None n) f
     ]
@@ -320,7 +330,8 @@ still_free ticked lane n at (Tick cpu) r s l e a f = by_command s.command refl f
 still_free ticked lane n at command r s l e a f = f
 
 all_free_after : (ticked : List (Option ℕ)) (r : Row) (n : ℕ) (rows : List Row) → list_all (agree r) rows ≡ true
-    → list_all (is_free ticked) rows ≡ true → list_all (is_free (ticked_after (RowEntry n r.at r.command) r.lane ticked)) rows ≡ true
+    → list_all (is_free ticked) rows ≡ true
+    → list_all (is_free (ticked_after (RowEntry n r.at r.command) r.lane ticked)) rows ≡ true
 all_free_after ticked r n [] a f = refl
 all_free_after ticked r n (s ∷ rows) a f =
     let x = and_parts (agree r s) _ a in
@@ -397,11 +408,13 @@ all_from m lane r others l = elim (cases_eq l lane) [ inl e ↦ rw e r | inr n �
 
 -- the run goes on, where so many entries are left at most
 abbrev Goes : ℕ → Type 0
-Goes k = (m : MachineState) (lane : ℕ) (rows : List Row) → entries_left (length rows) m < k → IsRunning m lane rows → Rest_of m rows
+Goes k = (m : MachineState) (lane : ℕ) (rows : List Row) → entries_left (length rows) m < k → IsRunning m lane rows
+    → Rest_of m rows
 
 -- after an entry that takes up no row
 after_rowless : (laws : RunLaws) → (k : ℕ) → Goes k → (m : MachineState) (lane : ℕ) (rows : List Row)
-    → entries_left (length rows) m < suc k → IsReady m → RowsFit m.header m.ticked rows → OthersRest m lane → (g : GoesOn m lane) →
+    → entries_left (length rows) m < suc k → IsReady m → RowsFit m.header m.ticked rows → OthersRest m lane
+    → (g : GoesOn m lane) →
     (after m g.entry).ended ≡ false → (rows ≡ []) ⊎ ((after m g.entry).closing ≡ false) → Rest_of m rows
 unfolding after
 after_rowless laws k go m lane rows lt ready fit others g live begun =
@@ -414,7 +427,8 @@ after_rowless laws k go m lane rows lt ready fit others g live begun =
       ready = laws.stays m e ready g.may g.nice;
       live = live;
       others = others_rest m e lane g.own others;
-      fit = subst (λ (ticked : List (Option ℕ)). RowsFit m.header ticked rows) (sym (same_ticks e.what e.lane m.ticked g.rowless)) fit;
+      fit = subst (λ (ticked : List (Option ℕ)). RowsFit m.header ticked rows)
+          (sym (same_ticks e.what e.lane m.ticked g.rowless)) fit;
       begun = begun;
     }) in
     subst (λ (rs : List Row). Rest_of m (rs ++ rows)) (g.rowless e.lane) (before m e rows g.may g.serial rest)
@@ -430,7 +444,8 @@ goes_serving laws k go m lane rows lt r busy =
     let form : is_rest (course_at m.courses e.lane).form ≡ false = ap (is_at_rest m) g.0.own ∙ busy in
     let closing : closing_after e.what (course_at m.courses e.lane).form m.closing ≡ m.closing =
     same_closing e.what (course_at m.courses e.lane).form m.closing form in
-    after_rowless laws k go m lane rows lt r.ready r.fit r.others g.0 lives (elim r.begun [ inl n ↦ inl n | inr c ↦ inr (closing ∙ c) ])
+    after_rowless laws k go m lane rows lt r.ready r.fit r.others g.0 lives
+    (elim r.begun [ inl n ↦ inl n | inr c ↦ inr (closing ∙ c) ])
 
 -- all rest, and no row is to come
 goes_closing : (laws : RunLaws) → (k : ℕ) → Goes k → (m : MachineState) → entries_left 0 m < suc k → IsReady m
@@ -449,7 +464,8 @@ goes_closing laws k go m lt ready live fit rest = by_end (after m g.entry).ended
       drawn = ap (λ (rs : List Row). rs ++ [])
           ((closing_goes_on laws.asked m ready live rest).rowless (closing_goes_on laws.asked m ready live rest).entry.lane);
     }
-    by_end false e = after_rowless laws k go m 0 [] lt ready fit (λ l n. rest l) (closing_goes_on laws.asked m ready live rest) e (inl refl)
+    by_end false e = after_rowless laws k go m 0 [] lt ready fit (λ l n. rest l)
+        (closing_goes_on laws.asked m ready live rest) e (inl refl)
 
 -- all rest, and a row is taken up
 goes_taking : (laws : RunLaws) → (k : ℕ) → Goes k → (m : MachineState) (r : Row) (rows : List Row)
@@ -458,7 +474,13 @@ goes_taking : (laws : RunLaws) → (k : ℕ) → Goes k → (m : MachineState) (
 unfolding after
 goes_taking laws k go m r rows lt ready live closing fit rest =
     let n = (course_at m.courses r.lane).rows + 1 in
-    let e : Entry = record { owner = Lane r.lane; lane = r.lane; prev = get_or m.last r.lane 0; what = RowEntry n r.at r.command } in
+    let e : Entry = record {
+      owner = Lane r.lane;
+      lane = r.lane;
+      prev = get_or m.last r.lane 0;
+      what = RowEntry n r.at
+          r.command;
+    } in
     let accepted = (and_parts (is_row m.header r) _ fit.each).0 in
     let t = rows_are_taken laws.partition m r ready live closing rest accepted
     (free_row m r n ((and_parts (is_free m.ticked r) _ fit.free).0)) in

@@ -1,4 +1,5 @@
 -- A scan that is due is over a published version: it follows the end of a turn, which took that version up.
+-- For the lemmas of `Keeping`, and so for the laws `calls_may_be_made`, `ready` and others.
 use Rattle.std.proofs.Common.{arith, ◌≡◌, ℕ, ◌+◌, ◌-◌, ◌<◌, true, List, [], ◌∷◌, length, get_or, Option, Some, None, refl, sym, ◌∙◌}
 use Rattle.std.proofs.lemmas.List.{get_or_append_left}
 use Rattle.lb_base.specs.declared.mask.Mask.{Mask}
@@ -34,7 +35,8 @@ kept_at : (w : What) (command : Option Command) (vs : List (List Mask)) (i : ℕ
 kept_at (Pub v) (Some (Rebuild parts)) vs i lt = get_or_append_left vs (parts ∷ []) [] i lt
 kept_at w command vs i lt = refl
 
-pub version_stays : (m : MachineState) (e : Entry) (v : ℕ) (masks : List Mask) → IsVersion m v masks → IsVersion (after m e) v masks
+pub version_stays : (m : MachineState) (e : Entry) (v : ℕ) (masks : List Mask) → IsVersion m v masks
+    → IsVersion (after m e) v masks
 unfolding after
 version_stays m e v masks k =
     let more = (versions_more e.what (sight m e).course.command m.versions).0 in
@@ -47,7 +49,8 @@ version_stays m e v masks k =
       masks_are = k.masks_are ∙ sym (kept_at e.what (sight m e).course.command m.versions (v - 1) there);
     }
 
-scan_stays : (f : Form) (m : MachineState) (e : Entry) (v : ℕ) (masks : List Mask) → ScansIn f m v masks → ScansIn f (after m e) v masks
+scan_stays : (f : Form) (m : MachineState) (e : Entry) (v : ℕ) (masks : List Mask) → ScansIn f m v masks
+    → ScansIn f (after m e) v masks
 scan_stays ScanDue m e v masks k = version_stays m e v masks k
 scan_stays f m e v masks k = tt
 
@@ -65,7 +68,8 @@ scans_by : (f : Form) (m : MachineState) (lane : ℕ) (s : Sight) (cpu : ℕ) (n
 unfolding draws turn_ends
 scans_by f m lane s cpu now (Scan fs t) d k o =
     scanned_by (ScansVersion m) t (record s.course { figures = s.figs; named = raised_numbers fs s.course.named }) tt (λ u e. tt)
-scans_by f m lane s cpu now (Did r) d k o = answered_by (ScansVersion m) s.course.command cpu s.queue now s.course tt tt (λ u e. tt)
+scans_by f m lane s cpu now (Did r) d k o = answered_by (ScansVersion m) s.course.command cpu s.queue now s.course tt tt
+    (λ u e. tt)
 scans_by f m lane s cpu now (Out cause to tasks) d k o = off_scans m (leaving s) s.course o
 scans_by f m lane s cpu now (Landed tasks) d k o = lands_by (ScansVersion m) (cause_of s.course) s.course tt (λ t. tt) (λ i. tt)
 scans_by f m lane s cpu now (Turn ps) d k o =
@@ -75,7 +79,8 @@ scans_by f m lane s cpu now (Turn ps) d k o =
       counters = counters_found s.queue s.course.at s.course.version
           (shapes_of (turn_domains s.header s.course));
     }) tt (λ p e. tt)
-scans_by Used m lane s cpu now Shut d k o = ends_by (ScansVersion m) (turn_kind s.course) s.header s.course tt (λ some. k) (λ t q. tt)
+scans_by Used m lane s cpu now Shut d k o = ends_by (ScansVersion m) (turn_kind s.course) s.header s.course tt
+    (λ some. k) (λ t q. tt)
 scans_by f m lane s cpu now Shut d k o = absurd (let y : ⊥ = cc in y)
 scans_by Done m lane s cpu now Over d k o =
     ends_by (ScansVersion m) (turn_kind s.course) s.header s.course tt (λ some. k.taken_up) (λ t q. tt)
@@ -92,4 +97,5 @@ scans_kept m e h k o =
     let c = course_by e.what (sight m e) (cpu_of e.owner) (queue_left m e) in
     let new = scans_by (course_at m.courses e.lane).form m e.lane (sight m e) (cpu_of e.owner) (queue_left m e) e.what
     (form_lets m e h).1 k o in
-    scans_stay m e (drew e.owner ((sight m e).count + 1) c) (drew_by (ScansVersion m) e.owner ((sight m e).count + 1) c new (λ cpu. new))
+    scans_stay m e (drew e.owner ((sight m e).count + 1) c)
+    (drew_by (ScansVersion m) e.owner ((sight m e).count + 1) c new (λ cpu. new))

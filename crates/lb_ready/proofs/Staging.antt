@@ -1,5 +1,7 @@
 -- What the rule `stage` says of an entry that keeps it: its lane and its CPU are declared, it is its owner's,
 -- and the form of its lane's course draws its kind. For callers too.
+-- For the lemmas of `Calls` and `Drawing`, and so for the laws `calls_may_be_made`, `next_entries` and others; cited
+-- by `lb_judge` too.
 use Rattle.std.proofs.Common.{◌≡◌, ℕ, ◌<◌, true, false, not, length, ltb}
 use Rattle.std.proofs.lemmas.Bool.{and_parts, or_parts, ltb-true, not-false}
 use Rattle.lb_core.specs.declared.entry.Entry.{Entry}
@@ -16,7 +18,8 @@ pub record IsStaged (m : MachineState) (e : Entry) : Type 0 where
   pub lane : e.lane < length m.courses
   pub owner_there : is_undeclared_owner m e.owner ≡ false
   pub owner : is_owner e.what e.lane (queue_due (course_at m.courses e.lane).form (course_at m.courses e.lane)) e.owner ≡ true
-  pub drawn : draws (course_at m.courses e.lane).form m.header (course_at m.courses e.lane) (owned_queue e.owner m) e.lane e.what ≡ true
+  pub drawn : draws (course_at m.courses e.lane).form m.header (course_at m.courses e.lane) (owned_queue e.owner m)
+      e.lane e.what ≡ true
   pub at_rest : stage_at_rest (course_at m.courses e.lane).form m e.owner e.what ≡ false
   pub used : stage_of_use m (course_at m.courses e.lane) e.what ≡ false
 
@@ -39,4 +42,5 @@ staged m e h =
 
 pub staged_cpu : (m : MachineState) (cpu lane prev : ℕ) (w : What)
     → breaks m (entry (Queue cpu) lane prev w) Stage ≡ false → cpu < length m.queues
-staged_cpu m cpu lane prev w h = ltb-true cpu (length m.queues) (not-false _ (staged m (entry (Queue cpu) lane prev w) h).owner_there)
+staged_cpu m cpu lane prev w h = ltb-true cpu (length m.queues)
+    (not-false _ (staged m (entry (Queue cpu) lane prev w) h).owner_there)

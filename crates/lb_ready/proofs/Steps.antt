@@ -1,5 +1,6 @@
 -- The steps of a queue in the machine, as calls of it: each answer to a command, each landing, and each
 -- way in which tasks leave. So a test of tasks that lasts is kept, and so is what is not of tasks.
+-- For the lemmas of `Calls`, `Counters` and other files, and so for the laws `calls_may_be_made`, `ready` and others.
 use Rattle.std.proofs.Common.{◌≡◌, ◌⊎◌, ℕ, Bool, true, false, List, Option, Some, None, refl, subst, inl, inr, ℤ, is_some, ◌||◌}
 use Rattle.std.specs.List.{list_all}
 use Rattle.std.specs.Prelude.{IfSome}
@@ -46,8 +47,10 @@ pub record OfEach (P : Leaving → Type 0) (f : Form) (h : Header) (c : Course) 
   pub wake : (t to : ℕ) → f ≡ Asked → c.command ≡ Some (Wake t) → away q t ≡ Some to → P (gone WakeOut to None (leave q c.at t))
   pub stop : (s : Stop) (owed : Bool) → (f ≡ Rest) ⊎ (f ≡ Serving) → next_stop q owed ≡ Some s
       → P (gone StopOut s.to None (take_stop q c.at s.id))
-  pub push : (to : ℕ) → f ≡ Serving → next_stop q true ≡ None → q.active ≡ Some to → P (gone PushOut to None (take_push q c.at to))
-  pub pulls : (env : Env) → f ≡ Looked → env_of h c ≡ Some env → P (gone PullOut env.to (Some (taken_by q c.at env)) (take_pull q c.at env))
+  pub push : (to : ℕ) → f ≡ Serving → next_stop q true ≡ None → q.active ≡ Some to
+      → P (gone PushOut to None (take_push q c.at to))
+  pub pulls : (env : Env) → f ≡ Looked → env_of h c ≡ Some env
+      → P (gone PullOut env.to (Some (taken_by q c.at env)) (take_pull q c.at env))
 
 it_is : (P : Leaving → Type 0) (x l : Leaving) → Some x ≡ Some l → P x → P l
 it_is P x l e k = let s : x ≡ l = cc in subst P s k
@@ -131,8 +134,10 @@ pub record Parted (t : Test) (tasks : List TaskRecord) (left : QueueState) : Typ
 
 -- what a command asks of the test
 abbrev pub Takes : Test → QueueState → Option Command → Type 0
-Takes t q (Some (SetMask id mask)) = is_bad_mask q mask ≡ false → Allows t.up t.down id (request_after q.cpu mask) (with_mask mask)
-Takes t q (Some (Tick cpu)) = (stop : StopRequest) (x : TaskRecord) → is_pending stop ≡ true → t.up stop x ≡ true → t.up Owed x ≡ true
+Takes t q (Some (SetMask id mask)) = is_bad_mask q mask ≡ false → Allows t.up t.down id (request_after q.cpu mask)
+    (with_mask mask)
+Takes t q (Some (Tick cpu)) = (stop : StopRequest) (x : TaskRecord) → is_pending stop ≡ true → t.up stop x ≡ true
+    → t.up Owed x ≡ true
 Takes t q command = Unit {0}
 
 if_some : {X : Type 0} (o : Option X) (P : X → Type 0) → ((x : X) → P x) → IfSome o P
@@ -147,7 +152,8 @@ answer_passes laws t (Some (Wake id)) at q takes k =
     (if_some (task_with id q.asleep) (λ x. t.down x ≡ true → t.up Free x ≡ true) t.joins)).queue
 answer_passes laws t (Some (Sleep id)) at q takes k = (laws.tests t.up t.down t.lasts q k (SleepCall at id) tt).queue
 answer_passes laws t (Some (Exit id)) at q takes k = (laws.tests t.up t.down t.lasts q k (ExitCall at id) tt).queue
-answer_passes laws t (Some (SetMask id mask)) at q takes k = (laws.tests t.up t.down t.lasts q k (SetMaskCall at id mask) takes).queue
+answer_passes laws t (Some (SetMask id mask)) at q takes k =
+    (laws.tests t.up t.down t.lasts q k (SetMaskCall at id mask) takes).queue
 answer_passes laws t (Some (Nice id nice)) at q takes k =
     (laws.tests t.up t.down t.lasts q k (ReniceCall at id nice) (t.renices id nice)).queue
 answer_passes laws t (Some (Tick cpu)) at q takes k = (laws.tests t.up t.down t.lasts q k (TickCall at) takes).queue
@@ -234,13 +240,15 @@ pub known_answers : (command : Option Command) (at : ℕ) (q : QueueState)
 unfolding wake sleep exit set_mask renice
 known_answers None at q known = refl
 known_answers (Some (Wake id)) at q known =
-    known_by (λ a o g. wakes q at o a g) _ _ _ (known id refl) (λ a. wakes_awake (task_with id q.asleep) a _ q at) (λ t. refl) (λ t. refl)
+    known_by (λ a o g. wakes q at o a g) _ _ _ (known id refl) (λ a. wakes_awake (task_with id q.asleep) a _ q at)
+    (λ t. refl) (λ t. refl)
 known_answers (Some (Sleep id)) at q known = known_by (sleeps q at) _ _ _ (known id refl) (λ a. refl) (λ t. refl) (λ t. refl)
 known_answers (Some (Exit id)) at q known = known_by (exits q at) _ _ _ (known id refl) (λ a. refl) (λ t. refl) (λ t. refl)
 known_answers (Some (SetMask id mask)) at q known =
     known_by (sets_mask q at id mask) _ _ _ (known id refl) (λ a. bad_or_done (is_bad_mask q mask) _ _)
     (λ t. bad_or_done (is_bad_mask q mask) _ _) (λ t. refl)
-known_answers (Some (Nice id nice)) at q known = known_by (renices q at id nice) _ _ _ (known id refl) (λ a. refl) (λ t. refl) (λ t. refl)
+known_answers (Some (Nice id nice)) at q known = known_by (renices q at id nice) _ _ _ (known id refl) (λ a. refl)
+    (λ t. refl) (λ t. refl)
 known_answers (Some (Tick cpu)) at q known = refl
 known_answers (Some (Rebuild parts)) at q known = refl
 

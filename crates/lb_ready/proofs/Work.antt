@@ -1,5 +1,6 @@
 -- Every entry lowers the number of entries that are left: one that moves no task lowers what its course
 -- can still draw, by what the course itself says; one that moves tasks lowers that or the requests.
+-- For the law `entries_fall`.
 use Rattle.std.proofs.Common.{arith, ◌≡◌, ℕ, ◌+◌, ◌*◌, ◌<◌, ◌≤◌, Bool, true, false, not, cond, ◌==◌, ◌&&◌, length, Option, Some, None, refl, sym, ◌∙◌, ltb, ◌⊎◌, inl, inr, ◌||◌, List, is_some, ap, sum_by}
 use Rattle.std.proofs.lemmas.Bool.{and_parts, and_from, or_parts, ltb-true, lt-ltb, le-ltb, not-true, eqb-true, eq-eqb, not-false}
 use Rattle.std.proofs.lemmas.List.Sums.{sum_by-set}
@@ -68,7 +69,8 @@ above_itself : (m : Mask) (p : ℕ) → (ltb p p && has m p) ≡ false
 above_itself m p = rw (le-ltb p p (omega arith)) refl
 
 above_more : (m : Mask) (a p k : ℕ) → a < p → (ltb p k && has m k) ≡ true → (ltb a k && has m k) ≡ true
-above_more m a p k lt h = let x = and_parts (ltb p k) (has m k) h in let y = ltb-true p k x.0 in and_from _ _ (lt-ltb a k (omega arith)) x.1
+above_more m a p k lt h = let x = and_parts (ltb p k) (has m k) h in let y = ltb-true p k x.0 in and_from _ _
+    (lt-ltb a k (omega arith)) x.1
 
 above_less : (m : Mask) (a p : ℕ) → (has m p ≡ true) × (a < p) × (p < 64)
     → count_where (λ k. ltb p k && has m k) 64 < count_where (λ k. ltb a k && has m k) 64
@@ -105,7 +107,8 @@ ends_work TickTurn h c = cond_work (ltb 1 c.awake && ltb 0 (length (turn_domains
 ends_work Idle h c = omega arith
 ends_work Nohz h c =
     let w = kicks_work (least_above (tickless_in c.figures) c.cpu) c (12483 * kicks_above c.cpu c.figures)
-    (λ t e. let k = above_less (tickless_in c.figures) c.cpu t (least_above_found (tickless_in c.figures) c.cpu t e) in omega arith) in
+    (λ t e. let k = above_less (tickless_in c.figures) c.cpu t (least_above_found (tickless_in c.figures) c.cpu t e) in
+    omega arith) in
     omega arith
 
 pub turn_ends_work : (h : Header) (c : Course) → work_of (turn_ends h c) < work_at_end c
@@ -331,7 +334,8 @@ out_falls : (laws : QueueLaws) (tasks : ℕ) (f : Form) (h : Header) (c : Course
     → out_by f h c q ≡ Some l → AreDistinct q → Few tasks q → OutFalls tasks f c q l
 out_falls laws tasks f h c q lane l cause to ids d e distinct few =
     let says = out_says f h c q lane cause to ids d in
-    of_out (λ (l : Leaving). Fewer q l.rest → asked_count tasks l.rest ≤ asked_count tasks q → OutFalls tasks f c q l) f h c q l (record {
+    of_out (λ (l : Leaving). Fewer q l.rest → asked_count tasks l.rest ≤ asked_count tasks q → OutFalls tasks f c q l) f
+    h c q l (record {
       wake = λ t to i j a fewer less. record {
         served = 0;
         work = rw i (let k = tick_most (is_tick c.command) (record c { pushed = c.pushed || false }) in omega arith);
@@ -377,9 +381,11 @@ free_source c shape groups figs cpu kind Balanced e = tt
 free_source c shape groups figs cpu kind (Pull s k i) e = let f =
     source_found shape groups figs cpu kind c.excluded s k i e in (f.free, f.numbered)
 
-decided : (m : MachineState) (e : Entry) (w : What) → breaks_decision (sight m e) w ≡ false → Decided (course_at m.courses e.lane) w
+decided : (m : MachineState) (e : Entry) (w : What) → breaks_decision (sight m e) w ≡ false
+    → Decided (course_at m.courses e.lane) w
 unfolding sight
-decided m e (Look p x names d) h = free_source (course_at m.courses e.lane) _ _ _ _ _ d (decision_is d _ (not-false _ ((or_parts _ _ h).1)))
+decided m e (Look p x names d) h = free_source (course_at m.courses e.lane) _ _ _ _ _ d
+    (decision_is d _ (not-false _ ((or_parts _ _ h).1)))
 decided m e w h = tt
 
 requests_kept : (laws : QueueLaws) (tasks : ℕ) (w : What) (s : Sight) (lane : ℕ) → is_out w ≡ false
@@ -404,7 +410,8 @@ end_left (End cpus) = refl
 end_left w = refl
 
 -- by what becomes of the lane's work and of the requests
-falls_by : (m : MachineState) (e : Entry) (rows asked served : ℕ) → MayBeAdded m e → requests (after m e) + served ≤ requests m + asked →
+falls_by : (m : MachineState) (e : Entry) (rows asked served : ℕ) → MayBeAdded m e
+    → requests (after m e) + served ≤ requests m + asked →
     work_of (course_left m e) + 2 * asked < work_of
     (course_at m.courses e.lane) + 2 * served + row_gain e.what + end_gain e.what
     → entries_left rows (after m e) < entries_left (rows_before e.what rows) m

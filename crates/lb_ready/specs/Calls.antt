@@ -1,5 +1,7 @@
 -- What the call that an entry stands for asks, with the values that the course of its lane fixes: of the
 -- queue that draws the entry, of a decision, and of the search for the target of a kick.
+-- For the definitions of `Laws`, and so for the laws `ready`, `entries_fall` and others; cited by `lb_draw`, `lb_due`
+-- and other crates.
 use Rattle.std.specs.Prelude.{◌≡◌, ℕ, ◌<◌, ◌≤◌, true, false, Option, Some, IfSome, IsSome, Bool, All, length, find, is_some, ◌==◌, List}
 use Rattle.lb_base.specs.declared.mask.TheConstants.{MAX_CPUS}
 use Rattle.lb_base.specs.Mask.{has}

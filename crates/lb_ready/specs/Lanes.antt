@@ -1,5 +1,6 @@
 -- What every lane keeps whatever its form: it has a number for each CPU, its position is one that a mask has
 -- room for, and the masks that it is to publish part the CPUs.
+-- Cited by the law `lanes_suit`; also by `lb_state`.
 use Rattle.std.specs.Prelude.{◌≡◌, ℕ, ◌<◌, Option, Some, None, List, length}
 use Rattle.lb_base.specs.declared.mask.TheConstants.{MAX_CPUS}
 use Rattle.lb_levels.specs.Faults.{parts_fault_of}

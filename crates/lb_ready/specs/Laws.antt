@@ -1,5 +1,7 @@
 -- Laws of the machine: what its states keep, how many entries are left, that a serial run always has
 -- a next entry, and that every accepted trace has a serial history.
+-- Cited by the laws `ready`, `entries_fall`, `calls_may_be_made` and others; also by `lb`, `lb_draw` and other
+-- crates.
 use Rattle.std.specs.Prelude.{Option, Some, IfSome, length, ◌≡◌, ℕ, ◌+◌, ◌<◌, Bool, true, false, [], ◌*◌, ◌≤◌}
 use Rattle.std.specs.List.{slice_index_or, list_all}
 use Rattle.lb_trace.specs.declared.trace.Header.{Header}

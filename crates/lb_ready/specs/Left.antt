@@ -1,6 +1,7 @@
 -- How many entries are left, at most: a number that every entry lowers. A row that is still to come
 -- is worth all that it can ask for, a lane all that its course can still draw, and a stop request the
 -- two entries that serve it; the end is one entry.
+-- For the definitions of `Laws`, and so for the laws `ready`, `entries_fall` and others; cited by `lb_serial`.
 use Rattle.std.specs.Prelude.{ℕ, ◌+◌, ◌-◌, ◌*◌, ◌==◌, nat_lt, Bool, not, ◌&&◌, if◌then◌else◌, List, length, sum_by}
 use Rattle.std.specs.List.{list_any, range_with_len}
 use Rattle.lb_base.specs.declared.mask.Mask.{Mask}

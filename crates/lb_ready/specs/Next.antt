@@ -2,6 +2,8 @@
 -- version, and reads each queue's last figure. At rest it takes up the row that is given, or without one
 -- goes on closing the history. Two laws say that this is the serial entry: what comes next may be added,
 -- and no other serial entry of the lane may.
+-- For the definitions of `Laws`, and so for the laws `ready`, `entries_fall` and others; cited by `lb_draw`, `lb_due`
+-- and other crates.
 use Rattle.std.specs.Prelude.{ℕ, ◌+◌, ◌-◌, ◌≡◌, ◌==◌, nat_lt, Bool, true, not, ◌&&◌, ◌||◌, if◌then◌else◌, Option, Some, None, is_some, unwrap_or, option_to_list, List, [], map, length}
 use Rattle.std.specs.List.{slice_index_or}
 use Rattle.lb_base.specs.declared.shape.Kind.TheVariants.{Tick as TickTurn}

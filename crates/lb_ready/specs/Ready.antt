@@ -1,6 +1,8 @@
 -- What every reachable state of the machine keeps: a legal front leads to it, each task stands at one
 -- place where it may be, what courses and queues speak of is of the machine, owed stop requests are being
 -- served, what lanes have named was published, turns stay open, and numbers stay small.
+-- For the definitions of `Calls`, `Lanes` and others, and so for the laws `lanes_suit`, `ready` and others; cited by
+-- `lb_draw`, `lb_due` and other crates.
 use Rattle.std.specs.Prelude.{◌≡◌, ℕ, ◌<◌, ◌≤◌, ◌+◌, ◌*◌, nat_lt, nat_le, Bool, true, false, not, ◌&&◌, Option, Some, None, is_some, unwrap_or, ◌^◌, List, [], length}
 use Rattle.std.specs.List.{list_all, slice_index_or}
 use Rattle.lb_base.specs.declared.shape.Kind.TheVariants.{Tick as TickTurn}

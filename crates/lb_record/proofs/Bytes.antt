@@ -1,4 +1,6 @@
 -- Which bytes stand in fields and lines: none that is the mark between fields, and no line feed.
+-- For the lemmas of `Cut` and `Spelled`, and so for the laws `has_its_lines` and `has_its_fields`; cited by `lb_read`
+-- too.
 use Rattle.std.proofs.Common.{◌≡◌, ℕ, zero, suc, ◌+◌, ◌<◌, ◌≤◌, ◌%◌, ◌/◌, ℤ, pos, negsuc, Bool, true, false, eqb, ltb, List, [], ◌∷◌, ◌++◌, map, refl, arith, inl, inr}
 use Rattle.std.specs.Prelude.{decimal}
 use Rattle.std.specs.Fmt.{digit_glyph, digits_onto, digits, signed_decimal}

@@ -1,4 +1,5 @@
 -- The text of a history, cut at its line feeds, and the line of an entry, cut at its spaces.
+-- For the lemmas of `Spelled`, and so for the laws `has_its_lines` and `has_its_fields`; cited by `lb_read` too.
 use Rattle.std.proofs.Common.{◌≡◌, ℕ, eqb, List, [], ◌∷◌, ◌++◌, refl, ap, ◌∙◌, append_assoc, arith}
 use Rattle.std.specs.List.{slice_split}
 use Rattle.std.proofs.lemmas.List.{append-nil}

@@ -1,4 +1,5 @@
 -- The list of a mask without CPUs: nothing in a line of a trace.
+-- For `put_runs`; cited by `lb_read` too.
 use Rattle.std.proofs.Common.{◌≡◌, ℕ, Bool, false, Some, None, List, [], ◌∷◌, refl, ap, inl, inr}
 use Rattle.std.specs.Prelude.{is_none, find, filter, map}
 use Rattle.std.specs.List.{range_with_len, join_with_byte}

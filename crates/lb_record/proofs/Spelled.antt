@@ -1,5 +1,6 @@
 -- Which bytes stand in the fields of an entry and in the lines of a header. What reads a history cites
 -- `runs_over`, `entry_over`, `line_over` and `header_over`.
+-- For the laws `has_its_lines` and `has_its_fields`; cited by `lb_read` too.
 use Rattle.std.proofs.Common.{◌≡◌, ℕ, Option, Some, None, true, eqb, List, [], ◌∷◌, ◌++◌, map, refl, arith, inl, inr}
 use Rattle.std.specs.Prelude.{decimal, codes}
 use Rattle.std.specs.Fmt.{signed_decimal}

@@ -1,4 +1,5 @@
 -- The worked lines have their texts, by computing them.
+-- For the law `spells_worked_lines`.
 use Rattle.std.proofs.Common.{refl}
 use Rattle.std.specs.Fmt.{digits}
 use Rattle.lb_base.specs.Mask.{has, members, members_below}

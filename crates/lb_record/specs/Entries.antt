@@ -1,5 +1,6 @@
 -- The line of an entry: its ticket, its owner, the ticket of the lane's entry before it, its kind,
 -- and the fields of that kind, with a space between each two.
+-- Cited by the contracts of `put_entry`, `put_owner`, `put_command` and others; also by `lb_read`.
 use Rattle.std.specs.Prelude.{ℕ, List, [], ◌∷◌, ◌++◌, map, codes, decimal}
 use Rattle.std.specs.Fmt.{signed_decimal}
 use Rattle.lb_text.specs.declared.marks.TheConstants.{SPACE}

@@ -1,5 +1,6 @@
 -- The fields of an entry that are lists, or that may say nothing: numbers of tasks with `;` between
 -- them, figures with a comma between them, a target. Where there is no task or no target, `-` stands.
+-- Cited by the contracts of `put_ids`, `put_figures`, `put_target` and others; also by `lb_read`.
 use Rattle.std.specs.Prelude.{ℕ, Option, Some, None, List, [], ◌∷◌, ◌++◌, map, codes, decimal}
 use Rattle.lb_text.specs.declared.marks.TheConstants.{COLON, COMMA, SEMICOLON}
 use Rattle.lb_core.specs.declared.entry.FigName.{FigName}

@@ -1,6 +1,7 @@
 -- The header of a history: the line `lbhist 1`, and behind `= ` each line that declares the machine,
 -- its partition, its lanes and its tasks, as a trace has them. Lists are in their one spelling, and
 -- an empty one is empty. The partition is always there.
+-- Cited by the contracts of `put_header`, `history_text`, `put_cpu` and others; also by `lb_read`.
 use Rattle.std.specs.Prelude.{ℕ, List, [], ◌∷◌, ◌++◌, map, codes, decimal}
 use Rattle.std.specs.Fmt.{signed_decimal}
 use Rattle.lb_base.specs.declared.mask.Mask.{Mask}

@@ -1,5 +1,6 @@
 -- The text of a history: the lines of its header, then a line for each entry. An entry's ticket is
 -- its place in the history, from 1.
+-- Cited by the contract of `history_text`; also by `lb` and `lb_read`.
 use Rattle.std.specs.Prelude.{ℕ, List, ◌++◌}
 use Rattle.lb_trace.specs.declared.trace.Header.{Header}
 use Rattle.lb_core.specs.declared.entry.Entry.{Entry}

@@ -1,5 +1,6 @@
 -- Laws of the text of a history: a line feed ends each line and stands nowhere else, and a space
 -- stands between each two fields of an entry and nowhere else.
+-- Cited by the laws `has_its_lines` and `has_its_fields`.
 use Rattle.std.specs.Prelude.{◌≡◌, ℕ, ◌==◌, [], ◌∷◌, ◌++◌}
 use Rattle.std.specs.List.{slice_split}
 use Rattle.lb_text.specs.declared.marks.TheConstants.{LINE_FEED, SPACE}

@@ -1,4 +1,5 @@
 -- Worked lines: entries of every kind, and lines of a header, each beside the text that it has.
+-- Cited by the law `spells_worked_lines`.
 use Rattle.std.specs.Prelude.{◌≡◌, ℕ, negsuc, pos, ◌-◌, List, [], ◌∷◌, map, codes, Some, None}
 use Rattle.lb_base.specs.declared.mask.Mask.{Mask}
 use Rattle.lb_base.specs.declared.shape.Kind.TheVariants as kinds

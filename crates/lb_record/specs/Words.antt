@@ -1,5 +1,6 @@
 -- The words that stand in entries: why a turn is made, what a pull is to even out, what a queue
 -- answers, why tasks leave it, and how a position ends (docs/rules/history-text.md).
+-- Cited by the contracts of `turn_word`, `move_word`, `reply_word` and others; also by `lb_read`.
 use Rattle.std.specs.Prelude.{ℕ, List, codes}
 use Rattle.lb_base.specs.declared.shape.Kind.{Kind}
 use Rattle.lb_base.specs.declared.shape.Kind.TheVariants as kinds

@@ -1,4 +1,5 @@
--- The histories of this name are judged by computing the machine.
+-- Each worked history of `specs/Faults` breaks just the rule that is said, at the ticket that is said: by computing it.
+-- For `wrong_previous`, `over_at_rest`, `pull_left_out` and others.
 use Rattle.std.specs.Prelude.{◌≡◌, None, refl}
 use Rattle.lb_base.specs.Mask.{has, members_below, members, first_cpus, only, both, either, without}
 use Rattle.lb_base.specs.Sets.{least, least_above, is_below, are_apart, mask_where}
@@ -47,11 +48,13 @@ use Rattle.lb_rows.specs.Faults.{wrong_previous_history, over_at_rest_history, p
 pub wrong_previous : fault_of wrong_previous_history ≡ fault_at 1 PrevRule
 unfolding
     has members_below members first_cpus only both either without least least_above is_below are_apart mask_where total
-    is_first_greatest first_greatest weights weight_of inverses inverse_at decayed advanced_by advanced signal_value counters_after
+    is_first_greatest first_greatest weights weight_of inverses inverse_at decayed advanced_by advanced signal_value
+    counters_after
     refuses task_at left_before refused_at taken refused free ends examined ids_at picked_ids kept_ids average_after
     is_tickless tickless_cpus idle_count any_marked stats_of is_busier may_be_busiest is_busier_at busiest_of
     may_be_source has_more source_of
-    is_idle_in first_idle balancer_of is_level imbalance_of all_stats domain_average pull_or_balanced pull_from_group decision_over decision
+    is_idle_in first_idle balancer_of is_level imbalance_of all_stats domain_average pull_or_balanced pull_from_group
+    decision_over decision
     distances_of levels_of span_of cut_span firsts is_kept domains_of
     pick_back somebody_runs joined left_by away value_of view_at views figure wake sleep exit set_mask renice
     has_pending has_owed next_asked rotated tick ask_active kick leave take_stop pushed take_push in_order take_pull taken_by land
@@ -63,11 +66,13 @@ wrong_previous = refl
 pub over_at_rest : fault_of over_at_rest_history ≡ fault_at 1 StageRule
 unfolding
     has members_below members first_cpus only both either without least least_above is_below are_apart mask_where total
-    is_first_greatest first_greatest weights weight_of inverses inverse_at decayed advanced_by advanced signal_value counters_after
+    is_first_greatest first_greatest weights weight_of inverses inverse_at decayed advanced_by advanced signal_value
+    counters_after
     refuses task_at left_before refused_at taken refused free ends examined ids_at picked_ids kept_ids average_after
     is_tickless tickless_cpus idle_count any_marked stats_of is_busier may_be_busiest is_busier_at busiest_of
     may_be_source has_more source_of
-    is_idle_in first_idle balancer_of is_level imbalance_of all_stats domain_average pull_or_balanced pull_from_group decision_over decision
+    is_idle_in first_idle balancer_of is_level imbalance_of all_stats domain_average pull_or_balanced pull_from_group
+    decision_over decision
     distances_of levels_of span_of cut_span firsts is_kept domains_of
     pick_back somebody_runs joined left_by away value_of view_at views figure wake sleep exit set_mask renice
     has_pending has_owed next_asked rotated tick ask_active kick leave take_stop pushed take_push in_order take_pull taken_by land
@@ -79,11 +84,13 @@ over_at_rest = refl
 pub pull_left_out : fault_of pull_left_out_history ≡ fault_at 12 StageRule
 unfolding
     has members_below members first_cpus only both either without least least_above is_below are_apart mask_where total
-    is_first_greatest first_greatest weights weight_of inverses inverse_at decayed advanced_by advanced signal_value counters_after
+    is_first_greatest first_greatest weights weight_of inverses inverse_at decayed advanced_by advanced signal_value
+    counters_after
     refuses task_at left_before refused_at taken refused free ends examined ids_at picked_ids kept_ids average_after
     is_tickless tickless_cpus idle_count any_marked stats_of is_busier may_be_busiest is_busier_at busiest_of
     may_be_source has_more source_of
-    is_idle_in first_idle balancer_of is_level imbalance_of all_stats domain_average pull_or_balanced pull_from_group decision_over decision
+    is_idle_in first_idle balancer_of is_level imbalance_of all_stats domain_average pull_or_balanced pull_from_group
+    decision_over decision
     distances_of levels_of span_of cut_span firsts is_kept domains_of
     pick_back somebody_runs joined left_by away value_of view_at views figure wake sleep exit set_mask renice
     has_pending has_owed next_asked rotated tick ask_active kick leave take_stop pushed take_push in_order take_pull taken_by land
@@ -95,11 +102,13 @@ pull_left_out = refl
 pub undeclared_lane : fault_of undeclared_lane_history ≡ fault_at 1 StageRule
 unfolding
     has members_below members first_cpus only both either without least least_above is_below are_apart mask_where total
-    is_first_greatest first_greatest weights weight_of inverses inverse_at decayed advanced_by advanced signal_value counters_after
+    is_first_greatest first_greatest weights weight_of inverses inverse_at decayed advanced_by advanced signal_value
+    counters_after
     refuses task_at left_before refused_at taken refused free ends examined ids_at picked_ids kept_ids average_after
     is_tickless tickless_cpus idle_count any_marked stats_of is_busier may_be_busiest is_busier_at busiest_of
     may_be_source has_more source_of
-    is_idle_in first_idle balancer_of is_level imbalance_of all_stats domain_average pull_or_balanced pull_from_group decision_over decision
+    is_idle_in first_idle balancer_of is_level imbalance_of all_stats domain_average pull_or_balanced pull_from_group
+    decision_over decision
     distances_of levels_of span_of cut_span firsts is_kept domains_of
     pick_back somebody_runs joined left_by away value_of view_at views figure wake sleep exit set_mask renice
     has_pending has_owed next_asked rotated tick ask_active kick leave take_stop pushed take_push in_order take_pull taken_by land
@@ -111,11 +120,13 @@ undeclared_lane = refl
 pub undeclared_lane_quotes : fault_of undeclared_lane_quotes_history ≡ fault_at 1 PrevRule
 unfolding
     has members_below members first_cpus only both either without least least_above is_below are_apart mask_where total
-    is_first_greatest first_greatest weights weight_of inverses inverse_at decayed advanced_by advanced signal_value counters_after
+    is_first_greatest first_greatest weights weight_of inverses inverse_at decayed advanced_by advanced signal_value
+    counters_after
     refuses task_at left_before refused_at taken refused free ends examined ids_at picked_ids kept_ids average_after
     is_tickless tickless_cpus idle_count any_marked stats_of is_busier may_be_busiest is_busier_at busiest_of
     may_be_source has_more source_of
-    is_idle_in first_idle balancer_of is_level imbalance_of all_stats domain_average pull_or_balanced pull_from_group decision_over decision
+    is_idle_in first_idle balancer_of is_level imbalance_of all_stats domain_average pull_or_balanced pull_from_group
+    decision_over decision
     distances_of levels_of span_of cut_span firsts is_kept domains_of
     pick_back somebody_runs joined left_by away value_of view_at views figure wake sleep exit set_mask renice
     has_pending has_owed next_asked rotated tick ask_active kick leave take_stop pushed take_push in_order take_pull taken_by land
@@ -127,11 +138,13 @@ undeclared_lane_quotes = refl
 pub row_out_of_order : fault_of row_out_of_order_history ≡ fault_at 1 RowRule
 unfolding
     has members_below members first_cpus only both either without least least_above is_below are_apart mask_where total
-    is_first_greatest first_greatest weights weight_of inverses inverse_at decayed advanced_by advanced signal_value counters_after
+    is_first_greatest first_greatest weights weight_of inverses inverse_at decayed advanced_by advanced signal_value
+    counters_after
     refuses task_at left_before refused_at taken refused free ends examined ids_at picked_ids kept_ids average_after
     is_tickless tickless_cpus idle_count any_marked stats_of is_busier may_be_busiest is_busier_at busiest_of
     may_be_source has_more source_of
-    is_idle_in first_idle balancer_of is_level imbalance_of all_stats domain_average pull_or_balanced pull_from_group decision_over decision
+    is_idle_in first_idle balancer_of is_level imbalance_of all_stats domain_average pull_or_balanced pull_from_group
+    decision_over decision
     distances_of levels_of span_of cut_span firsts is_kept domains_of
     pick_back somebody_runs joined left_by away value_of view_at views figure wake sleep exit set_mask renice
     has_pending has_owed next_asked rotated tick ask_active kick leave take_stop pushed take_push in_order take_pull taken_by land
@@ -143,11 +156,13 @@ row_out_of_order = refl
 pub answer_elsewhere : fault_of answer_elsewhere_history ≡ fault_at 2 PlaceRule
 unfolding
     has members_below members first_cpus only both either without least least_above is_below are_apart mask_where total
-    is_first_greatest first_greatest weights weight_of inverses inverse_at decayed advanced_by advanced signal_value counters_after
+    is_first_greatest first_greatest weights weight_of inverses inverse_at decayed advanced_by advanced signal_value
+    counters_after
     refuses task_at left_before refused_at taken refused free ends examined ids_at picked_ids kept_ids average_after
     is_tickless tickless_cpus idle_count any_marked stats_of is_busier may_be_busiest is_busier_at busiest_of
     may_be_source has_more source_of
-    is_idle_in first_idle balancer_of is_level imbalance_of all_stats domain_average pull_or_balanced pull_from_group decision_over decision
+    is_idle_in first_idle balancer_of is_level imbalance_of all_stats domain_average pull_or_balanced pull_from_group
+    decision_over decision
     distances_of levels_of span_of cut_span firsts is_kept domains_of
     pick_back somebody_runs joined left_by away value_of view_at views figure wake sleep exit set_mask renice
     has_pending has_owed next_asked rotated tick ask_active kick leave take_stop pushed take_push in_order take_pull taken_by land
@@ -159,11 +174,13 @@ answer_elsewhere = refl
 pub wake_out_elsewhere : fault_of wake_out_elsewhere_history ≡ fault_at 2 PlaceRule
 unfolding
     has members_below members first_cpus only both either without least least_above is_below are_apart mask_where total
-    is_first_greatest first_greatest weights weight_of inverses inverse_at decayed advanced_by advanced signal_value counters_after
+    is_first_greatest first_greatest weights weight_of inverses inverse_at decayed advanced_by advanced signal_value
+    counters_after
     refuses task_at left_before refused_at taken refused free ends examined ids_at picked_ids kept_ids average_after
     is_tickless tickless_cpus idle_count any_marked stats_of is_busier may_be_busiest is_busier_at busiest_of
     may_be_source has_more source_of
-    is_idle_in first_idle balancer_of is_level imbalance_of all_stats domain_average pull_or_balanced pull_from_group decision_over decision
+    is_idle_in first_idle balancer_of is_level imbalance_of all_stats domain_average pull_or_balanced pull_from_group
+    decision_over decision
     distances_of levels_of span_of cut_span firsts is_kept domains_of
     pick_back somebody_runs joined left_by away value_of view_at views figure wake sleep exit set_mask renice
     has_pending has_owed next_asked rotated tick ask_active kick leave take_stop pushed take_push in_order take_pull taken_by land
@@ -175,11 +192,13 @@ wake_out_elsewhere = refl
 pub asleep_already : fault_of asleep_already_history ≡ fault_at 2 ReplyRule
 unfolding
     has members_below members first_cpus only both either without least least_above is_below are_apart mask_where total
-    is_first_greatest first_greatest weights weight_of inverses inverse_at decayed advanced_by advanced signal_value counters_after
+    is_first_greatest first_greatest weights weight_of inverses inverse_at decayed advanced_by advanced signal_value
+    counters_after
     refuses task_at left_before refused_at taken refused free ends examined ids_at picked_ids kept_ids average_after
     is_tickless tickless_cpus idle_count any_marked stats_of is_busier may_be_busiest is_busier_at busiest_of
     may_be_source has_more source_of
-    is_idle_in first_idle balancer_of is_level imbalance_of all_stats domain_average pull_or_balanced pull_from_group decision_over decision
+    is_idle_in first_idle balancer_of is_level imbalance_of all_stats domain_average pull_or_balanced pull_from_group
+    decision_over decision
     distances_of levels_of span_of cut_span firsts is_kept domains_of
     pick_back somebody_runs joined left_by away value_of view_at views figure wake sleep exit set_mask renice
     has_pending has_owed next_asked rotated tick ask_active kick leave take_stop pushed take_push in_order take_pull taken_by land
@@ -191,11 +210,13 @@ asleep_already = refl
 pub unpublished_version : fault_of unpublished_version_history ≡ fault_at 3 VersionRule
 unfolding
     has members_below members first_cpus only both either without least least_above is_below are_apart mask_where total
-    is_first_greatest first_greatest weights weight_of inverses inverse_at decayed advanced_by advanced signal_value counters_after
+    is_first_greatest first_greatest weights weight_of inverses inverse_at decayed advanced_by advanced signal_value
+    counters_after
     refuses task_at left_before refused_at taken refused free ends examined ids_at picked_ids kept_ids average_after
     is_tickless tickless_cpus idle_count any_marked stats_of is_busier may_be_busiest is_busier_at busiest_of
     may_be_source has_more source_of
-    is_idle_in first_idle balancer_of is_level imbalance_of all_stats domain_average pull_or_balanced pull_from_group decision_over decision
+    is_idle_in first_idle balancer_of is_level imbalance_of all_stats domain_average pull_or_balanced pull_from_group
+    decision_over decision
     distances_of levels_of span_of cut_span firsts is_kept domains_of
     pick_back somebody_runs joined left_by away value_of view_at views figure wake sleep exit set_mask renice
     has_pending has_owed next_asked rotated tick ask_active kick leave take_stop pushed take_push in_order take_pull taken_by land
@@ -207,11 +228,13 @@ unpublished_version = refl
 pub unpublished_figure : fault_of unpublished_figure_history ≡ fault_at 5 FigureRule
 unfolding
     has members_below members first_cpus only both either without least least_above is_below are_apart mask_where total
-    is_first_greatest first_greatest weights weight_of inverses inverse_at decayed advanced_by advanced signal_value counters_after
+    is_first_greatest first_greatest weights weight_of inverses inverse_at decayed advanced_by advanced signal_value
+    counters_after
     refuses task_at left_before refused_at taken refused free ends examined ids_at picked_ids kept_ids average_after
     is_tickless tickless_cpus idle_count any_marked stats_of is_busier may_be_busiest is_busier_at busiest_of
     may_be_source has_more source_of
-    is_idle_in first_idle balancer_of is_level imbalance_of all_stats domain_average pull_or_balanced pull_from_group decision_over decision
+    is_idle_in first_idle balancer_of is_level imbalance_of all_stats domain_average pull_or_balanced pull_from_group
+    decision_over decision
     distances_of levels_of span_of cut_span firsts is_kept domains_of
     pick_back somebody_runs joined left_by away value_of view_at views figure wake sleep exit set_mask renice
     has_pending has_owed next_asked rotated tick ask_active kick leave take_stop pushed take_push in_order take_pull taken_by land
@@ -223,11 +246,13 @@ unpublished_figure = refl
 pub figure_before_own_entry : fault_of figure_before_own_entry_history ≡ fault_at 5 FigureRule
 unfolding
     has members_below members first_cpus only both either without least least_above is_below are_apart mask_where total
-    is_first_greatest first_greatest weights weight_of inverses inverse_at decayed advanced_by advanced signal_value counters_after
+    is_first_greatest first_greatest weights weight_of inverses inverse_at decayed advanced_by advanced signal_value
+    counters_after
     refuses task_at left_before refused_at taken refused free ends examined ids_at picked_ids kept_ids average_after
     is_tickless tickless_cpus idle_count any_marked stats_of is_busier may_be_busiest is_busier_at busiest_of
     may_be_source has_more source_of
-    is_idle_in first_idle balancer_of is_level imbalance_of all_stats domain_average pull_or_balanced pull_from_group decision_over decision
+    is_idle_in first_idle balancer_of is_level imbalance_of all_stats domain_average pull_or_balanced pull_from_group
+    decision_over decision
     distances_of levels_of span_of cut_span firsts is_kept domains_of
     pick_back somebody_runs joined left_by away value_of view_at views figure wake sleep exit set_mask renice
     has_pending has_owed next_asked rotated tick ask_active kick leave take_stop pushed take_push in_order take_pull taken_by land
@@ -239,11 +264,13 @@ figure_before_own_entry = refl
 pub pull_from_nobody : fault_of pull_from_nobody_history ≡ fault_at 5 DecisionRule
 unfolding
     has members_below members first_cpus only both either without least least_above is_below are_apart mask_where total
-    is_first_greatest first_greatest weights weight_of inverses inverse_at decayed advanced_by advanced signal_value counters_after
+    is_first_greatest first_greatest weights weight_of inverses inverse_at decayed advanced_by advanced signal_value
+    counters_after
     refuses task_at left_before refused_at taken refused free ends examined ids_at picked_ids kept_ids average_after
     is_tickless tickless_cpus idle_count any_marked stats_of is_busier may_be_busiest is_busier_at busiest_of
     may_be_source has_more source_of
-    is_idle_in first_idle balancer_of is_level imbalance_of all_stats domain_average pull_or_balanced pull_from_group decision_over decision
+    is_idle_in first_idle balancer_of is_level imbalance_of all_stats domain_average pull_or_balanced pull_from_group
+    decision_over decision
     distances_of levels_of span_of cut_span firsts is_kept domains_of
     pick_back somebody_runs joined left_by away value_of view_at views figure wake sleep exit set_mask renice
     has_pending has_owed next_asked rotated tick ask_active kick leave take_stop pushed take_push in_order take_pull taken_by land
@@ -255,11 +282,13 @@ pull_from_nobody = refl
 pub woken_to_the_wrong_cpu : fault_of woken_to_the_wrong_cpu_history ≡ fault_at 2 PickRule
 unfolding
     has members_below members first_cpus only both either without least least_above is_below are_apart mask_where total
-    is_first_greatest first_greatest weights weight_of inverses inverse_at decayed advanced_by advanced signal_value counters_after
+    is_first_greatest first_greatest weights weight_of inverses inverse_at decayed advanced_by advanced signal_value
+    counters_after
     refuses task_at left_before refused_at taken refused free ends examined ids_at picked_ids kept_ids average_after
     is_tickless tickless_cpus idle_count any_marked stats_of is_busier may_be_busiest is_busier_at busiest_of
     may_be_source has_more source_of
-    is_idle_in first_idle balancer_of is_level imbalance_of all_stats domain_average pull_or_balanced pull_from_group decision_over decision
+    is_idle_in first_idle balancer_of is_level imbalance_of all_stats domain_average pull_or_balanced pull_from_group
+    decision_over decision
     distances_of levels_of span_of cut_span firsts is_kept domains_of
     pick_back somebody_runs joined left_by away value_of view_at views figure wake sleep exit set_mask renice
     has_pending has_owed next_asked rotated tick ask_active kick leave take_stop pushed take_push in_order take_pull taken_by land
@@ -271,11 +300,13 @@ woken_to_the_wrong_cpu = refl
 pub hand_lands_empty : fault_of hand_lands_empty_history ≡ fault_at 3 FlightRule
 unfolding
     has members_below members first_cpus only both either without least least_above is_below are_apart mask_where total
-    is_first_greatest first_greatest weights weight_of inverses inverse_at decayed advanced_by advanced signal_value counters_after
+    is_first_greatest first_greatest weights weight_of inverses inverse_at decayed advanced_by advanced signal_value
+    counters_after
     refuses task_at left_before refused_at taken refused free ends examined ids_at picked_ids kept_ids average_after
     is_tickless tickless_cpus idle_count any_marked stats_of is_busier may_be_busiest is_busier_at busiest_of
     may_be_source has_more source_of
-    is_idle_in first_idle balancer_of is_level imbalance_of all_stats domain_average pull_or_balanced pull_from_group decision_over decision
+    is_idle_in first_idle balancer_of is_level imbalance_of all_stats domain_average pull_or_balanced pull_from_group
+    decision_over decision
     distances_of levels_of span_of cut_span firsts is_kept domains_of
     pick_back somebody_runs joined left_by away value_of view_at views figure wake sleep exit set_mask renice
     has_pending has_owed next_asked rotated tick ask_active kick leave take_stop pushed take_push in_order take_pull taken_by land
@@ -287,11 +318,13 @@ hand_lands_empty = refl
 pub due_position_left_out : fault_of due_position_left_out_history ≡ fault_at 4 CountersRule
 unfolding
     has members_below members first_cpus only both either without least least_above is_below are_apart mask_where total
-    is_first_greatest first_greatest weights weight_of inverses inverse_at decayed advanced_by advanced signal_value counters_after
+    is_first_greatest first_greatest weights weight_of inverses inverse_at decayed advanced_by advanced signal_value
+    counters_after
     refuses task_at left_before refused_at taken refused free ends examined ids_at picked_ids kept_ids average_after
     is_tickless tickless_cpus idle_count any_marked stats_of is_busier may_be_busiest is_busier_at busiest_of
     may_be_source has_more source_of
-    is_idle_in first_idle balancer_of is_level imbalance_of all_stats domain_average pull_or_balanced pull_from_group decision_over decision
+    is_idle_in first_idle balancer_of is_level imbalance_of all_stats domain_average pull_or_balanced pull_from_group
+    decision_over decision
     distances_of levels_of span_of cut_span firsts is_kept domains_of
     pick_back somebody_runs joined left_by away value_of view_at views figure wake sleep exit set_mask renice
     has_pending has_owed next_asked rotated tick ask_active kick leave take_stop pushed take_push in_order take_pull taken_by land
@@ -303,11 +336,13 @@ due_position_left_out = refl
 pub end_with_a_stop_pending : fault_of end_with_a_stop_pending_history ≡ fault_at 5 OwedRule
 unfolding
     has members_below members first_cpus only both either without least least_above is_below are_apart mask_where total
-    is_first_greatest first_greatest weights weight_of inverses inverse_at decayed advanced_by advanced signal_value counters_after
+    is_first_greatest first_greatest weights weight_of inverses inverse_at decayed advanced_by advanced signal_value
+    counters_after
     refuses task_at left_before refused_at taken refused free ends examined ids_at picked_ids kept_ids average_after
     is_tickless tickless_cpus idle_count any_marked stats_of is_busier may_be_busiest is_busier_at busiest_of
     may_be_source has_more source_of
-    is_idle_in first_idle balancer_of is_level imbalance_of all_stats domain_average pull_or_balanced pull_from_group decision_over decision
+    is_idle_in first_idle balancer_of is_level imbalance_of all_stats domain_average pull_or_balanced pull_from_group
+    decision_over decision
     distances_of levels_of span_of cut_span firsts is_kept domains_of
     pick_back somebody_runs joined left_by away value_of view_at views figure wake sleep exit set_mask renice
     has_pending has_owed next_asked rotated tick ask_active kick leave take_stop pushed take_push in_order take_pull taken_by land
@@ -319,11 +354,13 @@ end_with_a_stop_pending = refl
 pub end_names_a_request : fault_of end_names_a_request_history ≡ fault_at 1 EndRule
 unfolding
     has members_below members first_cpus only both either without least least_above is_below are_apart mask_where total
-    is_first_greatest first_greatest weights weight_of inverses inverse_at decayed advanced_by advanced signal_value counters_after
+    is_first_greatest first_greatest weights weight_of inverses inverse_at decayed advanced_by advanced signal_value
+    counters_after
     refuses task_at left_before refused_at taken refused free ends examined ids_at picked_ids kept_ids average_after
     is_tickless tickless_cpus idle_count any_marked stats_of is_busier may_be_busiest is_busier_at busiest_of
     may_be_source has_more source_of
-    is_idle_in first_idle balancer_of is_level imbalance_of all_stats domain_average pull_or_balanced pull_from_group decision_over decision
+    is_idle_in first_idle balancer_of is_level imbalance_of all_stats domain_average pull_or_balanced pull_from_group
+    decision_over decision
     distances_of levels_of span_of cut_span firsts is_kept domains_of
     pick_back somebody_runs joined left_by away value_of view_at views figure wake sleep exit set_mask renice
     has_pending has_owed next_asked rotated tick ask_active kick leave take_stop pushed take_push in_order take_pull taken_by land
@@ -335,11 +372,13 @@ end_names_a_request = refl
 pub no_end : fault_of no_end_history ≡ fault_at 1 EndRule
 unfolding
     has members_below members first_cpus only both either without least least_above is_below are_apart mask_where total
-    is_first_greatest first_greatest weights weight_of inverses inverse_at decayed advanced_by advanced signal_value counters_after
+    is_first_greatest first_greatest weights weight_of inverses inverse_at decayed advanced_by advanced signal_value
+    counters_after
     refuses task_at left_before refused_at taken refused free ends examined ids_at picked_ids kept_ids average_after
     is_tickless tickless_cpus idle_count any_marked stats_of is_busier may_be_busiest is_busier_at busiest_of
     may_be_source has_more source_of
-    is_idle_in first_idle balancer_of is_level imbalance_of all_stats domain_average pull_or_balanced pull_from_group decision_over decision
+    is_idle_in first_idle balancer_of is_level imbalance_of all_stats domain_average pull_or_balanced pull_from_group
+    decision_over decision
     distances_of levels_of span_of cut_span firsts is_kept domains_of
     pick_back somebody_runs joined left_by away value_of view_at views figure wake sleep exit set_mask renice
     has_pending has_owed next_asked rotated tick ask_active kick leave take_stop pushed take_push in_order take_pull taken_by land
@@ -351,11 +390,13 @@ no_end = refl
 pub landing_left_out : fault_of landing_left_out_history ≡ fault_at 13 StageRule
 unfolding
     has members_below members first_cpus only both either without least least_above is_below are_apart mask_where total
-    is_first_greatest first_greatest weights weight_of inverses inverse_at decayed advanced_by advanced signal_value counters_after
+    is_first_greatest first_greatest weights weight_of inverses inverse_at decayed advanced_by advanced signal_value
+    counters_after
     refuses task_at left_before refused_at taken refused free ends examined ids_at picked_ids kept_ids average_after
     is_tickless tickless_cpus idle_count any_marked stats_of is_busier may_be_busiest is_busier_at busiest_of
     may_be_source has_more source_of
-    is_idle_in first_idle balancer_of is_level imbalance_of all_stats domain_average pull_or_balanced pull_from_group decision_over decision
+    is_idle_in first_idle balancer_of is_level imbalance_of all_stats domain_average pull_or_balanced pull_from_group
+    decision_over decision
     distances_of levels_of span_of cut_span firsts is_kept domains_of
     pick_back somebody_runs joined left_by away value_of view_at views figure wake sleep exit set_mask renice
     has_pending has_owed next_asked rotated tick ask_active kick leave take_stop pushed take_push in_order take_pull taken_by land
@@ -367,11 +408,13 @@ landing_left_out = refl
 pub landing_repeated : fault_of landing_repeated_history ≡ fault_at 14 StageRule
 unfolding
     has members_below members first_cpus only both either without least least_above is_below are_apart mask_where total
-    is_first_greatest first_greatest weights weight_of inverses inverse_at decayed advanced_by advanced signal_value counters_after
+    is_first_greatest first_greatest weights weight_of inverses inverse_at decayed advanced_by advanced signal_value
+    counters_after
     refuses task_at left_before refused_at taken refused free ends examined ids_at picked_ids kept_ids average_after
     is_tickless tickless_cpus idle_count any_marked stats_of is_busier may_be_busiest is_busier_at busiest_of
     may_be_source has_more source_of
-    is_idle_in first_idle balancer_of is_level imbalance_of all_stats domain_average pull_or_balanced pull_from_group decision_over decision
+    is_idle_in first_idle balancer_of is_level imbalance_of all_stats domain_average pull_or_balanced pull_from_group
+    decision_over decision
     distances_of levels_of span_of cut_span firsts is_kept domains_of
     pick_back somebody_runs joined left_by away value_of view_at views figure wake sleep exit set_mask renice
     has_pending has_owed next_asked rotated tick ask_active kick leave take_stop pushed take_push in_order take_pull taken_by land
@@ -383,11 +426,13 @@ landing_repeated = refl
 pub figure_invented : fault_of figure_invented_history ≡ fault_at 11 FigureRule
 unfolding
     has members_below members first_cpus only both either without least least_above is_below are_apart mask_where total
-    is_first_greatest first_greatest weights weight_of inverses inverse_at decayed advanced_by advanced signal_value counters_after
+    is_first_greatest first_greatest weights weight_of inverses inverse_at decayed advanced_by advanced signal_value
+    counters_after
     refuses task_at left_before refused_at taken refused free ends examined ids_at picked_ids kept_ids average_after
     is_tickless tickless_cpus idle_count any_marked stats_of is_busier may_be_busiest is_busier_at busiest_of
     may_be_source has_more source_of
-    is_idle_in first_idle balancer_of is_level imbalance_of all_stats domain_average pull_or_balanced pull_from_group decision_over decision
+    is_idle_in first_idle balancer_of is_level imbalance_of all_stats domain_average pull_or_balanced pull_from_group
+    decision_over decision
     distances_of levels_of span_of cut_span firsts is_kept domains_of
     pick_back somebody_runs joined left_by away value_of view_at views figure wake sleep exit set_mask renice
     has_pending has_owed next_asked rotated tick ask_active kick leave take_stop pushed take_push in_order take_pull taken_by land
@@ -399,11 +444,13 @@ figure_invented = refl
 pub another_task_lands : fault_of another_task_lands_history ≡ fault_at 13 FlightRule
 unfolding
     has members_below members first_cpus only both either without least least_above is_below are_apart mask_where total
-    is_first_greatest first_greatest weights weight_of inverses inverse_at decayed advanced_by advanced signal_value counters_after
+    is_first_greatest first_greatest weights weight_of inverses inverse_at decayed advanced_by advanced signal_value
+    counters_after
     refuses task_at left_before refused_at taken refused free ends examined ids_at picked_ids kept_ids average_after
     is_tickless tickless_cpus idle_count any_marked stats_of is_busier may_be_busiest is_busier_at busiest_of
     may_be_source has_more source_of
-    is_idle_in first_idle balancer_of is_level imbalance_of all_stats domain_average pull_or_balanced pull_from_group decision_over decision
+    is_idle_in first_idle balancer_of is_level imbalance_of all_stats domain_average pull_or_balanced pull_from_group
+    decision_over decision
     distances_of levels_of span_of cut_span firsts is_kept domains_of
     pick_back somebody_runs joined left_by away value_of view_at views figure wake sleep exit set_mask renice
     has_pending has_owed next_asked rotated tick ask_active kick leave take_stop pushed take_push in_order take_pull taken_by land

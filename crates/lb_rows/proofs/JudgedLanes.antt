@@ -1,4 +1,5 @@
--- The histories of this name are judged by computing the machine.
+-- Each worked history of `specs/Lanes` is legal, or breaks the rule that is said: by computing the machine.
+-- For `commands_round_a_hand`, `command_finds_a_hand`, `second_turn_is_shut` and others.
 use Rattle.std.specs.Prelude.{◌≡◌, None, refl}
 use Rattle.lb_base.specs.Mask.{has, members_below, members, first_cpus, only, both, either, without}
 use Rattle.lb_base.specs.Sets.{least, least_above, is_below, are_apart, mask_where}
@@ -47,11 +48,13 @@ use Rattle.lb_rows.specs.Lanes.{commands_round_a_hand_history, command_finds_a_h
 pub commands_round_a_hand : fault_of commands_round_a_hand_history ≡ None
 unfolding
     has members_below members first_cpus only both either without least least_above is_below are_apart mask_where total
-    is_first_greatest first_greatest weights weight_of inverses inverse_at decayed advanced_by advanced signal_value counters_after
+    is_first_greatest first_greatest weights weight_of inverses inverse_at decayed advanced_by advanced signal_value
+    counters_after
     refuses task_at left_before refused_at taken refused free ends examined ids_at picked_ids kept_ids average_after
     is_tickless tickless_cpus idle_count any_marked stats_of is_busier may_be_busiest is_busier_at busiest_of
     may_be_source has_more source_of
-    is_idle_in first_idle balancer_of is_level imbalance_of all_stats domain_average pull_or_balanced pull_from_group decision_over decision
+    is_idle_in first_idle balancer_of is_level imbalance_of all_stats domain_average pull_or_balanced pull_from_group
+    decision_over decision
     distances_of levels_of span_of cut_span firsts is_kept domains_of
     pick_back somebody_runs joined left_by away value_of view_at views figure wake sleep exit set_mask renice
     has_pending has_owed next_asked rotated tick ask_active kick leave take_stop pushed take_push in_order take_pull taken_by land
@@ -63,11 +66,13 @@ commands_round_a_hand = refl
 pub command_finds_a_hand : fault_of command_finds_a_hand_history ≡ fault_at 14 PlaceRule
 unfolding
     has members_below members first_cpus only both either without least least_above is_below are_apart mask_where total
-    is_first_greatest first_greatest weights weight_of inverses inverse_at decayed advanced_by advanced signal_value counters_after
+    is_first_greatest first_greatest weights weight_of inverses inverse_at decayed advanced_by advanced signal_value
+    counters_after
     refuses task_at left_before refused_at taken refused free ends examined ids_at picked_ids kept_ids average_after
     is_tickless tickless_cpus idle_count any_marked stats_of is_busier may_be_busiest is_busier_at busiest_of
     may_be_source has_more source_of
-    is_idle_in first_idle balancer_of is_level imbalance_of all_stats domain_average pull_or_balanced pull_from_group decision_over decision
+    is_idle_in first_idle balancer_of is_level imbalance_of all_stats domain_average pull_or_balanced pull_from_group
+    decision_over decision
     distances_of levels_of span_of cut_span firsts is_kept domains_of
     pick_back somebody_runs joined left_by away value_of view_at views figure wake sleep exit set_mask renice
     has_pending has_owed next_asked rotated tick ask_active kick leave take_stop pushed take_push in_order take_pull taken_by land
@@ -79,11 +84,13 @@ command_finds_a_hand = refl
 pub second_turn_is_shut : fault_of second_turn_is_shut_history ≡ None
 unfolding
     has members_below members first_cpus only both either without least least_above is_below are_apart mask_where total
-    is_first_greatest first_greatest weights weight_of inverses inverse_at decayed advanced_by advanced signal_value counters_after
+    is_first_greatest first_greatest weights weight_of inverses inverse_at decayed advanced_by advanced signal_value
+    counters_after
     refuses task_at left_before refused_at taken refused free ends examined ids_at picked_ids kept_ids average_after
     is_tickless tickless_cpus idle_count any_marked stats_of is_busier may_be_busiest is_busier_at busiest_of
     may_be_source has_more source_of
-    is_idle_in first_idle balancer_of is_level imbalance_of all_stats domain_average pull_or_balanced pull_from_group decision_over decision
+    is_idle_in first_idle balancer_of is_level imbalance_of all_stats domain_average pull_or_balanced pull_from_group
+    decision_over decision
     distances_of levels_of span_of cut_span firsts is_kept domains_of
     pick_back somebody_runs joined left_by away value_of view_at views figure wake sleep exit set_mask renice
     has_pending has_owed next_asked rotated tick ask_active kick leave take_stop pushed take_push in_order take_pull taken_by land
@@ -95,11 +102,13 @@ second_turn_is_shut = refl
 pub second_turn_opens : fault_of second_turn_opens_history ≡ fault_at 10 ReplyRule
 unfolding
     has members_below members first_cpus only both either without least least_above is_below are_apart mask_where total
-    is_first_greatest first_greatest weights weight_of inverses inverse_at decayed advanced_by advanced signal_value counters_after
+    is_first_greatest first_greatest weights weight_of inverses inverse_at decayed advanced_by advanced signal_value
+    counters_after
     refuses task_at left_before refused_at taken refused free ends examined ids_at picked_ids kept_ids average_after
     is_tickless tickless_cpus idle_count any_marked stats_of is_busier may_be_busiest is_busier_at busiest_of
     may_be_source has_more source_of
-    is_idle_in first_idle balancer_of is_level imbalance_of all_stats domain_average pull_or_balanced pull_from_group decision_over decision
+    is_idle_in first_idle balancer_of is_level imbalance_of all_stats domain_average pull_or_balanced pull_from_group
+    decision_over decision
     distances_of levels_of span_of cut_span firsts is_kept domains_of
     pick_back somebody_runs joined left_by away value_of view_at views figure wake sleep exit set_mask renice
     has_pending has_owed next_asked rotated tick ask_active kick leave take_stop pushed take_push in_order take_pull taken_by land
@@ -111,11 +120,13 @@ second_turn_opens = refl
 pub two_lanes_tick_a_cpu : fault_of two_lanes_tick_a_cpu_history ≡ fault_at 2 RowRule
 unfolding
     has members_below members first_cpus only both either without least least_above is_below are_apart mask_where total
-    is_first_greatest first_greatest weights weight_of inverses inverse_at decayed advanced_by advanced signal_value counters_after
+    is_first_greatest first_greatest weights weight_of inverses inverse_at decayed advanced_by advanced signal_value
+    counters_after
     refuses task_at left_before refused_at taken refused free ends examined ids_at picked_ids kept_ids average_after
     is_tickless tickless_cpus idle_count any_marked stats_of is_busier may_be_busiest is_busier_at busiest_of
     may_be_source has_more source_of
-    is_idle_in first_idle balancer_of is_level imbalance_of all_stats domain_average pull_or_balanced pull_from_group decision_over decision
+    is_idle_in first_idle balancer_of is_level imbalance_of all_stats domain_average pull_or_balanced pull_from_group
+    decision_over decision
     distances_of levels_of span_of cut_span firsts is_kept domains_of
     pick_back somebody_runs joined left_by away value_of view_at views figure wake sleep exit set_mask renice
     has_pending has_owed next_asked rotated tick ask_active kick leave take_stop pushed take_push in_order take_pull taken_by land
@@ -127,11 +138,13 @@ two_lanes_tick_a_cpu = refl
 pub old_figures_serve : fault_of old_figures_serve_history ≡ None
 unfolding
     has members_below members first_cpus only both either without least least_above is_below are_apart mask_where total
-    is_first_greatest first_greatest weights weight_of inverses inverse_at decayed advanced_by advanced signal_value counters_after
+    is_first_greatest first_greatest weights weight_of inverses inverse_at decayed advanced_by advanced signal_value
+    counters_after
     refuses task_at left_before refused_at taken refused free ends examined ids_at picked_ids kept_ids average_after
     is_tickless tickless_cpus idle_count any_marked stats_of is_busier may_be_busiest is_busier_at busiest_of
     may_be_source has_more source_of
-    is_idle_in first_idle balancer_of is_level imbalance_of all_stats domain_average pull_or_balanced pull_from_group decision_over decision
+    is_idle_in first_idle balancer_of is_level imbalance_of all_stats domain_average pull_or_balanced pull_from_group
+    decision_over decision
     distances_of levels_of span_of cut_span firsts is_kept domains_of
     pick_back somebody_runs joined left_by away value_of view_at views figure wake sleep exit set_mask renice
     has_pending has_owed next_asked rotated tick ask_active kick leave take_stop pushed take_push in_order take_pull taken_by land
@@ -143,11 +156,13 @@ old_figures_serve = refl
 pub new_decision_over_old_figures : fault_of new_decision_over_old_figures_history ≡ fault_at 9 DecisionRule
 unfolding
     has members_below members first_cpus only both either without least least_above is_below are_apart mask_where total
-    is_first_greatest first_greatest weights weight_of inverses inverse_at decayed advanced_by advanced signal_value counters_after
+    is_first_greatest first_greatest weights weight_of inverses inverse_at decayed advanced_by advanced signal_value
+    counters_after
     refuses task_at left_before refused_at taken refused free ends examined ids_at picked_ids kept_ids average_after
     is_tickless tickless_cpus idle_count any_marked stats_of is_busier may_be_busiest is_busier_at busiest_of
     may_be_source has_more source_of
-    is_idle_in first_idle balancer_of is_level imbalance_of all_stats domain_average pull_or_balanced pull_from_group decision_over decision
+    is_idle_in first_idle balancer_of is_level imbalance_of all_stats domain_average pull_or_balanced pull_from_group
+    decision_over decision
     distances_of levels_of span_of cut_span firsts is_kept domains_of
     pick_back somebody_runs joined left_by away value_of view_at views figure wake sleep exit set_mask renice
     has_pending has_owed next_asked rotated tick ask_active kick leave take_stop pushed take_push in_order take_pull taken_by land
@@ -159,11 +174,13 @@ new_decision_over_old_figures = refl
 pub old_version_serves : fault_of old_version_serves_history ≡ None
 unfolding
     has members_below members first_cpus only both either without least least_above is_below are_apart mask_where total
-    is_first_greatest first_greatest weights weight_of inverses inverse_at decayed advanced_by advanced signal_value counters_after
+    is_first_greatest first_greatest weights weight_of inverses inverse_at decayed advanced_by advanced signal_value
+    counters_after
     refuses task_at left_before refused_at taken refused free ends examined ids_at picked_ids kept_ids average_after
     is_tickless tickless_cpus idle_count any_marked stats_of is_busier may_be_busiest is_busier_at busiest_of
     may_be_source has_more source_of
-    is_idle_in first_idle balancer_of is_level imbalance_of all_stats domain_average pull_or_balanced pull_from_group decision_over decision
+    is_idle_in first_idle balancer_of is_level imbalance_of all_stats domain_average pull_or_balanced pull_from_group
+    decision_over decision
     distances_of levels_of span_of cut_span firsts is_kept domains_of
     pick_back somebody_runs joined left_by away value_of view_at views figure wake sleep exit set_mask renice
     has_pending has_owed next_asked rotated tick ask_active kick leave take_stop pushed take_push in_order take_pull taken_by land
@@ -175,11 +192,13 @@ old_version_serves = refl
 pub version_goes_back : fault_of version_goes_back_history ≡ fault_at 5 VersionRule
 unfolding
     has members_below members first_cpus only both either without least least_above is_below are_apart mask_where total
-    is_first_greatest first_greatest weights weight_of inverses inverse_at decayed advanced_by advanced signal_value counters_after
+    is_first_greatest first_greatest weights weight_of inverses inverse_at decayed advanced_by advanced signal_value
+    counters_after
     refuses task_at left_before refused_at taken refused free ends examined ids_at picked_ids kept_ids average_after
     is_tickless tickless_cpus idle_count any_marked stats_of is_busier may_be_busiest is_busier_at busiest_of
     may_be_source has_more source_of
-    is_idle_in first_idle balancer_of is_level imbalance_of all_stats domain_average pull_or_balanced pull_from_group decision_over decision
+    is_idle_in first_idle balancer_of is_level imbalance_of all_stats domain_average pull_or_balanced pull_from_group
+    decision_over decision
     distances_of levels_of span_of cut_span firsts is_kept domains_of
     pick_back somebody_runs joined left_by away value_of view_at views figure wake sleep exit set_mask renice
     has_pending has_owed next_asked rotated tick ask_active kick leave take_stop pushed take_push in_order take_pull taken_by land
@@ -191,11 +210,13 @@ version_goes_back = refl
 pub closing_before_all_rest : fault_of closing_before_all_rest_history ≡ fault_at 6 StageRule
 unfolding
     has members_below members first_cpus only both either without least least_above is_below are_apart mask_where total
-    is_first_greatest first_greatest weights weight_of inverses inverse_at decayed advanced_by advanced signal_value counters_after
+    is_first_greatest first_greatest weights weight_of inverses inverse_at decayed advanced_by advanced signal_value
+    counters_after
     refuses task_at left_before refused_at taken refused free ends examined ids_at picked_ids kept_ids average_after
     is_tickless tickless_cpus idle_count any_marked stats_of is_busier may_be_busiest is_busier_at busiest_of
     may_be_source has_more source_of
-    is_idle_in first_idle balancer_of is_level imbalance_of all_stats domain_average pull_or_balanced pull_from_group decision_over decision
+    is_idle_in first_idle balancer_of is_level imbalance_of all_stats domain_average pull_or_balanced pull_from_group
+    decision_over decision
     distances_of levels_of span_of cut_span firsts is_kept domains_of
     pick_back somebody_runs joined left_by away value_of view_at views figure wake sleep exit set_mask renice
     has_pending has_owed next_asked rotated tick ask_active kick leave take_stop pushed take_push in_order take_pull taken_by land
@@ -207,11 +228,13 @@ closing_before_all_rest = refl
 pub row_after_the_closing : fault_of row_after_the_closing_history ≡ fault_at 7 StageRule
 unfolding
     has members_below members first_cpus only both either without least least_above is_below are_apart mask_where total
-    is_first_greatest first_greatest weights weight_of inverses inverse_at decayed advanced_by advanced signal_value counters_after
+    is_first_greatest first_greatest weights weight_of inverses inverse_at decayed advanced_by advanced signal_value
+    counters_after
     refuses task_at left_before refused_at taken refused free ends examined ids_at picked_ids kept_ids average_after
     is_tickless tickless_cpus idle_count any_marked stats_of is_busier may_be_busiest is_busier_at busiest_of
     may_be_source has_more source_of
-    is_idle_in first_idle balancer_of is_level imbalance_of all_stats domain_average pull_or_balanced pull_from_group decision_over decision
+    is_idle_in first_idle balancer_of is_level imbalance_of all_stats domain_average pull_or_balanced pull_from_group
+    decision_over decision
     distances_of levels_of span_of cut_span firsts is_kept domains_of
     pick_back somebody_runs joined left_by away value_of view_at views figure wake sleep exit set_mask renice
     has_pending has_owed next_asked rotated tick ask_active kick leave take_stop pushed take_push in_order take_pull taken_by land
@@ -223,11 +246,13 @@ row_after_the_closing = refl
 pub row_after_the_end : fault_of row_after_the_end_history ≡ fault_at 2 EndRule
 unfolding
     has members_below members first_cpus only both either without least least_above is_below are_apart mask_where total
-    is_first_greatest first_greatest weights weight_of inverses inverse_at decayed advanced_by advanced signal_value counters_after
+    is_first_greatest first_greatest weights weight_of inverses inverse_at decayed advanced_by advanced signal_value
+    counters_after
     refuses task_at left_before refused_at taken refused free ends examined ids_at picked_ids kept_ids average_after
     is_tickless tickless_cpus idle_count any_marked stats_of is_busier may_be_busiest is_busier_at busiest_of
     may_be_source has_more source_of
-    is_idle_in first_idle balancer_of is_level imbalance_of all_stats domain_average pull_or_balanced pull_from_group decision_over decision
+    is_idle_in first_idle balancer_of is_level imbalance_of all_stats domain_average pull_or_balanced pull_from_group
+    decision_over decision
     distances_of levels_of span_of cut_span firsts is_kept domains_of
     pick_back somebody_runs joined left_by away value_of view_at views figure wake sleep exit set_mask renice
     has_pending has_owed next_asked rotated tick ask_active kick leave take_stop pushed take_push in_order take_pull taken_by land
@@ -239,11 +264,13 @@ row_after_the_end = refl
 pub second_request_waits : fault_of second_request_waits_history ≡ None
 unfolding
     has members_below members first_cpus only both either without least least_above is_below are_apart mask_where total
-    is_first_greatest first_greatest weights weight_of inverses inverse_at decayed advanced_by advanced signal_value counters_after
+    is_first_greatest first_greatest weights weight_of inverses inverse_at decayed advanced_by advanced signal_value
+    counters_after
     refuses task_at left_before refused_at taken refused free ends examined ids_at picked_ids kept_ids average_after
     is_tickless tickless_cpus idle_count any_marked stats_of is_busier may_be_busiest is_busier_at busiest_of
     may_be_source has_more source_of
-    is_idle_in first_idle balancer_of is_level imbalance_of all_stats domain_average pull_or_balanced pull_from_group decision_over decision
+    is_idle_in first_idle balancer_of is_level imbalance_of all_stats domain_average pull_or_balanced pull_from_group
+    decision_over decision
     distances_of levels_of span_of cut_span firsts is_kept domains_of
     pick_back somebody_runs joined left_by away value_of view_at views figure wake sleep exit set_mask renice
     has_pending has_owed next_asked rotated tick ask_active kick leave take_stop pushed take_push in_order take_pull taken_by land

@@ -1,5 +1,6 @@
 -- Histories of turns: a task is pulled at a tick, by a CPU that becomes idle and by a kicked one;
 -- nothing is to move; and affinity hinders the pull.
+-- Cited by the contracts of `one_task_moves`, `one_task_stays`, `newly_idle` and others; also by `lb_journal_rows`.
 use Rattle.std.specs.Prelude.{pos, Some, replicate, [], ◌∷◌, ◌++◌}
 use Rattle.lb_base.specs.declared.shape.Kind.TheVariants.{Tick as TickTurn, Idle as IdleTurn, Nohz as NohzTurn}
 use Rattle.lb_base.specs.declared.view.MoveKind.TheVariants.{Tasks}

@@ -1,5 +1,7 @@
 -- Histories of commands: an empty one, tasks that wake at home and away, refusals, and a machine of
 -- two nodes whose partition is rebuilt while two lanes are at work.
+-- Cited by the contracts of `nothing_happens`, `woken_away`, `hand_brings_its_clock` and others; also by
+-- `lb_journal_rows`.
 use Rattle.std.specs.Prelude.{pos, negsuc, replicate, [], ◌∷◌, ◌++◌}
 use Rattle.lb_base.specs.declared.shape.Kind.TheVariants.{Tick as TickTurn, Idle as IdleTurn}
 use Rattle.lb_imbalance.specs.declared.decision.Decision.TheVariants.{Balanced}

@@ -1,5 +1,6 @@
 -- The smallest history that breaks each rule, and one worked history with a line left out, repeated
 -- or changed.
+-- Cited by the contracts of `wrong_previous`, `over_at_rest`, `pull_left_out` and others; also by `lb_journal_rows`.
 use Rattle.std.specs.Prelude.{pos, replicate, [], ◌∷◌}
 use Rattle.lb_base.specs.declared.shape.Kind.TheVariants.{Tick as TickTurn}
 use Rattle.lb_base.specs.declared.view.MoveKind.TheVariants.{Tasks}

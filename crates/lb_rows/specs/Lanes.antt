@@ -1,4 +1,6 @@
 -- Histories of two lanes whose entries are mixed, legal ones and ones that break a rule.
+-- Cited by the contracts of `commands_round_a_hand`, `command_finds_a_hand`, `second_turn_is_shut` and others; also
+-- by `lb_journal_rows`.
 use Rattle.std.specs.Prelude.{pos, None, replicate, [], ◌∷◌, ◌++◌}
 use Rattle.lb_base.specs.declared.shape.Kind.TheVariants.{Tick as TickTurn, Idle as IdleTurn}
 use Rattle.lb_base.specs.declared.view.MoveKind.TheVariants.{Tasks}

@@ -1,5 +1,6 @@
 -- Short forms for what a history is written with: its machine, its tasks, and its entries by their
 -- owners.
+-- Cited by the contracts of `one_task_moves`, `one_task_stays`, `newly_idle` and others; also by `lb_journal_rows`.
 use Rattle.std.specs.Prelude.{ℕ, ℤ, Option, Some, List, [], ◌∷◌}
 use Rattle.lb_base.specs.declared.mask.Mask.{Mask}
 use Rattle.lb_base.specs.Mask.{first_cpus}

@@ -1,5 +1,6 @@
 -- Histories of stop requests and of active balance: a request is served at a tick or at the end, or
 -- dropped; failed pulls lead to a push, or to a request that nobody serves.
+-- Cited by the contracts of `stop_is_served_at_the_tick`, `stop_is_dropped`, `stop_is_served_at_the_end` and others.
 use Rattle.std.specs.Prelude.{pos, None, replicate, [], ◌∷◌, ◌++◌}
 use Rattle.lb_base.specs.declared.shape.Kind.TheVariants.{Tick as TickTurn}
 use Rattle.lb_base.specs.declared.view.MoveKind.TheVariants.{Tasks}

@@ -1,4 +1,5 @@
 -- Beginnings of lists: for whoever says that one list is a beginning of another.
+-- For the lemmas of `Steps`; cited by `lb_cell`, `lb_end` and other crates too.
 use Rattle.std.proofs.Common.{◌≡◌, ℕ, zero, suc, ◌≤◌, List, [], ◌∷◌, ◌++◌, length, Some, slice_get, refl, ap, sym, ◌∙◌, arith, append_assoc, length-append}
 use mathlib.Core.List.{IsPrefix}
 

@@ -1,4 +1,5 @@
 -- Each step of a holder keeps the rule: for crates that put a shared value under it.
+-- For `lb_board`.
 use Rattle.std.proofs.Common.{◌≡◌, ◌≢◌, ℕ, true, zero, suc, List, [], ◌∷◌, ◌++◌, refl, sym, subst, ⊎_elim, ◌∙◌, set}
 use mathlib.Core.List.{IsPrefix, prefix-append}
 use mathlib.Core.Option.{some, some-injective, some-ne-none}

@@ -1,6 +1,7 @@
 -- The rule of a shared value that stands for a list which only grows. One holder writes the list and has seen all of
 -- it; each other holder has seen a beginning, and may have been told a longer one. Said of lists of any items A and
 -- of values of any type T, by what it is for a value to stand for a list (`ends`).
+-- What contracts see of the type `Telling`; cited by `lb_board`.
 use Rattle.std.specs.Prelude.{◌≡◌, ℕ, true, false, List, [], ◌∷◌, ◌++◌}
 use mathlib.Core.List.{IsPrefix}
 use mathlib.Core.Option.{some}

@@ -1,6 +1,7 @@
 -- Which lane draws the next entry: between two rows it takes up the row that is next; in the service of a
 -- row it is of the lane that serves it; and from the last row on it is of lane 0. So each draw leads from
 -- where the run stands to where it stands then.
+-- For `serial` and `Run::serve`.
 use Rattle.std.proofs.Common.{◌≡◌, ℕ, suc, ◌+◌, ◌-◌, ◌<◌, Bool, true, false, Option, Some, None, List, [], ◌∷◌, ◌++◌, length, drop, slice_get, refl, sym, ◌∙◌, ap, subst, inl, inr, arith, add-one, drop-cons, get_or-set_other, length-set, length-append}
 use Rattle.std.specs.Prelude.{option_to_list}
 use Rattle.std.proofs.lemmas.Bool.{cases_eq}
@@ -77,7 +78,8 @@ accepts t i r k e lt = subst (λ (x : Row). is_row t.header x ≡ true) (get_or_
 abbrev pub FewerLeft : Trace → Run → Run → Type 0
 FewerLeft t old new = most_entries t - length new.history.entries < most_entries t - length old.history.entries
 
-fewer_left : (t : Trace) (old : Run) (e : Entry) → length old.history.entries < most_entries t → FewerLeft t old (with_entry old e)
+fewer_left : (t : Trace) (old : Run) (e : Entry) → length old.history.entries < most_entries t
+    → FewerLeft t old (with_entry old e)
 fewer_left t old e lt = let n = length-append old.history.entries (e ∷ []) in omega arith
 
 -- the entry that the lane draws, and where the run stands then
@@ -97,7 +99,8 @@ after_draw t lane row Then old new w drawn =
 
 -- ---- between two rows
 row_comes : (w : What) (lane : ℕ) (later : List Row) (r : Row) (rs : List Row) → RestRows w lane later
-    → row_of w lane ++ later ≡ r ∷ rs → (lane ≡ r.lane) × (row_of w lane ≡ r ∷ []) × (later ≡ rs) × ((b : Bool) → ended_after w b ≡ b)
+    → row_of w lane ++ later ≡ r ∷ rs → (lane ≡ r.lane) × (row_of w lane ≡ r ∷ []) × (later ≡ rs) ×
+    ((b : Bool) → ended_after w b ≡ b)
 row_comes (RowEntry n at command) lane later r rs k e =
     let first : Row = record { lane = lane; at = at; command = command } in
     let whole : first ∷ later ≡ r ∷ rs = e in
@@ -190,7 +193,13 @@ closes_on t old k live =
     record {
       entry = e;
       there = subst (λ (l : ℕ). l < length old.state.courses) own (lane_there old.state e n.may);
-      drawn = record { own = own; may = n.may; serial = n.serial; takes = takes_it _ None 0 e.what (λ _. subst (λ (l : ℕ). row_of e.what l ≡ []) own w.0) };
+      drawn = record {
+        own = own;
+        may = n.may;
+        serial = n.serial;
+        takes = takes_it _ None 0 e.what
+            (λ _. subst (λ (l : ℕ). row_of e.what l ≡ []) own w.0);
+      };
       stands = record { front = n.front [] w.1; others = others_stay old.state e 0 own k.others };
       fewer = fewer_left t old e n.fewer;
     }

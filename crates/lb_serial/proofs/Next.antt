@@ -1,5 +1,6 @@
 -- The entry of the serial history that comes next after a front of it, where the history has not ended;
 -- and that a front which has ended it is all of it.
+-- For `serial`.
 use Rattle.std.proofs.Common.{◌≡◌, ◌<◌, true, false, List, [], ◌∷◌, ◌++◌, length, sym, ◌∙◌, ap, subst, arith, append_assoc, append-nil, length-append}
 use Rattle.lb_trace.specs.declared.trace.Header.{Header}
 use Rattle.lb_trace.specs.declared.trace.Row.{Row}

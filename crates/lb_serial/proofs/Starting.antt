@@ -1,5 +1,6 @@
 -- Where nothing is drawn yet, all lanes rest and each row is to come: every accepted trace has a serial
 -- history, and that is as short as histories of the trace are.
+-- For `serial`.
 use Rattle.std.proofs.Common.{◌≡◌, refl, sym, subst}
 use Rattle.lb_trace.specs.declared.trace.Header.{Header}
 use Rattle.lb_trace.specs.declared.trace.Trace.{Trace}

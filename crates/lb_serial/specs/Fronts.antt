@@ -1,6 +1,7 @@
 -- Where a serial run stands: what was drawn so far is a front of the serial history of the trace, and
 -- these rows are still to come; and which lanes rest, between two rows, in the service of one, and from
 -- the last one on.
+-- Cited by the contracts of `Run::start`, `Run::draw`, `Run::serve_rows` and `Run::serve`.
 use Rattle.std.specs.Prelude.{◌≡◌, ℕ, ◌+◌, ◌*◌, ◌<◌, ◌≤◌, true, false, List, [], ◌∷◌, ◌++◌, length}
 use Rattle.lb_trace.specs.declared.trace.Header.{Header}
 use Rattle.lb_trace.specs.declared.trace.Row.{Row}

@@ -1,4 +1,5 @@
 -- The entries of a service: what each leaves of its lane, and what the lane's course still asks for.
+-- For `serve_scan`, `serve_kick`, `open_turn` and others.
 use Rattle.std.proofs.Common.{ℕ, ◌≡◌, ◌+◌, ◌<◌, Bool, true, false, not, ◌==◌, cond, List, [], Option, Some, None, length, map, unwrap_or, if◌then◌else◌, refl, sym, ap, subst, ◌∙◌, arith, All, inl, inr}
 use Rattle.std.proofs.lemmas.Bool.{and_parts, eqb-true}
 use Rattle.std.proofs.lemmas.List.{length-map}
@@ -57,31 +58,31 @@ use Rattle.lb_service.specs.Services.{DueIn, IsAt, StillDue, IsTurning, ScannedA
 use Rattle.lb_service.proofs.Following.{end_serves, kick_serves, tickless_below}
 
 -- ---- forms
-grounded_by : (f : Form) (h : Header) (c : Course) → DueIn f h c → is_flight f ≡ false
-grounded_by forms.Rest h c a = refl
-grounded_by forms.Serving h c a = refl
-grounded_by forms.Due h c a = refl
-grounded_by forms.ScanDue h c a = refl
-grounded_by forms.Kicking h c a = refl
-grounded_by forms.Asked h c a = absurd a
-grounded_by forms.Flight h c a = absurd a
-grounded_by forms.Used h c a = absurd a
-grounded_by forms.Position h c a = absurd a
-grounded_by forms.Looked h c a = absurd a
-grounded_by forms.Landed h c a = absurd a
-grounded_by forms.Closed h c a = absurd a
-grounded_by forms.Done h c a = absurd a
-grounded_by forms.Ended h c a = absurd a
+empty_handed_by : (f : Form) (h : Header) (c : Course) → DueIn f h c → is_flight f ≡ false
+empty_handed_by forms.Rest h c a = refl
+empty_handed_by forms.Serving h c a = refl
+empty_handed_by forms.Due h c a = refl
+empty_handed_by forms.ScanDue h c a = refl
+empty_handed_by forms.Kicking h c a = refl
+empty_handed_by forms.Asked h c a = absurd a
+empty_handed_by forms.Flight h c a = absurd a
+empty_handed_by forms.Used h c a = absurd a
+empty_handed_by forms.Position h c a = absurd a
+empty_handed_by forms.Looked h c a = absurd a
+empty_handed_by forms.Landed h c a = absurd a
+empty_handed_by forms.Closed h c a = absurd a
+empty_handed_by forms.Done h c a = absurd a
+empty_handed_by forms.Ended h c a = absurd a
 
 -- a lane in service has no task in its hand
-pub serving_grounded : (h : Header) (c : Course) → StillDue h c → is_flight c.form ≡ false
-serving_grounded h c a = grounded_by c.form h c a
+pub serving_empty_handed : (h : Header) (c : Course) → StillDue h c → is_flight c.form ≡ false
+serving_empty_handed h c a = empty_handed_by c.form h c a
 
-pub form_grounded : (c : Course) (f : Form) → c.form ≡ f → is_flight f ≡ false → is_flight c.form ≡ false
-form_grounded c f e g = ap is_flight e ∙ g
+pub form_empty_handed : (c : Course) (f : Form) → c.form ≡ f → is_flight f ≡ false → is_flight c.form ≡ false
+form_empty_handed c f e g = ap is_flight e ∙ g
 
-pub turning_grounded : (h : Header) (c : Course) → IsTurning h c → is_flight c.form ≡ false
-turning_grounded h c t = elim t.comes [
+pub turning_empty_handed : (h : Header) (c : Course) → IsTurning h c → is_flight c.form ≡ false
+turning_empty_handed h c t = elim t.comes [
   | inl at ↦ ap is_flight at.0.form
   | inr done ↦ ap is_flight done
 ]
@@ -103,7 +104,8 @@ unfolding course_after
 shut_left h c l kicks = end_serves h l.course c.log.writer.cpu (length c.log.seat.list + 1) kicks
 
 pub kicked_serves : (h : Header) (book : TableId) (board : List TableId) (code : Coded Journal) (l l' : LaneIs) (cpu : ℕ)
-    (r : AskReply) → ScannedAreDeclared h Nohz l.side.course → KickedThere h book board code l l' cpu r → StillDue h l'.side.course
+    (r : AskReply) → ScannedAreDeclared h Nohz l.side.course → KickedThere h book board code l l' cpu r
+    → StillDue h l'.side.course
 kicked_serves h book board code l l' cpu r kicks x =
     subst (StillDue h) (sym (there_course h book board code l l' cpu (whats.Kick r) x.there))
     (kick_left h x.there.before l.side r kicks)
@@ -144,7 +146,8 @@ unfolding course_after
 scan_rows_left h l figs = by (target_among figs)
   where
     by : (o : Option ℕ)
-        → (scanned o (record l.course { figures = figs; named = raised_numbers (names_of figs) l.course.named })).rows ≡ l.course.rows
+        → (scanned o (record l.course { figures = figs; named = raised_numbers (names_of figs) l.course.named })).rows ≡
+        l.course.rows
     by None = refl
     by (Some p) = refl
 

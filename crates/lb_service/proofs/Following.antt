@@ -1,4 +1,5 @@
 -- What follows from an entry of a service: what the course that it leaves still asks for.
+-- For the lemmas of `Entries` and `Turning`, and so for `serve_scan`, `serve_kick` and others.
 use Rattle.std.proofs.Common.{ℕ, ◌≡◌, ◌+◌, ◌<◌, Bool, true, false, ◌&&◌, ◌==◌, ltb, cond, List, [], ◌∷◌, Option, Some, None, length, find, zero, suc, if◌then◌else◌, refl, sym, ap, subst, ◌∙◌, arith, All, inl, inr}
 use Rattle.std.specs.Prelude.{nat_lt}
 use Rattle.std.proofs.lemmas.Bool.{and_parts, ltb-true, eqb-true}

@@ -1,4 +1,5 @@
 -- The answer to a row: the lane has taken up one row more, and goes on with what follows from it.
+-- For `answer_row`.
 use Rattle.std.proofs.Common.{ℕ, ◌≡◌, ◌+◌, ◌<◌, Bool, true, false, ◌==◌, List, [], Option, Some, None, unwrap_or, length, if◌then◌else◌, refl, sym, ap, subst, ◌∙◌, inl, inr}
 use Rattle.std.proofs.lemmas.Bool.{eqb-true}
 use base.Stored.{Coded}
@@ -67,7 +68,8 @@ did_left h c l r a lt =
     (queue_after (sight_at h c l) (entry_at c l (whats.Did r))) refl a lt
 
 -- ---- by a wake that lands elsewhere
-wake_lands : (h : Header) (c : Course) (cpu n : ℕ) → is_tick c.command ≡ false → StillDue h (drew (Queue cpu) n (lands outs.Wake c))
+wake_lands : (h : Header) (c : Course) (cpu n : ℕ) → is_tick c.command ≡ false
+    → StillDue h (drew (Queue cpu) n (lands outs.Wake c))
 wake_lands h c cpu n e = rw e tt
 
 wake_left : (h : Header) (c : CellIs) (l : SideIs) (tasks : List ℕ) → l.course.cause ≡ Some outs.Wake

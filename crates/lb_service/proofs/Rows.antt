@@ -1,4 +1,5 @@
 -- An entry at a queue leaves as many rows taken up as there were.
+-- For `serve_kick`, `serve_out`, `end_turn` and `pass_position`.
 use Rattle.std.proofs.Common.{ℕ, ◌≡◌, Bool, true, false, ◌&&◌, List, Option, Some, None, length, if◌then◌else◌, refl, ap, ◌∙◌}
 use Rattle.std.specs.Prelude.{nat_lt}
 use base.Stored.{Coded}

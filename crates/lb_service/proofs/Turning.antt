@@ -1,4 +1,5 @@
 -- A turn of a service: what is known of it once it has opened, or was shut; and after each of its positions.
+-- For `open_turn` and `pass_position`.
 use Rattle.std.proofs.Common.{ℕ, ◌≡◌, ◌+◌, ◌<◌, Bool, true, false, not, ◌==◌, cond, List, Option, Some, None, MatchOption, length, map, All, [], ◌⊎◌, if◌then◌else◌, refl, sym, ap, subst, ◌∙◌, arith, inl, inr}
 use Rattle.std.proofs.lemmas.Bool.{and_parts, eqb-true}
 use Rattle.std.proofs.lemmas.List.{length-map}
@@ -77,7 +78,8 @@ took_up h c c' l l' x kind r a =
       rows = taken.rows ∙ ap (λ (z : Course). z.rows) a.adopted.same.course;
     }
 
-pub kicks_still : (h : Header) (kind : Kind) (c c' : Course) → c'.figures ≡ c.figures → ScannedAreDeclared h kind c → ScannedAreDeclared h kind c'
+pub kicks_still : (h : Header) (kind : Kind) (c c' : Course) → c'.figures ≡ c.figures → ScannedAreDeclared h kind c
+    → ScannedAreDeclared h kind c'
 kicks_still h TickTurn c c' e k = tt
 kicks_still h Idle c c' e k = tt
 kicks_still h Nohz c c' e k = subst (λ fs. All (λ f. f.cpu < length h.cpus) fs) (sym e) k
@@ -175,7 +177,8 @@ module _ (h : Header) (book : TableId) (board : List TableId) (code : Coded Jour
       let a = b.there.came in
       let t = took_up h b.there.before b.there.after b.mid b.there.mid b.x kind r a in
       record {
-        number = b.there.read.same.number ∙ (a.answered.number ∙ (a.adopted.drew.number ∙ (a.adopted.same.number ∙ b.looks.side.number)));
+        number = b.there.read.same.number ∙
+            (a.answered.number ∙ (a.adopted.drew.number ∙ (a.adopted.same.number ∙ b.looks.side.number)));
         rows = b.there.rest.rows ∙ (a.rest.rows ∙ (a.adopted.rows ∙ b.looks.rows));
         taken_up =
             ap (λ (z : Course). z.rows) (b.there.read.same.course ∙ a.answered.course)

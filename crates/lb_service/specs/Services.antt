@@ -1,4 +1,5 @@
 -- The service of a lane's row: what the lane still has to do, by the form of its course, and what is known of it then.
+-- Cited by the contracts of `serve_row`, `serve`, `serve_tick` and others; also by `lb_threads`.
 use Rattle.std.specs.Prelude.{ℕ, ◌≡◌, ◌+◌, ◌<◌, ◌⊎◌, true, length, All}
 use Rattle.lb_base.specs.declared.shape.Kind.{Kind}
 use Rattle.lb_base.specs.declared.shape.Kind.TheVariants.{Nohz}

@@ -27,7 +27,7 @@ fn answer_row<N: Names + Versions, R: Wait>(
     ensures serving { OnOk result (StillDue N.header lane.new.side.course) }
     ensures taken_up { OnOk result (lane.new.side.course.rows ≡ lane.old.side.course.rows + 1) }
     ensures same { (lane.new.side.number ≡ lane.old.side.number) × (lane.new.rows ≡ lane.old.rows) }
-    ensures grounded { is_flight lane.new.side.course.form ≡ false }
+    ensures empty_handed { is_flight lane.new.side.course.form ≡ false }
 {
     cpus.command(rt, alloc, lane, row)?;
     Ok(())
@@ -47,7 +47,7 @@ pub fn serve_row<N: Names + Versions, R: Wait, G: Gate>(
     requires next { slice_get lane.old.rows lane.old.side.course.rows ≡ Some row.now }
     ensures served { OnOk result (IsServed lane.old lane.new) }
     ensures same { (lane.new.side.number ≡ lane.old.side.number) × (lane.new.rows ≡ lane.old.rows) }
-    ensures grounded { is_flight lane.new.side.course.form ≡ false }
+    ensures empty_handed { is_flight lane.new.side.course.form ≡ false }
 {
     answer_row(rt, alloc, cpus, lane, row)?;
     serve(rt, alloc, cpus, lane, gate)

@@ -29,7 +29,7 @@ fn serve_turn<N: Names + Versions, R: Wait, G: Gate>(
     requires serving { StillDue N.header lane.old.side.course }
     ensures serving { OnOk result (StillDue N.header lane.new.side.course) }
     ensures rows { SameRows lane.old lane.new }
-    ensures grounded { is_flight lane.new.side.course.form ≡ false }
+    ensures empty_handed { is_flight lane.new.side.course.form ≡ false }
 {
     let course = lane.side().course();
     let (cpu, kind) = (course.cpu, turn_kind(course));
@@ -47,7 +47,7 @@ fn serve_one<N: Names + Versions, R: Wait, G: Gate>(
     requires { StillDue N.header lane.old.side.course }
     ensures serving { OnOk result (StillDue N.header lane.new.side.course) }
     ensures rows { SameRows lane.old lane.new }
-    ensures grounded { is_flight lane.new.side.course.form ≡ false }
+    ensures empty_handed { is_flight lane.new.side.course.form ≡ false }
 {
     match lane.side().course().form {
         Form::Serving => serve_tick(rt, alloc, cpus, lane, gate),
@@ -70,7 +70,7 @@ pub(crate) fn serve<N: Names + Versions, R: Wait, G: Gate>(
     requires { StillDue N.header lane.old.side.course }
     ensures rest { OnOk result (lane.new.side.course.form ≡ form.Rest) }
     ensures rows { SameRows lane.old lane.new }
-    ensures grounded { is_flight lane.new.side.course.form ≡ false }
+    ensures empty_handed { is_flight lane.new.side.course.form ≡ false }
 {
     for _ in rt.forever() {
         if lane.side().course().form == Form::Rest {

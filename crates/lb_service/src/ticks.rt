@@ -49,7 +49,7 @@ pub(crate) fn serve_tick<N: Names + Versions, R: Wait, G: Gate>(
     requires { IsDue N.header form.Serving lane.old.side.course }
     ensures serving { OnOk result (StillDue N.header lane.new.side.course) }
     ensures rows { SameRows lane.old lane.new }
-    ensures grounded { is_flight lane.new.side.course.form ≡ false }
+    ensures empty_handed { is_flight lane.new.side.course.form ≡ false }
 {
     if serve_out(rt, alloc, cpus, lane)? {
         return Ok(());
@@ -71,7 +71,7 @@ pub(crate) fn serve_scan<N: Names + Versions, R: Wait>(
     requires serving { StillDue N.header lane.old.side.course }
     ensures serving { OnOk result (StillDue N.header lane.new.side.course) }
     ensures rows { SameRows lane.old lane.new }
-    ensures grounded { is_flight lane.new.side.course.form ≡ false }
+    ensures empty_handed { is_flight lane.new.side.course.form ≡ false }
 {
     lane.keeps();
     cpus.scan(rt, alloc, lane)?;
@@ -89,7 +89,7 @@ pub(crate) fn serve_kick<N: Names + Versions, R: Wait>(
     requires kicks { ScannedAreDeclared N.header kind.Nohz lane.old.side.course }
     ensures serving { OnOk result (StillDue N.header lane.new.side.course) }
     ensures rows { SameRows lane.old lane.new }
-    ensures grounded { is_flight lane.new.side.course.form ≡ false }
+    ensures empty_handed { is_flight lane.new.side.course.form ≡ false }
 {
     cpus.kick(rt, alloc, lane)?;
     Ok(())

@@ -31,7 +31,7 @@ fn pass_position<N: Names + Versions, R: Wait, G: Gate>(
     requires at { IsAt lane.old.side.course }
     ensures turning { OnOk result (IsTurning N.header lane.new.side.course) }
     ensures rows { SameRows lane.old lane.new }
-    ensures grounded { is_flight lane.new.side.course.form ≡ false }
+    ensures empty_handed { is_flight lane.new.side.course.form ≡ false }
 {
     let course = lane.side().course();
     let (cpu, position, kind) = (course.cpu, course.position, turn_kind(course));
@@ -54,7 +54,7 @@ fn pass_positions<N: Names + Versions, R: Wait, G: Gate>(
     ensures turning { OnOk result (IsTurning N.header lane.new.side.course) }
     ensures done { OnOk result (lane.new.side.course.form ≡ form.Done) }
     ensures rows { SameRows lane.old lane.new }
-    ensures grounded { is_flight lane.new.side.course.form ≡ false }
+    ensures empty_handed { is_flight lane.new.side.course.form ≡ false }
 {
     for _ in rt.forever() {
         if lane.side().course().form == Form::Done {
@@ -76,7 +76,7 @@ fn end_turn<N: Names + Versions, R: Wait>(
     requires done { lane.old.side.course.form ≡ form.Done }
     ensures serving { OnOk result (StillDue N.header lane.new.side.course) }
     ensures rows { SameRows lane.old lane.new }
-    ensures grounded { is_flight lane.new.side.course.form ≡ false }
+    ensures empty_handed { is_flight lane.new.side.course.form ≡ false }
 {
     cpus.over(rt, alloc, lane)?;
     Ok(())
@@ -97,7 +97,7 @@ fn open_turn<N: Names + Versions, R: Wait>(
     ensures began { IfOk result (λ opened. MatchBool opened (IsTurning N.header lane.new.side.course)
         (StillDue N.header lane.new.side.course)) }
     ensures rows { SameRows lane.old lane.new }
-    ensures grounded { is_flight lane.new.side.course.form ≡ false }
+    ensures empty_handed { is_flight lane.new.side.course.form ≡ false }
 {
     match cpus.turn(rt, alloc, lane, cpu, kind)? {
         Began::Turn(TurnReply::Opened(_)) => Ok(true),
@@ -123,7 +123,7 @@ pub(crate) fn make_turn<N: Names + Versions, R: Wait, G: Gate>(
     requires serving { StillDue N.header lane.old.side.course }
     ensures serving { OnOk result (StillDue N.header lane.new.side.course) }
     ensures rows { SameRows lane.old lane.new }
-    ensures grounded { is_flight lane.new.side.course.form ≡ false }
+    ensures empty_handed { is_flight lane.new.side.course.form ≡ false }
 {
     if open_turn(rt, alloc, cpus, lane, cpu, kind)? {
         pass_positions(rt, alloc, cpus, lane, gate)?;

@@ -1,4 +1,6 @@
 -- How many tasks stand at one place of the machine, and how many all lanes together have in hand. For callers too.
+-- For the lemmas of `Departures` and `Landings`, and so for the laws `hands_may_land` and `steps_may_be_taken`; cited
+-- by `lb_summary` too.
 use Rattle.std.proofs.Common.{arith, ◌≡◌, ℕ, ◌*◌, ◌≤◌, Bool, true, false, cond, length, ltb, refl, ◌∙◌}
 use Rattle.std.proofs.lemmas.Bool.{le-ltb}
 use Rattle.std.proofs.lemmas.List.{length-map, get_or_default}

@@ -1,6 +1,7 @@
 -- What the step of an `out` asks, where it may be added to a ready machine: it is the one that is due, and goes
 -- to a CPU of the machine with tasks that are declared, and few. The machine after it is ready too, and has them
 -- in the hand of a lane in flight.
+-- For the lemmas of `Taking`, and so for the law `steps_may_be_taken`.
 use Rattle.std.proofs.Common.{arith, ◌≡◌, ℕ, ◌+◌, ◌<◌, ◌≤◌, false, List, length, Option, Some, None, refl, sym, ◌∙◌, ap, subst, get_or-set_same}
 use Rattle.std.specs.Prelude.{All}
 use Rattle.std.proofs.lemmas.Bool.{or_parts, eqb-true, not-false}
@@ -52,7 +53,8 @@ said_by (Some l) cause to tasks h =
       tasks_are = numbers_same tasks (ids l.hand) (not-false _ p.1);
     }
 
-is_due : (out : Option Leaving) (cause : OutCause) (to : ℕ) (tasks : List ℕ) → IsSaid out cause to tasks → IsDue out cause to (length tasks)
+is_due : (out : Option Leaving) (cause : OutCause) (to : ℕ) (tasks : List ℕ) → IsSaid out cause to tasks
+    → IsDue out cause to (length tasks)
 is_due None cause to tasks s = absurd (let e = s.due in let y : ⊥ = cc in y)
 is_due (Some l) cause to tasks s =
     let e : Some l ≡ Some s.one = s.due in
@@ -101,7 +103,8 @@ unfolding after
 header_stays m cpu lane prev cause to tasks = refl
 
 same_sight : (m : MachineState) (cpu lane prev : ℕ) (cause : OutCause) (to : ℕ) (tasks : List ℕ)
-    → leaving (sight m (entry (Queue cpu) lane prev (Out cause to tasks))) ≡ leaving (sight m (of_queue cpu lane (Out cause to tasks)))
+    → leaving (sight m (entry (Queue cpu) lane prev (Out cause to tasks))) ≡ leaving
+    (sight m (of_queue cpu lane (Out cause to tasks)))
 unfolding sight
 same_sight m cpu lane prev cause to tasks = refl
 

@@ -1,4 +1,5 @@
 -- The serial entry of a lane says what is in range, where the row that is given is an accepted one.
+-- For `State::draw`.
 use Rattle.std.proofs.Common.{◌≡◌, ℕ, ◌+◌, ◌<◌, true, List, Option, Some, None, refl, sym, subst, Bor}
 use Rattle.std.specs.Prelude.{IfSome, option_copied, option_to_list}
 use Rattle.std.specs.List.{list_all}
@@ -36,7 +37,8 @@ given h (Some r) k rows e = rw e (all_one (is_row h) r k)
 
 -- at rest it is that row, and at work none
 rows_fit : (f : Form) (h : Header) (c : Course) (q : QueueState) (row : Option Row) (lane : ℕ) (w : What)
-    → draws f h c q lane w ≡ true → IfSome row (λ r. is_row h r ≡ true) → Takes f row lane w → list_all (is_row h) (row_of w lane) ≡ true
+    → draws f h c q lane w ≡ true → IfSome row (λ r. is_row h r ≡ true) → Takes f row lane w
+    → list_all (is_row h) (row_of w lane) ≡ true
 unfolding draws
 rows_fit Rest h c q row lane w d k t = given h row k (row_of w lane) t
 rows_fit f h c q row lane (RowEntry n at command) d k t = absurd (let y : ⊥ = cc in y)

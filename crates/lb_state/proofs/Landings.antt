@@ -1,5 +1,6 @@
 -- The hands of a ready machine can land: each goes to a CPU of the machine, where its landings are booked, and
 -- no task stands twice, in a hand or on a queue.
+-- For the law `hands_may_land`.
 use Rattle.std.proofs.Common.{arith, ◌≡◌, ℕ, zero, suc, ◌+◌, ◌<◌, ◌≤◌, Bool, true, false, cond, List, [], ◌∷◌, length, Option, Some, None, refl, ◌∙◌, ap}
 use Rattle.std.specs.Prelude.{IfSome, ◌==◌}
 use Rattle.std.proofs.lemmas.Bool.{and_parts, eqb-true}
@@ -24,7 +25,8 @@ use Rattle.lb_state.specs.Laws.{HandsMayLand}
 use Rattle.lb_state.proofs.Counted.{once}
 
 -- ---- where hands go
-flies_inside : (f : Form) (ended : Bool) (h : Header) (c : Course) → is_flight f ≡ true → FitsForm ended h f c → c.to < length h.cpus
+flies_inside : (f : Form) (ended : Bool) (h : Header) (c : Course) → is_flight f ≡ true → FitsForm ended h f c
+    → c.to < length h.cpus
 flies_inside Flight ended h c y k = k
 flies_inside f ended h c y k = absurd (let z : ⊥ = cc in z)
 
@@ -57,7 +59,8 @@ in_hand m lane t (Some h) held = let e : times_in t (Some h) ≡ times m (HandOf
     ap (λ (x : List TaskRecord). occurs t (ids x)) held.loaded.tasks in omega arith
 
 -- ---- over all hands
-all : (t : ℕ) (h : Option HandState) (hs : List (Option HandState)) → times_in t h ≤ 0 → times_held t hs ≡ 0 → times_held t (h ∷ hs) ≡ 0
+all : (t : ℕ) (h : Option HandState) (hs : List (Option HandState)) → times_in t h ≤ 0 → times_held t hs ≡ 0
+    → times_held t (h ∷ hs) ≡ 0
 all t h hs first rest = let sum = sum_by-cons (times_in t) h hs in omega arith
 
 in_none : (t : ℕ) (hands : List (Option HandState)) → ((i : ℕ) → times_in t (hand_at hands i) ≤ 0) → times_held t hands ≡ 0

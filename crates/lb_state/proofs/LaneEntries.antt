@@ -1,5 +1,6 @@
 -- What the step of an entry of a lane or the publisher asks, where it may be added to a ready machine: the row
 -- names what is declared, the version and the figures were published, the masks part the CPUs.
+-- For the lemmas of `Taking`, and so for the law `steps_may_be_taken`.
 use Rattle.std.proofs.Common.{arith, ◌≡◌, ℕ, zero, suc, ◌-◌, ◌<◌, ◌≤◌, max, Bool, true, false, List, [], ◌∷◌, length, map, ltb, get_or, Option, Some, refl, ◌∙◌, ap}
 use Rattle.std.specs.Prelude.{All}
 use Rattle.std.specs.List.{list_all, list_any}
@@ -38,7 +39,8 @@ use Rattle.lb_engine.specs.Asks.{TicksBelow, RebuildAsks}
 use Rattle.lb_engine.specs.Takes.{NamesAsks, LaneAsks}
 
 -- ---- rows, versions, masks
-ticks_below : (h : Header) (n : ℕ) (command : Command) → n ≡ length h.cpus → is_undeclared h command ≡ false → TicksBelow n command
+ticks_below : (h : Header) (n : ℕ) (command : Command) → n ≡ length h.cpus → is_undeclared h command ≡ false
+    → TicksBelow n command
 ticks_below h n (Tick cpu) e d = let lt = ltb-true cpu (length h.cpus) (not-false _ d) in omega arith
 ticks_below h n command e d = tt
 
@@ -79,7 +81,8 @@ names_asks m c names sizes suits below drawn = record {
       let f = get_or names i d in
       let s = sizes.figures in
       let one = sizes.published f.cpu b in
-      let most = ltb-false (entries_at m f.cpu) f.n (none_passes (λ (f : FigName). ltb (entries_at m f.cpu) f.n) names drawn i d lt) in
+      let most = ltb-false (entries_at m f.cpu) f.n
+      (none_passes (λ (f : FigName). ltb (entries_at m f.cpu) f.n) names drawn i d lt) in
       record { cpu_is = omega arith; there = omega arith };
 }
 
@@ -127,7 +130,8 @@ due_below : LieInside → (m : MachineState) (c : Course) (due : Mask) (names : 
     All (λ (f : FigName). f.cpu < length m.header.cpus) names
 due_below law m c due names o same =
     names_below (length m.header.cpus) names (get_or (turn_domains m.header c) o.place no_domain).shape.span c.excluded
-    (λ k there. (law m.header.cpus m.header.distances c.masks c.cpu o.place o.inside).in_machine k there) (same ∙ ap members o.due_is)
+    (λ k there. (law m.header.cpus m.header.distances c.masks c.cpu o.place o.inside).in_machine k there)
+    (same ∙ ap members o.due_is)
 
 -- ---- by kind
 no_queue_is : (o : Owner) (due : Option ℕ) → is_no_queue o ≡ true → is_queue o due ≡ true → ⊥
@@ -169,4 +173,5 @@ lane_asks law m o lane prev (Scan names t) k s b h =
 lane_asks law m o lane prev (End cpus) k s b h = tt
 lane_asks law m o lane prev (Pub v) k s b h = parts_again m.header (course_at m.courses lane).command s.parts
 lane_asks law m o lane prev w k s b h =
-    absurd (no_queue_is o (queue_due (course_at m.courses lane).form (course_at m.courses lane)) b (form_lets m (entry o lane prev w) h).0)
+    absurd (no_queue_is o (queue_due (course_at m.courses lane).form (course_at m.courses lane)) b
+    (form_lets m (entry o lane prev w) h).0)

@@ -1,5 +1,6 @@
 -- What the step of an entry of a queue asks, where it may be added to a ready machine: the place of the task
 -- that is answered for, the turn that is open, the tasks that land.
+-- For the lemmas of `Departures` and `Taking`, and so for the law `steps_may_be_taken`.
 use Rattle.std.proofs.Common.{arith, ◌≡◌, ℕ, zero, suc, ◌<◌, ◌≤◌, Bool, true, false, cond, List, [], ◌∷◌, length, ltb, get_or, Option, Some, None, is_some, is_none, refl, sym, ◌∙◌, subst, not}
 use Rattle.std.specs.Prelude.{All, IsSome}
 use Rattle.std.proofs.lemmas.Bool.{and_parts, ltb-true, eqb-true, eq-eqb, not-false}
@@ -56,7 +57,11 @@ answered_here f h c q m cpu lane r d a = absurd (let y : ⊥ = cc in y)
 stands_here : TasksStand → (m : MachineState) (cpu t : ℕ) → IsReady m → t < length m.header.tasks
     → not (is_at (place_at m t) (Queue cpu)) ≡ false
     → (t < length m.places) × (is_awake (queue_at m.queues cpu) t ≡ is_awake_place (place_at m t))
-stands_here stand m cpu t k lt n = ((let l = k.placed.mapped in omega arith), by_place (place_at m t) refl (not-false _ n) (stand m t k lt))
+stands_here stand m cpu t k lt n = (
+  (let l = k.placed.mapped in omega arith),
+  by_place (place_at m t) refl
+      (not-false _ n) (stand m t k lt),
+)
   where
     by_place : (p : Place) → place_at m t ≡ p → is_at p (Queue cpu) ≡ true → IsOnAt m t p
         → is_awake (queue_at m.queues cpu) t ≡ is_awake_place (place_at m t)
@@ -86,7 +91,8 @@ did_asks stand m cpu lane prev r k h meets =
     record {
       command = meets;
       mapped = mapped stand m cpu c.command k (k.fits lane).says.names
-          (answered_here c.form m.header c (sight m e).queue m cpu lane r (form_lets m e h).1 (unbroken_elsewhere m e h PlaceRule));
+          (answered_here c.form m.header c (sight m e).queue m cpu lane r (form_lets m e h).1
+          (unbroken_elsewhere m e h PlaceRule));
     }
 
 -- ---- turns
@@ -94,7 +100,8 @@ has_turn : (m : MachineState) (lane : ℕ) → IsReady m
     → IsVersion m (course_at m.courses lane).version (course_at m.courses lane).masks → HasTurn m (course_at m.courses lane)
 has_turn m lane k v = record { version = v; turned = (k.fits lane).says.turned }
 
-in_work : (m : MachineState) (lane : ℕ) → IsReady m → IsAtPosition m lane (course_at m.courses lane) → HasPosition m (course_at m.courses lane)
+in_work : (m : MachineState) (lane : ℕ) → IsReady m → IsAtPosition m lane (course_at m.courses lane)
+    → HasPosition m (course_at m.courses lane)
 in_work m lane k t = record { turn = has_turn m lane k t.0.taken_up; inside = t.0.inside (course_at m.courses lane).position t.1 }
 
 -- where a pull is due, so is the position
@@ -125,7 +132,8 @@ unfolding sight
 turn_asks m cpu lane prev w is_open k o h meets there =
     let e = entry (Queue cpu) lane prev w in
     record {
-      turn = has_turn m lane k (used_of (course_at m.courses lane).form m lane (sight m e).queue w o (form_lets m e h).1 (k.turns lane));
+      turn = has_turn m lane k (used_of (course_at m.courses lane).form m lane (sight m e).queue w o (form_lets m e h).1
+          (k.turns lane));
       opening = meets;
       open_is = there;
     }
@@ -178,7 +186,8 @@ declared m lane t placed h = by_test (is_its_place m (HandOf lane) t) refl (plac
     by_test true e o = ltb-true t (length m.places) ((and_parts (ltb t (length m.places)) _ e).0)
     by_test false e o = let z : times m (HandOf lane) t ≡ 0 = o ∙ rw e refl in absurd (omega arith)
 
-pub each_declared : (m : MachineState) (lane : ℕ) → IsPlaced m → All (λ t. t < length m.places) (ids (course_at m.courses lane).hand)
+pub each_declared : (m : MachineState) (lane : ℕ) → IsPlaced m → All (λ t. t < length m.places)
+    (ids (course_at m.courses lane).hand)
 each_declared m lane placed i d lt = declared m lane (get_or (ids (course_at m.courses lane).hand) i d) placed
     (stands_in (ids (course_at m.courses lane).hand) i d lt)
   where

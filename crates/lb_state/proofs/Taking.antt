@@ -1,4 +1,5 @@
 -- An entry that may be added to a ready machine meets what its step asks of the engine.
+-- For the law `steps_may_be_taken`.
 use Rattle.std.proofs.Common.{arith, ◌≡◌, ℕ, ◌<◌, true, false, length, refl}
 use Rattle.lb_domain.specs.Laws.{LieInside}
 use Rattle.lb_queue.specs.Queue.{QueueState}
@@ -47,7 +48,8 @@ lands_in_flight f h c q lane w d = refl
 queue_asks : ReadyLaws → (m : MachineState) (cpu lane prev : ℕ) (w : What) → IsReady m
     → MayBeAdded m (entry (Queue cpu) lane prev w) → nice_fits w ≡ true → cpu < length m.header.cpus
     → Suits m.header (course_at m.courses lane) →
-    QueueAsks w (sight m (entry (Queue cpu) lane prev w)) → QueueStepAsks w m cpu lane (queue_at m.queues cpu) (course_at m.courses lane)
+    QueueAsks w (sight m (entry (Queue cpu) lane prev w)) → QueueStepAsks w m cpu lane (queue_at m.queues cpu)
+    (course_at m.courses lane)
 unfolding sight
 queue_asks laws m cpu lane prev (Did r) k h r' lt s meets = did_asks laws.stand m cpu lane prev r k h meets
 queue_asks laws m cpu lane prev (Out cause to tasks) k h r lt s meets =
@@ -56,7 +58,8 @@ queue_asks laws m cpu lane prev (Landed tasks) k h r lt s meets = landed_asks m 
 queue_asks laws m cpu lane prev (Turn ps) k h r lt s meets =
     turn_asks m cpu lane prev (Turn ps) false k refl h meets (unbroken_here m (entry (Queue cpu) lane prev (Turn ps)) h ReplyRule)
 queue_asks laws m cpu lane prev Shut k h r lt s meets =
-    turn_asks m cpu lane prev Shut true k refl h meets (some_not_none _ (unbroken_here m (entry (Queue cpu) lane prev Shut) h ReplyRule))
+    turn_asks m cpu lane prev Shut true k refl h meets
+    (some_not_none _ (unbroken_here m (entry (Queue cpu) lane prev Shut) h ReplyRule))
 queue_asks laws m cpu lane prev (Close p w i n) k h r lt s meets = close_asks m cpu lane prev p i n w k s h meets
 queue_asks laws m cpu lane prev (Ask a) k h r lt s meets = s.position
 queue_asks laws m cpu lane prev (Kick a) k h r lt s meets = tt

@@ -1,5 +1,6 @@
 -- What a ready machine gives its engine: an entry that may be added meets what its step asks of the engine, and
 -- the hands of the engine can land where they go.
+-- Cited by the laws `steps_may_be_taken` and `hands_may_land`.
 use Rattle.std.specs.Prelude.{◌≡◌, true}
 use Rattle.lb_core.specs.declared.entry.Entry.{Entry}
 use Rattle.lb_core.specs.Machine.{MachineState}

@@ -1,4 +1,5 @@
 -- What is counted over a list of CPUs: nothing over none, and at one more CPU its own part more.
+-- For `sums_of`.
 use Rattle.std.proofs.Common.{◌≡◌, ℕ, ◌+◌, ◌≤◌, Bool, true, false, ◌||◌, cond, List, [], ◌∷◌, ◌++◌, refl, sym, ◌∙◌, ap, arith}
 use Rattle.std.specs.Prelude.{sum_by, count_by}
 use Rattle.std.specs.List.{list_any}
@@ -41,7 +42,8 @@ or_nothing : (b : Bool) → (b || false) ≡ b
 or_nothing true = refl
 or_nothing false = refl
 
-one_more_test : (p : ℕ → Bool) (cpus : List ℕ) (c : ℕ) (s t : Bool) → s ≡ list_any p cpus → t ≡ (s || p c) → t ≡ list_any p (cpus ++ c ∷ [])
+one_more_test : (p : ℕ → Bool) (cpus : List ℕ) (c : ℕ) (s t : Bool) → s ≡ list_any p cpus → t ≡ (s || p c)
+    → t ≡ list_any p (cpus ++ c ∷ [])
 one_more_test p cpus c s t e step =
     step ∙ ap (λ (b : Bool). b || p c) e
     ∙ sym (list_any-append p cpus (c ∷ []) ∙ ap (λ (b : Bool). list_any p cpus || b) (or_nothing (p c)))

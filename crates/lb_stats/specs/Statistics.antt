@@ -1,5 +1,7 @@
 -- The statistics of a group: the totals of its CPUs' figures, its capacity, how many of its CPUs
 -- are idle, its load per capacity, and its type.
+-- Cited by the contracts of `group_stats`, `Sums::add`, `marked` and others; also by `lb_imbalance`,
+-- `lb_journal_rows` and `lb_rows`.
 use Rattle.std.specs.Prelude.{ℕ, ◌+◌, ◌-◌, ◌*◌, ◌/◌, ◌<◌, ◌^◌, ◌==◌, nat_lt, Bool, ◌&&◌, if◌then◌else◌, List, length, count_by}
 use Rattle.std.specs.Int.{bit_at}
 use Rattle.std.specs.List.{list_any}

@@ -1,5 +1,6 @@
 -- The type of a group of CPUs: how busy it is, judged by its number of tasks, its utilisation and
 -- its runnable average against its capacity. The first test that holds decides.
+-- Cited by the contract of `classify`.
 use Rattle.std.specs.Prelude.{ℕ, ◌*◌, ◌==◌, nat_lt, Bool, not, ◌&&◌, ◌||◌, if◌then◌else◌}
 use Rattle.lb_base.specs.declared.group.GroupType.{GroupType}
 use Rattle.lb_base.specs.declared.group.GroupType.TheVariants.{HasSpare, FullyBusy, Imbalanced, Overloaded}

@@ -1,4 +1,5 @@
 -- The summary of a history that is its end alone.
+-- For the law `end_alone`.
 use Rattle.std.proofs.Common.{refl}
 use Rattle.std.specs.Fmt.{digits}
 use Rattle.lb_summary.specs.Laws.{EndAlone}

@@ -1,4 +1,5 @@
 -- What the code adds up is what the summary says: entry by entry, and without going past 64 bits.
+-- For the lemmas of `Going`, `Once` and `Places`, and so for the laws `tasks_count_once` and `steps_are_places`.
 use Rattle.std.proofs.Common.{arith, ◌≡◌, ℕ, ◌+◌, ◌*◌, ◌≤◌, Bool, true, false, cond, ◌&&◌, List, [], ◌∷◌, length, filter, refl, sym, ◌∙◌, ap, zero-add}
 use Rattle.std.specs.Prelude.{sum_by}
 use Rattle.std.proofs.lemmas.Bool.{and_parts}

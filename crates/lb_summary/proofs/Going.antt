@@ -1,4 +1,5 @@
 -- Where the count stands after some entries, and one entry more.
+-- For `Summary::of`.
 use Rattle.std.proofs.Common.{arith, ◌≡◌, ℕ, suc, ◌+◌, ◌^◌, ◌<◌, ◌≤◌, true, List, [], ◌∷◌, length, drop, get_or, refl, sym, ◌∙◌, ap, subst, add-one, drop-cons}
 use Rattle.std.proofs.lemmas.Bool.{and_parts}
 use Rattle.lb_trace.specs.Accepted.{IsHeader}

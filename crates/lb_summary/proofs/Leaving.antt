@@ -1,5 +1,7 @@
 -- What an `out` that may be added says: a pull is of a lane that balances a domain, and no more tasks leave
 -- than the trace has.
+-- For the lemmas of `Counted`, `Going` and `Within`, and so for the laws `pulls_are_within`, `tasks_count_once` and
+-- `steps_are_places`.
 use Rattle.std.proofs.Common.{arith, ◌≡◌, ℕ, ◌+◌, ◌≤◌, true, false, not, List, length, Option, Some, None, refl, sym, ◌∙◌, ap, get_or-set_same}
 use Rattle.std.proofs.lemmas.Bool.{or_parts, not-false}
 use Rattle.lb_queue.specs.declared.answers.OutCause.{OutCause}

@@ -1,4 +1,5 @@
 -- Each task that leaves a queue counts on one line, or left by a wake.
+-- For the law `tasks_count_once`.
 use Rattle.std.proofs.Common.{arith, ◌≡◌, ◌+◌, true, ◌&&◌, [], ◌∷◌, refl}
 use Rattle.lb_base.specs.declared.shape.LevelName.{LevelName}
 use Rattle.lb_base.specs.declared.shape.LevelName.TheVariants.{Smt, Mc, Pkg, Numa}

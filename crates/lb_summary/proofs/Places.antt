@@ -1,4 +1,5 @@
--- The steps of entries, place by place.
+-- Each entry of a history is counted in the machine that the entries before it leave.
+-- For the law `steps_are_places`.
 use Rattle.std.proofs.Common.{◌≡◌, ℕ, zero, suc, List, [], ◌∷◌, take, slice_get, Some, refl}
 use Rattle.lb_core.specs.declared.entry.Entry.{Entry}
 use Rattle.lb_core.specs.Legal.{run}

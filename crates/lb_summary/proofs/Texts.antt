@@ -1,4 +1,5 @@
 -- A text to which one text after another is appended.
+-- For `put_summary` and `put_pulled`.
 use Rattle.std.proofs.Common.{◌≡◌, ℕ, List, ◌++◌, ◌∙◌, ap, append_assoc}
 
 pub followed : (a b c x y : List ℕ) → b ≡ a ++ x → c ≡ b ++ y → c ≡ a ++ (x ++ y)

@@ -1,4 +1,5 @@
 -- The domain of a pull is one within the version that its lane took up.
+-- For the law `pulls_are_within`.
 use Rattle.std.proofs.Common.{ℕ, ◌<◌, List, length, ap, subst}
 use Rattle.lb_base.specs.declared.mask.Mask.{Mask}
 use Rattle.lb_domain.specs.declared.domain.Domain.{Domain}

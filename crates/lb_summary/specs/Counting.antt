@@ -1,4 +1,5 @@
 -- How the code counts: what one entry adds to the numbers so far, and when they are small enough to be added to.
+-- Cited by the contracts of `Summary::count`, `level_balanced`, `Summary::count_pulled` and `Summary::count_tasks`.
 use Rattle.std.specs.Prelude.{ℕ, ◌+◌, ◌<◌, ◌≤◌, length}
 use Rattle.lb_base.specs.declared.shape.LevelName.{LevelName}
 use Rattle.lb_base.specs.declared.shape.LevelName.TheVariants.{Smt, Mc, Pkg, Numa}

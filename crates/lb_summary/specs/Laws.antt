@@ -1,6 +1,7 @@
 -- Laws of the summary: its steps are the places of the history, the level of a pull is that of a domain within
 -- a published version, each task that leaves a queue counts on one line or left by a wake, and what is written
 -- of a history that is its end alone.
+-- Cited by the laws `steps_are_places`, `pulls_are_within`, `tasks_count_once` and `end_alone`.
 use Rattle.std.specs.Prelude.{ℕ, ◌+◌, ◌≡◌, ◌<◌, ◌≤◌, true, Some, List, [], ◌∷◌, ◌++◌, length, take, slice_get, codes}
 use Rattle.lb_base.specs.declared.mask.Mask.{Mask}
 use Rattle.lb_queue.specs.declared.answers.OutCause.TheVariants.{Wake, Pull}

@@ -1,5 +1,6 @@
 -- The summary of a history: how many rows and entries it has, and how many tasks left their queues by a pull,
 -- by a push and by a stop. Pulls are told apart by the level of the domain that their lane then balances.
+-- Cited by the contracts of `Summary::of`, `level_balanced`, `Summary::count_tasks` and `Summary::count`.
 use Rattle.std.specs.Prelude.{ℕ, Bool, true, false, ◌&&◌, List, [], ◌∷◌, length, filter, sum_by}
 use Rattle.lb_base.specs.declared.shape.LevelName.{LevelName}
 use Rattle.lb_base.specs.declared.shape.LevelName.TheVariants.{Smt, Mc, Pkg, Numa}

@@ -1,4 +1,5 @@
 -- The text of a summary: eight lines, each with what is counted and how many there are.
+-- Cited by the contracts of `summary_text`, `put_count`, `put_pulled` and `put_summary`; also by `lb`.
 use Rattle.std.specs.Prelude.{ℕ, List, [], ◌∷◌, ◌++◌, codes, decimal}
 use Rattle.lb_text.specs.declared.marks.TheConstants.{LINE_FEED}
 use Rattle.lb_core.specs.declared.history.History.{History}

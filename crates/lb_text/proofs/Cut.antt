@@ -1,4 +1,5 @@
 -- Looking for the first mark of a text, byte by byte.
+-- For `cut_at`; cited by `lb_read` too.
 use Rattle.std.proofs.Common.{◌≡◌, ℕ, ◌+◌, ◌<◌, ◌≤◌, true, false, eqb, cond, List, [], ◌∷◌, ◌++◌, length, get_or, take, drop, refl, sym, ap, append_assoc}
 use Rattle.std.specs.List.{slice_split, onto_first}
 use Rattle.std.proofs.lemmas.List.{append-nil, drop_more, take_more, drop_all, take_all}
@@ -9,7 +10,8 @@ abbrev pub onto_front : List ℕ → List (List ℕ) → List (List ℕ)
 onto_front front [] = front ∷ []
 onto_front front (piece ∷ others) = (front ++ piece) ∷ others
 
-onto_front-first : (front : List ℕ) (b : ℕ) (ps : List (List ℕ)) → onto_front front (onto_first b ps) ≡ onto_front (front ++ b ∷ []) ps
+onto_front-first : (front : List ℕ) (b : ℕ) (ps : List (List ℕ)) → onto_front front (onto_first b ps) ≡ onto_front
+    (front ++ b ∷ []) ps
 onto_front-first front b [] = refl
 onto_front-first front b (p ∷ ps) = ap (λ (t : List ℕ). t ∷ ps) (sym (append_assoc front (b ∷ []) p))
 

@@ -1,5 +1,6 @@
 -- What decimal spellings have in common with one another: a spelling cut at the end spells the number
 -- cut at the end, and a number spells its own front.
+-- For `number_within`; cited by `lb_generator` and `lb_read` too.
 use Rattle.std.proofs.Common.{◌≡◌, ℕ, zero, suc, ◌+◌, ◌*◌, ◌/◌, ◌%◌, ◌^◌, ◌<◌, ◌≤◌, Bool, true, false, not, ◌&&◌, ◌||◌, cond, List, [], ◌∷◌, ◌++◌, length, get_or, Some, None, refl, sym, ap, ◌∙◌, inl, inr, arith, append_assoc, length-append}
 use Rattle.std.specs.Prelude.{decimal, nat_le, slice_index, ◌==◌}
 use Rattle.std.specs.Str.{all_ascii_digits}
@@ -26,7 +27,8 @@ lone_zero text h e = elim (or_cases (length text == 1) (not (slice_index text 0 
 ]
 
 -- a numeral is the decimal of its value
-pub numeral_decimal : (text : List ℕ) → is_numeral text ≡ true → digits_value 10 text < 2 ^ 64 → decimal (digits_value 10 text) ≡ text
+pub numeral_decimal : (text : List ℕ) → is_numeral text ≡ true → digits_value 10 text < 2 ^ 64
+    → decimal (digits_value 10 text) ≡ text
 numeral_decimal text h small =
     let a = and_parts (not (length text == 0) && all_ascii_digits text) (length text == 1 || not (slice_index text 0 == 48)) h in
     let b = and_parts (not (length text == 0)) (all_ascii_digits text) a.0 in
@@ -73,7 +75,8 @@ ten_more n j v e = div-div-eq-div-mul n 10 (10 ^ j)
     ∙ ap (λ m. n / m) (let p : 10 * 10 ^ j ≡ 10 ^ suc j = omega (arith, pow-suc 10 j) in p) ∙ e
 
 ten_less : (n j : ℕ) → (n / 10 ^ j) / 10 ≡ n / 10 ^ suc j
-ten_less n j = div-div-eq-div-mul n (10 ^ j) 10 ∙ ap (λ m. n / m) (let p : 10 ^ j * 10 ≡ 10 ^ suc j = omega (arith, pow-suc 10 j) in p)
+ten_less n j = div-div-eq-div-mul n (10 ^ j) 10 ∙ ap (λ m. n / m)
+    (let p : 10 ^ j * 10 ≡ 10 ^ suc j = omega (arith, pow-suc 10 j) in p)
 
 short : (f : ℕ) (fs : List ℕ) (r : ℕ) (n : ℕ) → n < 2 ^ 64 → (f ∷ fs) ++ r ∷ [] ≡ decimal n → 10 ≤ n
 short f fs r n small e = elim (cases_lt n 10) [

@@ -1,4 +1,5 @@
 -- The items of lists: which texts begin one.
+-- For `item_of`; cited by `lb_read` too.
 use Rattle.std.proofs.Common.{◌≡◌, ℕ, ◌+◌, ◌-◌, ◌<◌, ◌≤◌, ◌^◌, Bool, true, false, eqb, List, [], ◌∷◌, ◌++◌, length, take, Option, Some, None, refl, sym, ap, subst, ◌∙◌, inl, inr, arith, length-append}
 use Rattle.std.specs.Prelude.{decimal, is_some, option_and_then}
 use Rattle.std.specs.Option.{option_map}
@@ -22,11 +23,13 @@ pub split_front : (p : ℕ → Bool) (front rest : List ℕ) → All (λ x. p x 
     → (more : List ℕ) × (others : List (List ℕ)) × (slice_split p (front ++ rest) ≡ (front ++ more) ∷ others)
 split_front p [] rest free = split_some p rest
   where
-    first_some : (x : ℕ) (pieces : List (List ℕ)) → (more : List ℕ) × (others : List (List ℕ)) × (onto_first x pieces ≡ more ∷ others)
+    first_some : (x : ℕ) (pieces : List (List ℕ))
+        → (more : List ℕ) × (others : List (List ℕ)) × (onto_first x pieces ≡ more ∷ others)
     first_some x [] = (x ∷ [], [], refl)
     first_some x (piece ∷ pieces) = (x ∷ piece, pieces, refl)
 
-    split_some : (p : ℕ → Bool) (text : List ℕ) → (more : List ℕ) × (others : List (List ℕ)) × (slice_split p text ≡ more ∷ others)
+    split_some : (p : ℕ → Bool) (text : List ℕ)
+        → (more : List ℕ) × (others : List (List ℕ)) × (slice_split p text ≡ more ∷ others)
     split_some p [] = ([], [], refl)
     split_some p (x ∷ text) = elim (cases_Bool (p x)) [
       | inl e ↦ ([], slice_split p text, slice_split-cons_yes p x text e)
@@ -74,7 +77,8 @@ some_then f None e = cc e
 some_then f (Some n) e = refl
 
 -- the first piece of an item is a number
-first_number : (first : List ℕ) (others : List (List ℕ)) → is_some (run_of_ends (first ∷ others)) ≡ true → is_number 0 most_cpu first ≡ true
+first_number : (first : List ℕ) (others : List (List ℕ)) → is_some (run_of_ends (first ∷ others)) ≡ true
+    → is_number 0 most_cpu first ≡ true
 first_number first [] e = sym (some_map (λ (n : ℕ). (n, n)) (number_within 0 most_cpu first)) ∙ e
 first_number first (last ∷ []) e = some_then (run_from last) (number_within 0 most_cpu first) e
 first_number first (last ∷ more ∷ others) e = cc e
@@ -82,7 +86,8 @@ first_number first (last ∷ more ∷ others) e = cc e
 pub number_item : (text : List ℕ) → is_number 0 most_cpu text ≡ true → is_item text ≡ true
 unfolding item_of
 number_item text e =
-    ap (λ ps. is_some (run_of_ends ps)) (slice_split_none (λ b. eqb b 45) text (number_free 45 0 most_cpu text refl (omega arith) e))
+    ap (λ ps. is_some (run_of_ends ps)) (slice_split_none (λ b. eqb b 45) text
+    (number_free 45 0 most_cpu text refl (omega arith) e))
     ∙ some_map (λ (n : ℕ). (n, n)) (number_within 0 most_cpu text) ∙ e
 
 item_first : (text more : List ℕ) → NoDash text → is_item (text ++ more) ≡ true → CanGoOn (is_number 0 most_cpu) text
@@ -101,9 +106,11 @@ dash_first text more free e =
 last_number : (first : List ℕ) (a : ℕ) (text : List ℕ) (pieces : List (List ℕ))
     → number_within 0 most_cpu first ≡ Some a → slice_split (λ b. eqb b 45) text ≡ pieces
     → is_some (run_of_ends (first ∷ pieces)) ≡ true → is_number a most_cpu text ≡ true
-last_number first a text [] is e h = let some = split_front (λ b. eqb b 45) [] text (All-nil (λ b. eqb b 45 ≡ false)) in cc (sym e ∙ some.2)
+last_number first a text [] is e h = let some = split_front (λ b. eqb b 45) [] text (All-nil (λ b. eqb b 45 ≡ false)) in
+    cc (sym e ∙ some.2)
 last_number first a text (last ∷ []) is e h =
-    ap (is_number a most_cpu) (one_piece 45 text last e) ∙ sym (some_map (λ (n : ℕ). (a, n)) (number_within a most_cpu last)) ∙ (rw is at h)
+    ap (is_number a most_cpu) (one_piece 45 text last e) ∙ sym
+    (some_map (λ (n : ℕ). (a, n)) (number_within a most_cpu last)) ∙ (rw is at h)
 last_number first a text (last ∷ more ∷ others) is e h = cc h
 
 pub dash_last : (first : List ℕ) (a : ℕ) (text : List ℕ) → NoDash first → number_within 0 most_cpu first ≡ Some a
@@ -141,7 +148,8 @@ first_placed piece tail free dash = record {
   begins = (let go = go_number 0 (omega arith) in (go.0, number_item go.0 go.1));
   inward = λ k go. item_first (take k piece) go.0 (All-take (λ b. eqb b 45 ≡ false) k piece free) go.1;
   outward = λ k go. (go.0, number_item (take k piece ++ go.0) go.1);
-  ends = λ c more e go. dash_first piece go.0 free (ap is_item (sym (append_assoc piece (45 ∷ []) go.0)) ∙ rw (dash c more e) at go.1);
+  ends = λ c more e go. dash_first piece go.0 free
+      (ap is_item (sym (append_assoc piece (45 ∷ []) go.0)) ∙ rw (dash c more e) at go.1);
 }
 
 after_dash : (first text more : List ℕ) → ((first ++ 45 ∷ []) ++ text) ++ more ≡ first ++ 45 ∷ (text ++ more)
@@ -168,7 +176,8 @@ last_placed first a piece free is le =
 pub go_item : CanGoOn is_item []
 go_item = let go = go_number 0 (omega arith) in (go.0, number_item go.0 go.1)
 
-ends_free : (pieces : List (List ℕ)) → is_some (run_of_ends pieces) ≡ true → All (λ b. eqb b 59 ≡ false) (join_with_byte 45 pieces)
+ends_free : (pieces : List (List ℕ)) → is_some (run_of_ends pieces) ≡ true → All (λ b. eqb b 59 ≡ false)
+    (join_with_byte 45 pieces)
 ends_free [] e = cc e
 ends_free (cpu ∷ []) e = number_free 59 0 most_cpu cpu refl (omega arith) (first_number cpu [] e)
 ends_free (first ∷ last ∷ []) e =
@@ -223,7 +232,8 @@ bad_first first last at free bad b =
     let placed = first_bad_placed (is_number 0 most_cpu) is_item [] first (45 ∷ last) at
     (first_placed first (45 ∷ last) free dash) (false_from (number_within 0 most_cpu first) bad) b in
     let at_is : 0 + at ≡ at = omega arith in (
-      none_from (item_of (first ++ 45 ∷ last)) (λ some. not_there (number_within 0 most_cpu first) bad (dash_first first last free some)),
+      none_from (item_of (first ++ 45 ∷ last))
+          (λ some. not_there (number_within 0 most_cpu first) bad (dash_first first last free some)),
       subst (λ (n : ℕ). IsFirstBad is_item (first ++ 45 ∷ last) n) at_is placed,
     )
 

@@ -1,5 +1,6 @@
 -- Which numbers begin with the digits of another: those that are that number once some of their last
 -- digits are cut off.
+-- For `with_leading_digit` and `leads`.
 use Rattle.std.proofs.Common.{◌&&◌, not, leb, eqb, cond, false, MatchOption, ◌%◌, length-append, ◌≡◌, ℕ, ◌+◌, ◌-◌, ◌*◌, ◌/◌, ◌^◌, ◌<◌, ◌≤◌, Bool, true, max, List, [], ◌∷◌, ◌++◌, length, get_or, Option, Some, None, refl, sym, ap, ◌∙◌, inl, inr, arith, below_more, subst}
 use Rattle.std.specs.Prelude.{decimal, is_some}
 use Rattle.std.proofs.Math.Nat.{div-div-eq-div-mul, div-mul-le_self, div-eq_of_lt-le, div-lt_iff_lt-mul, one-le-pow, div-one}
@@ -23,7 +24,8 @@ cut_le a b k some le = le-div (a / k) b k some (omega (arith, div-mul-le_self a 
 -- more digits cut off leave less
 cut_more : (n j d : ℕ) → n / 10 ^ (j + d) ≤ n / 10 ^ j
 cut_more n j d =
-    let e : (n / 10 ^ j) / 10 ^ d ≡ n / 10 ^ (j + d) = div-div-eq-div-mul n (10 ^ j) (10 ^ d) ∙ ap (λ m. n / m) (sym (pow-add 10 j d)) in
+    let e : (n / 10 ^ j) / 10 ^ d ≡ n / 10 ^ (j + d) = div-div-eq-div-mul n (10 ^ j) (10 ^ d) ∙ ap (λ m. n / m)
+    (sym (pow-add 10 j d)) in
     omega arith
 
 pub some_there : (o : Option ℕ) → is_some o ≡ true → (n : ℕ) × (o ≡ Some n)
@@ -39,7 +41,8 @@ pub record Begins (least most value : ℕ) : Type 0 where
   pub cut : value ≡ number / 10 ^ length rest
   pub spelled : decimal value ++ rest ≡ decimal number
 
-cut_some : (text rest : List ℕ) (n : ℕ) → n < 2 ^ 64 → 0 < length text → text ++ rest ≡ decimal n → text ≡ decimal (n / 10 ^ length rest)
+cut_some : (text rest : List ℕ) (n : ℕ) → n < 2 ^ 64 → 0 < length text → text ++ rest ≡ decimal n
+    → text ≡ decimal (n / 10 ^ length rest)
 cut_some [] rest n small some whole = absurd (omega (arith, some))
 cut_some (f ∷ fs) rest n small some whole = cut_decimal rest f fs n small whole
 
@@ -76,7 +79,8 @@ leads_there least most value j small le some lo hi =
     (f.0, ap (λ t. is_some (number_within least most t)) f.1 ∙ ap is_some (number_decimal least most n n_small n_low n_high))
 
 -- where the bounds were cut as little as they need to be, there is no other way
-pub leads_only : (least most value j : ℕ) → Begins least most value → ((i : ℕ) → i < j → value < least / 10 ^ i) → value ≤ most / 10 ^ j
+pub leads_only : (least most value j : ℕ) → Begins least most value → ((i : ℕ) → i < j → value < least / 10 ^ i)
+    → value ≤ most / 10 ^ j
 leads_only least most value j b below =
     let i = length b.rest in
     let n = b.number in
@@ -144,7 +148,8 @@ cut_more_of least most value low high c lt = record {
 
 pub cut_leads : (least most value low high : ℕ) → most < 2 ^ 64 → value < 2 ^ 64 → least ≤ most
     → IsCut least most value low high → low ≤ value
-    → (value ≤ high → CanGoOn (is_number least most) (decimal value)) × (CanGoOn (is_number least most) (decimal value) → value ≤ high)
+    → (value ≤ high → CanGoOn (is_number least most) (decimal value)) ×
+    (CanGoOn (is_number least most) (decimal value) → value ≤ high)
 cut_leads least most value low high small fits le c under = (
   λ yes. leads_there least most value c.digits small le c.some (rw c.low_cut at under) (rw c.high_cut at yes),
   λ go. rw c.high_cut (leads_only least most value c.digits (begins_from least most value small fits go) c.above),
@@ -179,7 +184,8 @@ digit_after least most v b small fits go =
     (omega (arith, same, ten), omega (arith, last), omega (arith, last), omega (arith, same, last, m_most))
 
 -- and its first digit
-pub digit_first : (least most b : ℕ) → most < 2 ^ 64 → CanGoOn (is_number least most) (b ∷ []) → (48 ≤ b) × (b ≤ 57) × (b - 48 ≤ most)
+pub digit_first : (least most b : ℕ) → most < 2 ^ 64 → CanGoOn (is_number least most) (b ∷ [])
+    → (48 ≤ b) × (b ≤ 57) × (b - 48 ≤ most)
 digit_first least most b small go =
     let some = some_there (number_within least most ((b ∷ []) ++ go.0)) go.1 in
     let n = some.0 in
@@ -204,15 +210,18 @@ digit_first least most b small go =
     (omega (arith, first), omega (arith, first, one), omega (arith, first, m_most))
 
 -- a digit more
-pub digit_more : (v b : ℕ) → 0 < v → 48 ≤ b → b ≤ 57 → v * 10 + (b - 48) < 2 ^ 64 → decimal v ++ b ∷ [] ≡ decimal (v * 10 + (b - 48))
+pub digit_more : (v b : ℕ) → 0 < v → 48 ≤ b → b ≤ 57 → v * 10 + (b - 48) < 2 ^ 64 → decimal v ++ b ∷ [] ≡ decimal
+    (v * 10 + (b - 48))
 digit_more v b some lo hi small =
     let n = v * 10 + (b - 48) in
     let front : n / 10 ≡ v = omega arith in
     let last : 48 + n % 10 ≡ b = omega arith in
-    sym (decimal_step n (omega arith) small ∙ ap (λ t. decimal t ++ (48 + n % 10) ∷ []) front ∙ ap (λ d. decimal v ++ d ∷ []) last)
+    sym (decimal_step n (omega arith) small ∙ ap (λ t. decimal t ++ (48 + n % 10) ∷ []) front ∙ ap
+    (λ d. decimal v ++ d ∷ []) last)
 
 pub one_digit_is : (b : ℕ) → 48 ≤ b → b ≤ 57 → b ∷ [] ≡ decimal (b - 48)
-one_digit_is b lo hi = ap (λ d. d ∷ []) (let e : b ≡ 48 + (b - 48) = omega arith in e) ∙ sym (decimal_digit (b - 48) (omega arith))
+one_digit_is b lo hi = ap (λ d. d ∷ []) (let e : b ≡ 48 + (b - 48) = omega arith in e) ∙ sym
+    (decimal_digit (b - 48) (omega arith))
 
 is_digit : (b : ℕ) → 48 ≤ b → b ≤ 57 → is_ascii_digit b ≡ true
 is_digit b lo hi = and_from (leb 48 b) (leb b 57) (le-leb 48 b lo) (le-leb b 57 hi)

@@ -1,4 +1,5 @@
 -- Which texts begin a nice value.
+-- For `nice_of`; cited by `lb_generator` and `lb_read` too.
 use Rattle.std.proofs.Common.{◌≡◌, ℕ, zero, suc, ◌+◌, true, false, eqb, List, [], ◌∷◌, ◌++◌, take, Option, Some, None, refl, sym, ap, subst, ◌∙◌, arith, ℤ, pos, neg_ℤ}
 use Rattle.std.specs.Prelude.{is_some, decimal}
 use Rattle.std.specs.Option.{option_map}
@@ -20,7 +21,8 @@ pub nice_minus : (digits : List ℕ) → nice_of (45 ∷ digits) ≡ option_map 
 unfolding nice_of
 nice_minus digits = refl
 
-pub nice_plain : (text : List ℕ) → starts_with_minus text ≡ false → nice_of text ≡ option_map (λ n. pos n) (number_within 0 19 text)
+pub nice_plain : (text : List ℕ) → starts_with_minus text ≡ false → nice_of text ≡ option_map (λ n. pos n)
+    (number_within 0 19 text)
 unfolding nice_of
 nice_plain text e = rw e refl
 
@@ -78,5 +80,6 @@ plain_bad text at e bad b =
     (false_from (number_within 0 19 text) bad) b in
     let at_is : 0 + at ≡ at = omega arith in (
       nice_plain text e ∙ ap (option_map (λ n. pos n)) bad,
-      subst (λ (t : List ℕ). IsFirstBad is_nice t at) (append-nil text) (subst (λ (n : ℕ). IsFirstBad is_nice (text ++ []) n) at_is placed),
+      subst (λ (t : List ℕ). IsFirstBad is_nice t at) (append-nil text)
+          (subst (λ (n : ℕ). IsFirstBad is_nice (text ++ []) n) at_is placed),
     )

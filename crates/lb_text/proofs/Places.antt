@@ -1,5 +1,6 @@
 -- The first bad byte of a piece is that of the whole text, as many bytes further as stand before the
 -- piece.
+-- For the lemmas of `Items`, `NiceFacts` and `Taken`, and so for the laws `writes_runs`, `reads_back` and others.
 use Rattle.std.proofs.Common.{◌≡◌, ℕ, ◌+◌, ◌-◌, ◌<◌, ◌≤◌, Bool, true, false, List, [], ◌∷◌, ◌++◌, length, take, drop, refl, sym, ap, subst, ◌∙◌, inl, inr, arith, rules, length-append}
 use Rattle.std.proofs.lemmas.Bool.{cases_lt, both_ways}
 use Rattle.std.proofs.lemmas.List.{take-append-drop, take-append-le, same_lists, places}
@@ -55,7 +56,8 @@ inside inner outer front piece tail at p b lt go =
 
 first_bad_here : (inner outer : List ℕ → Bool) (front piece tail : List ℕ) (at : ℕ)
     → IsPlaced inner outer front piece tail → inner piece ≡ false → IsFirstBad inner piece at
-    → length front + at < length (front ++ (piece ++ tail)) → CanGoOn outer (take (length front + at + 1) (front ++ (piece ++ tail))) → ⊥
+    → length front + at < length (front ++ (piece ++ tail))
+    → CanGoOn outer (take (length front + at + 1) (front ++ (piece ++ tail))) → ⊥
 first_bad_here inner outer front piece [] at p bad b lt go = elim (cases_lt at (length piece)) [
   | inl within ↦ inside inner outer front piece [] at p b within go
   | inr past ↦ omega (arith, lt, length-append front (piece ++ []), length-append piece [])

@@ -1,4 +1,5 @@
 -- Texts that begin accepted ones, and what is known of a number of which a front was read.
+-- For `number_within`.
 use Rattle.std.proofs.Common.{◌≡◌, ℕ, ◌+◌, ◌-◌, ◌<◌, ◌≤◌, ◌^◌, Bool, true, List, [], ◌∷◌, ◌++◌, length, get_or, take, drop, Option, Some, None, refl, sym, ap, subst, ◌∙◌, arith, below_more}
 use Rattle.std.specs.Prelude.{decimal, is_some}
 use Rattle.std.proofs.lemmas.List.{append_assoc, take-append-drop, take_more, take_all}
@@ -29,7 +30,8 @@ pub record IsRead (least most : ℕ) (text : List ℕ) (at : ℕ) (value : Optio
 pub read_none : (least most : ℕ) (text : List ℕ) → IsRead least most text 0 None
 read_none least most text = record { spelled = refl; before = λ k lt. absurd (omega (arith, lt)) }
 
-pub read_more : (least most : ℕ) (text : List ℕ) (at n : ℕ) (value : Option ℕ) → at < length text → IsRead least most text at value
+pub read_more : (least most : ℕ) (text : List ℕ) (at n : ℕ) (value : Option ℕ) → at < length text
+    → IsRead least most text at value
     → Spelled (Some n) (take at text ++ get_or text at 0 ∷ [])
     → CanGoOn (is_number least most) (take at text ++ get_or text at 0 ∷ []) → IsRead least most text (at + 1) (Some n)
 read_more least most text at n value lt r s go =
@@ -46,7 +48,8 @@ read_bad least most text at value lt r bad =
     let whole : take at text ++ get_or text at 0 ∷ [] ≡ take (at + 1) text = sym (take_more text at 0 lt) in
     let here : CanGoOn (is_number least most) (take (at + 1) text) → ⊥ =
     λ go. bad (subst (λ (t : List ℕ). CanGoOn (is_number least most) t) (sym whole) go) in (
-      none_there (number_within least most text) (λ n some. here (accepted_goes_on (is_number least most) text (at + 1) (ap is_some some))),
+      none_there (number_within least most text)
+          (λ n some. here (accepted_goes_on (is_number least most) text (at + 1) (ap is_some some))),
       record { within = omega arith; before = r.before; here = λ _. here },
     )
 

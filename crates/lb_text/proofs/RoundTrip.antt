@@ -1,4 +1,6 @@
 -- Why what is written is read back. What reads lists of CPUs cites `lists_fit`.
+-- For the laws `spells_decimal`, `writes_runs`, `lists_fit` and `reads_back`; cited by `lb_generator`, `lb_read` and
+-- `lb_trace` too.
 use Rattle.std.proofs.Common.{◌≡◌, ℕ, zero, suc, ◌+◌, ◌-◌, ◌<◌, ◌≤◌, ◌^◌, Bool, true, false, ◌&&◌, ◌||◌, eqb, leb, cond, Option, None, add-one, List, [], ◌∷◌, length, map, Some, refl, sym, ap, subst, ◌∙◌, inl, inr, ◌⊎◌, arith, length-append}
 use Rattle.std.specs.Prelude.{decimal, is_some}
 use Rattle.std.specs.Option.{option_map}
@@ -169,14 +171,19 @@ run_item run le lt =
           )
     ]
 
-runs_items : (runs : List Run) → EndBelow MAX_CPUS runs → (items_of (map run_text runs) ≡ Some runs) × All IsPiece (map run_text runs)
+runs_items : (runs : List Run) → EndBelow MAX_CPUS runs → (items_of (map run_text runs) ≡ Some runs) × All IsPiece
+    (map run_text runs)
 runs_items [] h = (refl, All-nil IsPiece)
 runs_items (run ∷ runs) h =
     let more = runs_items runs h.2 in
-    let item = run_item run h.0 h.1 in
-    (rw (item, more.0) refl, All-cons IsPiece (run_text run) (map run_text runs) (item_free (run_text run) (ap is_some item)) more.1)
+    let item = run_item run h.0 h.1 in (
+      rw (item, more.0) refl,
+      All-cons IsPiece (run_text run) (map run_text runs)
+          (item_free (run_text run) (ap is_some item)) more.1,
+    )
 
-text_some : (run : Run) (runs : List Run) → EndBelow MAX_CPUS (run ∷ runs) → 0 < length (join_with_byte 59 (map run_text (run ∷ runs)))
+text_some : (run : Run) (runs : List Run) → EndBelow MAX_CPUS (run ∷ runs)
+    → 0 < length (join_with_byte 59 (map run_text (run ∷ runs)))
 text_some run [] h = item_some (run_text run) (ap is_some (run_item run h.0 h.1))
 text_some run (next ∷ runs) h = omega (
   arith,
@@ -199,7 +206,8 @@ back m [] fits h covers = list_none ∙ ap Some (same_mask no_cpus m (λ k. has_
 back m (run ∷ runs) fits h covers =
     let items = runs_items (run ∷ runs) h in
     let split = split_joined (run_text run) (map run_text runs) items.1 in
-    list_from_items (join_with_byte 59 (map run_text (run ∷ runs))) (run ∷ runs) (text_some run runs h) (ap items_of split ∙ items.0)
+    list_from_items (join_with_byte 59 (map run_text (run ∷ runs))) (run ∷ runs) (text_some run runs h)
+    (ap items_of split ∙ items.0)
     ∙ ap Some (same_mask (mask_of_runs (run ∷ runs)) m
     (λ k. mask_where_has (λ cpu. list_any (run_has cpu) (run ∷ runs)) k ∙ in_range m (run ∷ runs) k fits (λ c. sym (covers c))))
 
@@ -218,7 +226,8 @@ bits_small p (suc n) =
     let bit : ℕ → ℕ = λ k. cond (p k) (2 ^ k) 0 in
     let z : 0 + n ≡ n = omega arith in
     let more : sum_by bit (range_with_len 0 (n + 1)) ≡ sum_by bit (range_with_len 0 n) + bit n =
-    ap (sum_by bit) (range_more 0 n) ∙ sum_by_push bit (range_with_len 0 n) (0 + n) ∙ ap (λ k. sum_by bit (range_with_len 0 n) + bit k) z in
+    ap (sum_by bit) (range_more 0 n) ∙ sum_by_push bit (range_with_len 0 n) (0 + n) ∙ ap
+    (λ k. sum_by bit (range_with_len 0 n) + bit k) z in
     let one : bit n ≤ 2 ^ n = elim (cases_Bool (p n)) [ inl e ↦ rw e (omega arith) | inr e ↦ rw e (omega arith) ] in
     let doubled : 2 ^ (n + 1) ≡ 2 ^ n + 2 ^ n = omega (arith, pow-suc 2 n, ap (λ m. 2 ^ m) (add-one n)) in
     subst (λ (m : ℕ). sum_by bit (range_with_len 0 m) < 2 ^ m) (add-one n) (omega (arith, more, one, doubled, bits_small p n))

@@ -1,4 +1,5 @@
 -- The runs of a mask, from a CPU on, and the text that they make.
+-- For `put_list` and `put_runs`.
 use Rattle.std.proofs.Common.{◌≡◌, ℕ, zero, suc, ◌+◌, ◌-◌, ◌<◌, ◌≤◌, true, false, eqb, List, [], ◌∷◌, ◌++◌, length, take, map, Option, Some, None, MatchOption, refl, sym, ap, subst, ◌∙◌, inl, inr, arith}
 use Rattle.std.specs.Prelude.{filter, is_some}
 use Rattle.std.specs.List.{range_with_len, join_with_byte}
@@ -21,7 +22,8 @@ among_yes m c w e = rw e refl
 pub among_no : (m : Mask) (c w : ℕ) → has m c ≡ false → among m c (suc w) ≡ among m (c + 1) w
 among_no m c w e = rw e refl
 
-among_gap : (m : Mask) (d c n w v : ℕ) → n ≡ c + d → w ≡ d + v → ((k : ℕ) → c ≤ k → k < n → has m k ≡ false) → among m c w ≡ among m n v
+among_gap : (m : Mask) (d c n w v : ℕ) → n ≡ c + d → w ≡ d + v → ((k : ℕ) → c ≤ k → k < n → has m k ≡ false)
+    → among m c w ≡ among m n v
 among_gap m zero c n w v e f none = let p : c ≡ n = omega arith in let q : w ≡ v = omega arith in rw (p, q) refl
 among_gap m (suc d) c n w v e f none =
     let q : w ≡ suc (d + v) = omega arith in
@@ -75,7 +77,8 @@ run_is m zero c w v last at e there none =
     → onto_run c (runs_of (among m (c + 1) v)) ≡ (c, n) ∷ runs_of (among m (n + 1) v) =
     λ n same free. subst (λ (x : ℕ). (0 < v → has m (x + 1) ≡ false)
     → onto_run c (runs_of (among m (c + 1) v)) ≡ (c, x) ∷ runs_of (among m (x + 1) v)) (sym same) (run_ends m c v) free in
-    ap (λ n. runs_of (among m c n)) width ∙ ap runs_of (among_yes m c v (there c (omega arith) (omega arith))) ∙ ends last here none
+    ap (λ n. runs_of (among m c n)) width ∙ ap runs_of (among_yes m c v (there c (omega arith) (omega arith))) ∙ ends
+    last here none
 run_is m (suc d) c w v last at e there none =
     let width : w ≡ suc (suc d + v) = omega arith in
     let more = run_is m d (c + 1) (suc d + v) v last (omega arith) refl (λ k lo hi. there k (omega arith) hi) none in
@@ -97,7 +100,8 @@ unfolding runs_text members members_below
 whole_from m = refl
 
 -- the whole text is that from the first CPU on
-pub text_first : (m : Mask) (o : Option ℕ) → MatchOption o (HasNoneFrom m 0) (λ c. IsFirstFrom m 0 c) → text_from m o ≡ runs_text m
+pub text_first : (m : Mask) (o : Option ℕ) → MatchOption o (HasNoneFrom m 0) (λ c. IsFirstFrom m 0 c)
+    → text_from m o ≡ runs_text m
 text_first m None none = sym (whole_from m
     ∙ ap (λ cs. join_with_byte 59 (map run_text (runs_of cs)))
     (among_gap m MAX_CPUS 0 MAX_CPUS MAX_CPUS 0 refl refl (λ k lo hi. none k lo)))
@@ -123,7 +127,8 @@ rest_from : (m : Mask) (first last w : ℕ) (o : Option ℕ) → w ≡ MAX_CPUS 
     (first, last) ++ (mark_before o ++ text_from m o)
 rest_from m first last w None e lt none =
     ap (λ cs. join_with_byte 59 (run_text (first, last) ∷ map run_text (runs_of cs)))
-    (among_gap m w (last + 1) (last + 1 + w) w 0 refl (omega arith) (λ k lo hi. none k lo)) ∙ sym (append-nil (run_text (first, last)))
+    (among_gap m w (last + 1) (last + 1 + w) w 0 refl (omega arith) (λ k lo hi. none k lo)) ∙ sym
+    (append-nil (run_text (first, last)))
 rest_from m first last w (Some c) e lt is =
     let v = MAX_CPUS - (c + 1) in
     let width : MAX_CPUS - c ≡ suc v = omega (arith, is.in_range) in

@@ -1,4 +1,5 @@
 -- A list's items: the pieces of its text between the marks, and the text that they make.
+-- For `list_of`.
 use Rattle.std.proofs.Common.{◌≡◌, ℕ, ◌+◌, ◌<◌, ◌≤◌, Bool, true, false, ◌&&◌, ◌||◌, eqb, ltb, List, [], ◌∷◌, ◌++◌, length, take, Option, Some, None, refl, sym, ap, subst, ◌∙◌, inl, inr, arith, length-append}
 use Rattle.std.specs.Prelude.{is_some, option_and_then, ◌^◌}
 use Rattle.std.specs.Option.{option_map}
@@ -111,7 +112,8 @@ items_more (y ∷ xs) x runs run e h = more_some (item_of y) (items_of xs) (item
     more_some None rest rest' runs run more h = cc h
     more_some (Some r) rest rest' runs run more h = more_of r rest rest' runs run more h
 
-list_from : (text : List ℕ) → 0 < length text → list_of text ≡ option_map mask_of_runs (items_of (slice_split (λ b. eqb b 59) text))
+list_from : (text : List ℕ) → 0 < length text → list_of text ≡ option_map mask_of_runs
+    (items_of (slice_split (λ b. eqb b 59) text))
 unfolding list_of
 list_from [] some = absurd (omega (arith, some))
 list_from (b ∷ text) some = refl
@@ -168,7 +170,8 @@ piece_inward pieces text free piece go =
           let s = split_front (λ b. eqb b 59) text go.0 piece in
           (s.0, items_head (text ++ s.0) s.1 (ap (λ ps. is_some (items_of ps)) (sym s.2) ∙ last))
       | inr none ↦
-          let nil : text ≡ [] = nil_from_length text (omega (arith, none, length-append (passed pieces) whole, length-append text go.0)) in
+          let nil : text ≡ [] = nil_from_length text
+          (omega (arith, none, length-append (passed pieces) whole, length-append text go.0)) in
           subst (λ (t : List ℕ). CanGoOn is_item t) (sym nil) go_item
     ]
 
@@ -178,7 +181,8 @@ piece_ends pieces piece free clean go =
     let whole = piece ++ 59 ∷ go.0 in
     let same : (passed pieces ++ (piece ++ 59 ∷ [])) ++ go.0 ≡ passed pieces ++ whole =
     append_assoc (passed pieces) (piece ++ 59 ∷ []) go.0 ∙ ap (λ t. passed pieces ++ t) (append_assoc piece (59 ∷ []) go.0) in
-    let long : 0 < length (passed pieces ++ whole) = omega (arith, length-append (passed pieces) whole, length-append piece (59 ∷ go.0)) in
+    let long : 0 < length (passed pieces ++ whole) = omega
+    (arith, length-append (passed pieces) whole, length-append piece (59 ∷ go.0)) in
     let last = items_last pieces (slice_split (λ b. eqb b 59) whole)
     (sym (items_behind pieces whole free long) ∙ ap is_list (sym same) ∙ go.1) in
     items_head piece (slice_split (λ b. eqb b 59) go.0)
@@ -254,7 +258,8 @@ pub bad_list : (text : List ℕ) (left : List (List ℕ)) (start : ℕ) (mask : 
     → IsReading text (item ∷ left) start mask → IsBadItem item at
     → (list_of text ≡ None) × IsFirstBad is_list text (start + at)
 bad_list text left start mask item at r bad =
-    let free : All IsPiece (r.taken ++ item ∷ left) = subst (λ (ps : List (List ℕ)). All IsPiece ps) r.pieces (pieces_free text) in
+    let free : All IsPiece (r.taken ++ item ∷ left) = subst (λ (ps : List (List ℕ)). All IsPiece ps) r.pieces
+    (pieces_free text) in
     let placed = piece_placed r.taken item left (first_pieces IsPiece r.taken (item ∷ left) free)
     (next_piece IsPiece r.taken item left free) (ap is_some r.items) in
     let b = first_bad_placed is_item is_list (passed r.taken) item (rest_text left) at placed (ap is_some bad.0) bad.1 in (

@@ -1,5 +1,6 @@
 -- Laws of the spellings: what is written is read back, what is read is a decimal number, the runs that
 -- are written are as long as they can be, and a text has one first bad byte.
+-- Cited by the laws `spells_decimal`, `reads_back`, `writes_runs` and others.
 use Rattle.std.specs.Prelude.{◌≡◌, ℕ, ◌≤◌, ◌<◌, ◌^◌, ◌↔◌, Bool, List, Some, decimal}
 use Rattle.std.specs.List.{list_any}
 use Rattle.lb_base.specs.declared.mask.Mask.{Mask}

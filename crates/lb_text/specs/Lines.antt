@@ -1,5 +1,6 @@
 -- Texts that are made of lines, and lines that are made of fields. A line ends with a line feed, and
 -- a mark stands between each two of its fields: a comma in a line of a trace, a space in an entry's.
+-- Cited by `lb_generator`, `lb_read` and `lb_record`.
 use Rattle.std.specs.Prelude.{◌≡◌, ℕ, ◌+◌, List, [], ◌∷◌, ◌++◌, length, take}
 use Rattle.std.specs.List.{flat_map}
 use Rattle.lb_text.specs.declared.marks.TheConstants.{LINE_FEED}

@@ -1,5 +1,6 @@
 -- How lists of CPUs are spelled: nothing, or items with `;` between them, of which each is a CPU or
 -- two CPUs with `-` between them, the lesser first. Items may come in any order and more than once.
+-- Cited by the contracts of `list_of` and `item_of`; also by `lb_generator`, `lb_read` and other crates.
 use Rattle.std.specs.Prelude.{ℕ, ◌==◌, nat_le, Bool, ◌&&◌, List, [], ◌∷◌, Option, Some, None, is_some, option_and_then}
 use Rattle.std.specs.List.{slice_split, list_any}
 use Rattle.std.specs.Option.{option_map}

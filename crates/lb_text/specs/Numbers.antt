@@ -1,5 +1,7 @@
 -- How numbers are spelled: `0`, or decimal digits of which the first is not 0. A nice value may have
 -- a minus sign before a number that is not 0.
+-- Cited by the contracts of `number_within`, `number_of`, `nice_of` and others; also by `lb_generator`, `lb_read` and
+-- other crates.
 use Rattle.std.specs.Prelude.{ℕ, Bool, not, ◌&&◌, ◌||◌, ◌==◌, nat_le, if◌then◌else◌, List, length, slice_index, drop, Option, Some, None, is_some, ℤ, pos, neg_ℤ}
 use Rattle.std.specs.Option.{option_map}
 use Rattle.std.specs.Str.{all_ascii_digits}

@@ -1,4 +1,5 @@
 -- The pieces of a text between its marks that a reader has not taken yet.
+-- What contracts see of the type `Pieces`.
 use Rattle.std.specs.Prelude.{ℕ, ◌==◌, List, [], Option, Some, None}
 use Rattle.std.specs.List.{slice_split}
 

@@ -1,6 +1,7 @@
 -- The first byte that cannot stand in a text: up to it, itself included, the text begins no accepted
 -- one. A text that begins accepted ones as a whole and is not one ends too early: its length stands
 -- for the place.
+-- Cited by the contracts of `list_of`, `number_within`, `number_of` and others.
 use Rattle.std.specs.Prelude.{◌≡◌, ℕ, ◌+◌, ◌<◌, ◌≤◌, Bool, true, List, ◌++◌, length, take}
 
 -- some accepted text begins so

@@ -1,6 +1,7 @@
 -- The one spelling that lists of CPUs are written in: the runs of the mask, each as long as it can
 -- be, rising, with `;` between them; a run of one CPU as that CPU, a longer one as its first and last
 -- with `-` between them. Where an empty list would leave a gap in a line, `-` stands for it.
+-- Cited by the contracts of `put_list`, `put_run` and `put_runs`; also by `lb_generator`, `lb_read` and other crates.
 use Rattle.std.specs.Prelude.{ℕ, ◌+◌, ◌<◌, ◌≤◌, ◌==◌, if◌then◌else◌, List, [], ◌∷◌, ◌++◌, map, decimal}
 use Rattle.std.specs.List.{join_with_byte}
 use Rattle.lb_base.specs.declared.mask.Mask.{Mask}

@@ -1,5 +1,6 @@
 -- What a scan of digits knows between two bytes: the number that they spell so far, and the number
 -- that one byte more makes of it.
+-- Cited by the contracts of `with_digit` and `with_leading_digit`.
 use Rattle.std.specs.Prelude.{◌≡◌, ℕ, ◌+◌, ◌-◌, ◌*◌, ◌<◌, ◌^◌, ◌==◌, ◌&&◌, not, nat_le, if◌then◌else◌, List, [], Option, Some, None, decimal}
 use Rattle.std.specs.Char.{is_ascii_digit}
 use Rattle.lb_text.specs.declared.marks.TheConstants.{ZERO}

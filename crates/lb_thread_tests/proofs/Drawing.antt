@@ -1,4 +1,5 @@
 -- The items that the test of a journal draws fit the empty list.
+-- For `row_item` and `pub_item`.
 use Rattle.std.proofs.Common.{◌≡◌, ℕ, ◌<◌, false, [], length, refl, arith}
 use Rattle.std.proofs.lemmas.List.Elements.{All-nil}
 use Rattle.lb_base.specs.Sets.{are_apart, is_below}

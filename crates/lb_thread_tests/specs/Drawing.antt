@@ -1,4 +1,5 @@
--- The row that the test of a journal draws.
+-- The course that the row which the test of a journal draws leaves: it asks for a `rebuild`.
+-- Cited by the contracts of `row_item` and `pub_item`.
 use Rattle.std.specs.Prelude.{ℕ, Some, []}
 use Rattle.lb_trace.specs.declared.trace.Command.TheVariants.{Rebuild}
 use Rattle.lb_core.specs.declared.course.Course.{Course}

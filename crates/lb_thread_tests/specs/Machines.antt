@@ -1,4 +1,5 @@
 -- A trace and its machine before any entry, as a test has them.
+-- Cited by the contract of `blank_of`.
 use Rattle.std.specs.Prelude.{◌≡◌, map}
 use Rattle.std.specs.List.{range_with_len}
 use Rattle.lb_trace.specs.declared.trace.Trace.{Trace}

@@ -1,4 +1,5 @@
--- A seat as a test has it from its book.
+-- A seat as a test has it from its book: of the table of the book, with its number and room, and nothing drawn or known.
+-- Cited by the contract of `two_seats`.
 use Rattle.std.specs.Prelude.{◌≡◌, ℕ, ◌≤◌, []}
 use Rattle.atomic_table.specs.Seated.{TableId}
 use Rattle.lb_ticket.specs.Seats.{SeatIs}

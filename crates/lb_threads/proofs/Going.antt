@@ -1,4 +1,5 @@
 -- A lane that goes through the rows of the trace, and serves its own.
+-- For `serve_rows`.
 use Rattle.std.proofs.Common.{ℕ, zero, suc, ◌≡◌, ◌<◌, ◌==◌, Bool, true, false, cond, List, [], ◌∷◌, Some, length, filter, take, slice_get, get_or, sym, ap, refl, ◌∙◌, arith}
 use Rattle.std.proofs.lemmas.Bool.{false≢true}
 use Rattle.lb_trace.specs.declared.trace.Row.{Row}
@@ -15,7 +16,8 @@ pub record HasServed (rows : List Row) (passed : ℕ) (l l' : LaneIs) : Type 0 w
 
 -- ---- the next row
 module _ {A : Type 0} (p : A → Bool) where
-  behind : (b : Bool) (y : A) (xs ys : List A) → slice_get (cond b (y ∷ ys) ys) (length (cond b (y ∷ xs) xs)) ≡ slice_get ys (length xs)
+  behind : (b : Bool) (y : A) (xs ys : List A) → slice_get (cond b (y ∷ ys) ys)
+      (length (cond b (y ∷ xs) xs)) ≡ slice_get ys (length xs)
   behind true y xs ys = refl
   behind false y xs ys = refl
 

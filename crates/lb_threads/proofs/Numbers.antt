@@ -1,4 +1,5 @@
 -- What holds of each lane with its number: counted along the list, or asked at a place.
+-- For `history_of` and `run_blank`.
 use Rattle.std.proofs.Common.{ℕ, ◌≡◌, ◌+◌, ◌<◌, zero, suc, List, [], ◌∷◌, ◌++◌, Some, map, take, drop, length, slice_get, get_or, All, refl, sym, ap, subst, ◌∙◌, arith}
 use Rattle.std.proofs.lemmas.Option.{none-some, same_Some, slice_get-get_or, slice_get_within}
 use Rattle.std.proofs.lemmas.List.{take_all, take-append-le}
@@ -34,13 +35,15 @@ module _ {A : Type 0} where
   each_at P k (y ∷ xs) h (suc i) x e = subst (λ (n : ℕ). P n x) (omega arith) (each_at P (k + 1) xs h.1 i x e)
 
 -- a list that was lent as a slice is what was written there
-pub written_back : {A : Type 0} (xs ys : List A) (n : ℕ) → length xs ≡ length ys → n ≡ length ys → take n (xs ++ drop (length xs) ys) ≡ xs
+pub written_back : {A : Type 0} (xs ys : List A) (n : ℕ) → length xs ≡ length ys → n ≡ length ys
+    → take n (xs ++ drop (length xs) ys) ≡ xs
 written_back xs ys n e f = take-append-le n xs (drop (length xs) ys) (omega arith) ∙ take_all n xs (omega arith)
 
 -- the lanes are numbered
 pub numbered : (rows : List Row) (lanes : List LaneIs) → EachLane (IsDone rows) lanes
     → EachFrom (λ k l. l.side.number ≡ k) 0 lanes
-numbered rows lanes h = each_from (λ k l. l.side.number ≡ k) 0 lanes (λ i l at. subst (λ (n : ℕ). l.side.number ≡ n) (omega arith) (h i l at).has.number)
+numbered rows lanes h = each_from (λ k l. l.side.number ≡ k) 0 lanes
+    (λ i l at. subst (λ (n : ℕ). l.side.number ≡ n) (omega arith) (h i l at).has.number)
 
 -- and all at rest
 pub all_rest : (rows : List Row) (lanes : List LaneIs) → EachLane (IsDone rows) lanes

@@ -1,5 +1,6 @@
 -- The premises of the merge, one by one, of the lists of all owners, once every lane is done and the history is closed. Each
 -- is what one owner kept of its own list, or what the end adds; together they make the lists a legal history of the trace.
+-- For `history_of`.
 use Rattle.std.proofs.Common.{ℕ, ◌≡◌, ◌+◌, ◌<◌, ◌≤◌, Some, List, [], ◌++◌, length, map, take, slice_get, sym, subst, ap, ◌∙◌, All, arith}
 use Rattle.std.proofs.lemmas.List.{take_all}
 use Rattle.std.proofs.lemmas.Option.{same_Some}

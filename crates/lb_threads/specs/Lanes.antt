@@ -1,5 +1,6 @@
 -- How the lanes of a machine begin and end: before its first row a lane is at rest and has the trace's rows of its number,
 -- and once it has done them it is at rest again and has taken up all of them.
+-- Cited by the contracts of `history_of`, `serve_lanes`, `serve_rows` and others.
 use Rattle.std.specs.Prelude.{ℕ, ◌≡◌, Some, false, List, length, slice_get}
 use Rattle.lb_trace.specs.declared.trace.Row.{Row}
 use Rattle.lb_core.specs.declared.course.Form.TheVariants.{Rest}
@@ -25,16 +26,16 @@ pub record IsReady (rows : List Row) (lane : ℕ) (l : LaneIs) : Type 0 where
 
 -- ---- after
 -- it is at rest, and took up all
-pub record IsAtEnd (l : LaneIs) : Type 0 where
+pub record HasServedAll (l : LaneIs) : Type 0 where
   pub rest : l.side.course.form ≡ Rest
   pub all : l.side.course.rows ≡ length l.rows
 
 pub record IsDone (rows : List Row) (lane : ℕ) (l : LaneIs) : Type 0 where
   pub has : HasRows rows lane l
-  pub ended : IsAtEnd l
+  pub ended : HasServedAll l
 
 -- however it was left: its number and its rows are as they were, and no task is in its hand
-pub record IsLeft (l l' : LaneIs) : Type 0 where
+pub record HasReturned (l l' : LaneIs) : Type 0 where
   pub number : l'.side.number ≡ l.side.number
   pub rows : l'.rows ≡ l.rows
-  pub grounded : is_flight l'.side.course.form ≡ false
+  pub empty_handed : is_flight l'.side.course.form ≡ false

@@ -1,6 +1,6 @@
 //! The lanes of a machine, each on a thread of its own.
 ghost use Rattle.std.specs.Prelude.{◌≡◌, OnOk, IsTrue, All, length};
-ghost use Rattle.lb_threads.specs.Lanes.{EachLane, HasRows, IsAtEnd, IsDone, IsLeft, IsReady};
+ghost use Rattle.lb_threads.specs.Lanes.{EachLane, HasRows, HasServedAll, IsDone, HasReturned, IsReady};
 
 use crate::rows::serve_rows;
 use lb_base::NoMemory;
@@ -16,7 +16,7 @@ use std::thread::Threads;
 
 // Whether all lanes are at rest, and have taken up all their rows.
 fn all_done<N: Names + Versions>(lanes: &[Lane<N>]) -> bool
-    ensures { IsTrue result → All IsAtEnd lanes.now }
+    ensures { IsTrue result → All HasServedAll lanes.now }
 {
     lanes.iter().all(|lane| lane.is_done())
 }
@@ -37,7 +37,7 @@ fn serve_each<N: Names + Versions + Send + Sync, R: Threads + Wait + Sync, G: Ga
     let threads = lanes.len().max(1);
     let serve = |_: usize, lane: &mut Lane<N>|
         requires { IsReady trace.now.rows lane.now.side.number lane.now }
-        ensures { IsLeft lane.entry.now lane.exit.now }
+        ensures { HasReturned lane.entry.now lane.exit.now }
     {
         let _refused = serve_rows(rt, alloc, trace.rows.as_slice(), cpus, lane, gate).is_err();
     };

@@ -2,7 +2,7 @@
 ghost use Rattle.std.specs.Prelude.{◌≡◌, Some, OnOk, slice_get};
 ghost use Rattle.lb_core.specs.declared.course.Form.TheVariants as form;
 ghost use Rattle.lb_service.specs.Services.{IsServed};
-ghost use Rattle.lb_threads.specs.Lanes.{IsAtEnd, IsLeft, IsReady};
+ghost use Rattle.lb_threads.specs.Lanes.{HasServedAll, HasReturned, IsReady};
 
 use lb_base::NoMemory;
 use lb_cell::Names;
@@ -25,7 +25,7 @@ fn serve_next<N: Names + Versions, R: Wait, G: Gate>(
 ) -> Result<(), NoMemory>
     requires rest { lane.old.side.course.form ≡ form.Rest }
     requires next { slice_get lane.old.rows lane.old.side.course.rows ≡ Some row.now }
-    ensures left { IsLeft lane.old lane.new }
+    ensures left { HasReturned lane.old lane.new }
     ensures served { OnOk result (IsServed lane.old lane.new) }
 {
     let number = lane.side().number();
@@ -46,8 +46,8 @@ pub(crate) fn serve_rows<N: Names + Versions, R: Wait, G: Gate>(
     gate: &G,
 ) -> Result<(), NoMemory>
     requires { IsReady rows.now lane.old.side.number lane.old }
-    ensures left { IsLeft lane.old lane.new }
-    ensures done { OnOk result (IsAtEnd lane.new) }
+    ensures left { HasReturned lane.old lane.new }
+    ensures done { OnOk result (HasServedAll lane.new) }
 {
     let number = lane.side().number();
     for row in rows {

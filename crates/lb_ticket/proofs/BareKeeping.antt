@@ -1,4 +1,6 @@
--- The steps, on views with codes.
+-- Each step that an owner of the ticket word takes keeps the rule of the word as the code has it (`Bare`), which
+-- speaks of codes in place of items: what `Keeping` has, said of codes.
+-- For `Book::close`, `Book::new`, `take_in` and others.
 use Rattle.std.proofs.Common.{All, get_or, inl, inr, ◌≡◌, ◌⊎◌, ℕ, zero, suc, ◌+◌, ◌%◌, ◌<◌, ◌≤◌, List, [], ◌∷◌, ◌++◌, length, set, map, max, Bool, true, false, refl, sym, ap, ◌∙◌, subst, ⊎_elim}
 use Rattle.std.proofs.lemmas.List.{map-set, map-append}
 use Rattle.std.proofs.lemmas.List.Elements.{All-nil, All-cons, All-head, All-tail, All-map}

@@ -1,4 +1,5 @@
 -- What a seat drew, holds and has read stays below its next ticket, whatever step the seat takes.
+-- For `Seat::draw`, `take_in`, `note_as` and others.
 use Rattle.std.proofs.Common.{ap, ◌≡◌, ◌+◌, ℕ, ◌<◌, ◌≤◌, Bool, true, false, eqb, List, [], ◌∷◌, ◌++◌, Option, Some, None, sym, subst, arith, inl, inr}
 use Rattle.std.specs.Prelude.{if◌then◌else◌}
 use Rattle.std.proofs.lemmas.List.{map-append}

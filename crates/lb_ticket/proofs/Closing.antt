@@ -1,5 +1,6 @@
 -- The view that has all shares has the lists of all owners: what the rule then says of them, and of what that
 -- view holds and has read.
+-- For the lemmas of `BareKeeping`, and so for `Book::close`, `Book::new` and others.
 use Rattle.std.proofs.Common.{◌⊎◌, ◌≡◌, ℕ, ◌+◌, ◌≤◌, List, [], ◌∷◌, length, set, refl, sym, ap, ◌∙◌, subst, ⊎_elim, arith}
 use mathlib.Core.Option.{some}
 use lib.ListN.{get_elem?}

@@ -1,4 +1,5 @@
--- Each step keeps the rule.
+-- Each step that an owner of the ticket word takes keeps the rule of the word (`Kept`).
+-- For the lemmas of `BareKeeping`, and so for `Book::close`, `Book::new` and others.
 use Rattle.std.proofs.Common.{◌≡◌, ◌≢◌, ℕ, zero, suc, ◌+◌, ◌*◌, ◌%◌, ◌<◌, ◌≤◌, List, [], ◌∷◌, ◌++◌, length, set, map, refl, sym, ap, ◌∙◌, subst, ⊎_elim, arith, length-append, append_assoc}
 use Rattle.std.specs.Prelude.{slice_index, Option, Some, None}
 use mathlib.Core.Option.{some, some-ne-none, some-injective}

@@ -1,4 +1,5 @@
 -- The last of the facts that are known, and those that stay.
+-- For the laws `learnt_is_known`, `facts_stay`, `lists_rise` and `note_is_of_one`.
 use Rattle.std.proofs.Common.{All, ◌≡◌, ◌+◌, inl, inr, ℕ, ◌<◌, Bool, true, false, eqb, ne_eqb, List, [], ◌∷◌, ◌++◌, length, refl, arith, sym, ap, ◌∙◌}
 use Rattle.std.specs.Prelude.{if◌then◌else◌}
 use Rattle.std.proofs.lemmas.List.Elements.{All-nil, All-cons}

@@ -1,5 +1,6 @@
 -- The lists of a closed book are the log, parted by owner: each item of the log fits the items of its
 -- owner before it, and quotes an earlier one or none. For those too who reason over the lists of a closed book.
+-- For `lb_journal`.
 use Rattle.std.proofs.Common.{◌≡◌, ℕ, zero, suc, ◌+◌, ◌<◌, ◌≤◌, Bool, true, false, eqb, List, [], ◌∷◌, ◌++◌, length, map, get_or, refl, sym, ◌∙◌, ap, subst, arith, inl, inr, eq-eqb, ne_eqb, append_assoc, append-nil, drop}
 use Rattle.std.specs.Prelude.{◌==◌, if◌then◌else◌}
 use Rattle.std.proofs.lemmas.Bool.{cases_eq, cases_lt}

@@ -1,4 +1,5 @@
 -- What stands in a list, and in the lists of seats: lemmas for the crates above, too.
+-- For `Book::close`; cited by `lb_cell`, `lb_cpu` and other crates too.
 use Rattle.std.proofs.Common.{◌≡◌, ◌⊎◌, inl, inr, ℕ, zero, suc, ◌<◌, List, [], ◌∷◌, ◌++◌, length, map, get_or, refl, ap, arith}
 use Rattle.lb_ticket.specs.Seats.{SeatIs, gathered}
 use Rattle.lb_ticket.specs.Tickets.{Among}

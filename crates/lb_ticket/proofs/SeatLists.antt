@@ -1,4 +1,5 @@
--- Lists of seats, one longer.
+-- Lists of seats with one seat more at the end, as they are made and closed one by one.
+-- For `Book::close` and `make_seats`.
 use Rattle.std.proofs.Common.{map, ◌≡◌, ◌⊎◌, inl, inr, ℕ, ◌+◌, List, [], ◌∷◌, ◌++◌, length, sym, ap, subst, ◌∙◌, arith}
 use Rattle.atomic_table.specs.Seated.{TableId}
 use Rattle.lb_ticket.specs.declared.item.Drawn.{Drawn}

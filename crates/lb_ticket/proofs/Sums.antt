@@ -1,4 +1,5 @@
 -- Sums over lists, how often a ticket stands in one, and which entries stand in a log.
+-- For the lemmas of `Closed`, `Closing` and other files, and so for `Book::close`, `Book::new` and others.
 use Rattle.std.proofs.Common.{eqb, eq-eqb, ne_eqb, ◌≡◌, ◌≢◌, ◌⊎◌, ℕ, zero, suc, ◌+◌, ◌*◌, ◌<◌, ◌≤◌, ◌^◌, List, [], ◌∷◌, ◌++◌, length, set, map, Bool, true, false, refl, sym, ap, ◌∙◌, subst, ⊎_elim, inl, inr, arith, length-append, append_assoc}
 use Rattle.std.proofs.lemmas.Bool.{cases_eq}
 use Rattle.std.specs.Prelude.{◌==◌, if◌then◌else◌}

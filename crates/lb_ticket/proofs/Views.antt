@@ -1,5 +1,6 @@
 -- What each kind of step does to a view, where the view has the items themselves. The views of `specs/Bare`
 -- are these, with codes in place of the items.
+-- For the lemmas of `BareKeeping`, `Closing` and other files, and so for `Book::close`, `Book::new` and others.
 use Rattle.std.specs.Prelude.{max, ◌≡◌, ℕ, ◌+◌, ◌-◌, ◌<◌, ◌≤◌, ◌==◌, ◌^◌, List, [], ◌∷◌, ◌++◌, length, if◌then◌else◌, Option, Some, None, map}
 use Rattle.lb_ticket.specs.declared.item.Drawn.{Drawn}
 use Rattle.lb_ticket.specs.declared.view.View.{View}

@@ -2,6 +2,7 @@
 -- note names no type of item. For each kind of step on the ticket word there is what it does to the views:
 -- a seat is made, a ticket is drawn or noted, a note is learnt, a list is told, the word is loaded, a seat is
 -- taken in at the end.
+-- Cited by the contracts of `draw_as`, `note_as`, `tell` and others.
 use Rattle.std.specs.Prelude.{◌≡◌, ℕ, ◌+◌, ◌-◌, ◌<◌, ◌≤◌, ◌^◌, List, [], ◌∷◌, ◌++◌, length, map, max}
 use base.Stored.{Coded}
 use Rattle.lb_ticket.specs.declared.item.Drawn.{Drawn}

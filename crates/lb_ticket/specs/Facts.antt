@@ -2,6 +2,8 @@
 -- themselves: a note then names no type of item. A fact is of one entry: its ticket, its lane and what it
 -- leaves. A seat holds the facts of entries that it drew and did not note (fresh) and of notes that it learnt
 -- and did not quote (known), and it holds what it read of other seats' lists.
+-- Cited by the law `seat_is_below`, and `Book::close`, `Seat::draw` and others; also by `lb_cell`, `lb_cpu` and other
+-- crates.
 use Rattle.std.specs.Prelude.{◌≡◌, ℕ, ◌<◌, ◌==◌, List, [], ◌∷◌, if◌then◌else◌, Option, Some, None, All}
 use base.Stored.{Coded}
 use Rattle.lb_ticket.specs.declared.item.Drawn.{Drawn}

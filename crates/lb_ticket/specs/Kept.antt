@@ -2,6 +2,7 @@
 -- of their tickets, and the word is one above its length. Each ticket stands in the column of one view; and it
 -- is fresh with its drawer, known to one seat or note, or quoted, and only one of these. So whatever a
 -- view holds stays true as the log grows.
+-- For the definitions of `Bare`, and so for `draw_as`, `note_as` and others.
 use Rattle.std.specs.Prelude.{◌≡◌, ℕ, ◌+◌, ◌<◌, ◌≤◌, ◌^◌, List, [], ◌∷◌, length}
 use mathlib.Core.Option.{some}
 use lib.ListN.{get_elem?}

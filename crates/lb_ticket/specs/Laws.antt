@@ -1,4 +1,5 @@
 -- What the users of a ticket book conclude from its calls.
+-- Cited by the laws `learnt_is_known`, `facts_stay` and `lists_rise`.
 use Rattle.std.specs.Prelude.{◌≡◌, ℕ, ◌<◌, List, [], ◌∷◌, ◌++◌, All}
 use Rattle.lb_ticket.specs.declared.item.Drawn.{Drawn}
 use Rattle.lb_ticket.specs.declared.view.Fact.{Fact}

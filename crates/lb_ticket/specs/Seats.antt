@@ -1,4 +1,6 @@
 -- What contracts see of a book, of its seats and of a note.
+-- Cited by the contracts of `Book::new`, `Book::close`, `Seat::reserve` and others; also by `lb_cell`, `lb_cpu` and
+-- other crates.
 use Rattle.std.specs.Prelude.{◌≡◌, ℕ, ◌+◌, List, [], ◌∷◌, ◌++◌}
 use Rattle.atomic_table.specs.Seated.{TableId}
 use Rattle.lb_ticket.specs.declared.item.Drawn.{Drawn}

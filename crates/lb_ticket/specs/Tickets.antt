@@ -1,6 +1,8 @@
 -- What the lists of a ticket book say when it is closed: every ticket stands once, lists rise, each item fits
 -- those before it on its list, and each quote names an earlier entry of its lane, with what that left. Of an
 -- item they read its owner, its lane, its quote and what it leaves, and of what it leaves only which one it is.
+-- Cited by the law `seat_is_below`, and `Book::close`, `Seat::draw` and others; also by `lb_cell`, `lb_cpu` and other
+-- crates.
 use Rattle.std.specs.Prelude.{◌≡◌, ℕ, zero, suc, ◌+◌, ◌<◌, ◌≤◌, ◌==◌, List, [], ◌∷◌, ◌++◌, length, if◌then◌else◌, Option, Some, None, ◌⊎◌, All}
 use mathlib.Core.Option.{some}
 use lib.ListN.{get_elem?}

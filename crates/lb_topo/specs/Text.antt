@@ -1,6 +1,7 @@
 -- The text of a trace's topologies: for each version its number, and for each CPU a line for each of
 -- its domains, with the level, the span and the groups in ring order. Version 1 has the masks of the
 -- header, and each rebuild makes the next version.
+-- Cited by the contracts of `put_cpus`, `topology_text`, `put_domain` and others; also by `lb`.
 use Rattle.std.specs.Prelude.{ℕ, ◌+◌, Option, Some, None, List, [], ◌∷◌, ◌++◌, codes, decimal}
 use Rattle.std.specs.List.{flat_map, filter_map}
 use Rattle.lb_base.specs.declared.mask.Mask.{Mask}

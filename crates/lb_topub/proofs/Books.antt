@@ -1,4 +1,5 @@
 -- The steps on what is shown keep the rule: whoever knows whose versions they are knows the same as what is shown.
+-- For `new_looker`, `enter` and `turn`.
 use Rattle.std.proofs.Common.{◌≡◌, ◌≢◌, ℕ, List, Option, Some, None, set, refl, sym, subst, ⊎_elim, ◌∙◌}
 use mathlib.Core.Option.{some}
 use lib.ListN.{get_elem?}

@@ -1,4 +1,5 @@
 -- What the two copies show once they have taken in what is pending. It serves the crate's own bodies.
+-- Cited by the contracts of `turn` and `settle`.
 use Rattle.std.specs.Prelude.{List, fold}
 use Rattle.lb_topub.specs.Versions.{VersionsSeen}
 use Rattle.lb_topub.specs.declared.shown.Shown.{Shown}

@@ -1,4 +1,5 @@
 -- The rule of the list of versions, and what the step that adds one tells. It serves the crate's own bodies.
+-- Cited by the contracts of `Known::open`, `Known::with` and `Known::add`.
 use Rattle.std.specs.Prelude.{ℕ, ◌≡◌, ◌==◌, true, List, [], ◌∷◌, ◌++◌, length, MatchBool}
 use Rattle.logbook.specs.Pages.{Cell, Step, View, Book, Named}
 use Rattle.lb_domain.specs.Topologies.{DomainsWithin}

@@ -1,4 +1,5 @@
 -- The rule of the value that lookers look at: whose versions they are. It serves the crate's own bodies.
+-- Cited by the contracts of `show`, `of`, `new_looker` and others.
 use Rattle.std.specs.Prelude.{ℕ, ◌≡◌, List, Option, Some, IfSome}
 use mathlib.Core.Option.{some}
 use lib.ListN.{get_elem?}

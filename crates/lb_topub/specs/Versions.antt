@@ -1,5 +1,7 @@
 -- What contracts see of a publisher, of a looker and of a look: the versions that were published up to some moment,
 -- in order, each with its whole topology. Version n is the n-th of them.
+-- Cited by the contracts of `Known::with`, `Looked::topology`, `Publisher::publish` and others; also by `lb_cpu` and
+-- `lb_lane`.
 use Rattle.std.specs.Prelude.{◌≡◌, ◌-◌, List, [], ◌∷◌, ◌++◌, length, Some, slice_get}
 use Rattle.logbook.specs.Pages.{Book}
 use Rattle.lb_domain.specs.Topologies.{DomainsWithin}

@@ -1,5 +1,6 @@
 -- An accepted trace keeps to all that `IsTrace` says: what was read of its lines is sound, and there
 -- was a line `lanes`.
+-- For the law `accepted`; cited by `lb_read` too.
 use Rattle.std.proofs.Common.{◌≡◌, ℕ, ◌-◌, ◌<◌, ◌≤◌, ◌^◌, true, false, not, nat_le, nat_lt, ◌==◌, cond, List, [], ◌∷◌, length, Option, Some, None, IfSome, Ok, Err, refl, sym, ap, subst, ◌∙◌, arith, inl, inr}
 use Rattle.std.specs.Prelude.{Result, is_some, is_none, unwrap_or}
 use Rattle.std.specs.List.{list_all}
@@ -47,13 +48,15 @@ whole_end : (r s : Reading) → IsSound r → ended r ≡ Ok s → IsWhole s
 unfolding ended end_tests
 whole_end r s h e =
     let passed = passes (end_tests r) r s e in
-    subst IsWhole (sym passed.same) (record { sound = h; lanes = some_there r.lanes (or_parts _ _ (or_parts _ _ passed.good).1).0 })
+    subst IsWhole (sym passed.same) (record
+    { sound = h; lanes = some_there r.lanes (or_parts _ _ (or_parts _ _ passed.good).1).0 })
 
 never_cut : (r s : Reading) (last : List ℕ) → line_at r true last ≡ Ok s → ⊥
 unfolding line_tests byte_tests
 never_cut r s last e = both_ways true (or_parts (not (is_plain last)) true (line_good r s true last e)).1 refl
 
-whole_last : (r s : Reading) (last : List ℕ) → IsSound r → cond (length last == 0) (ended r) (line_at r true last) ≡ Ok s → IsWhole s
+whole_last : (r s : Reading) (last : List ℕ) → IsSound r → cond (length last == 0) (ended r) (line_at r true last) ≡ Ok
+    s → IsWhole s
 whole_last r s last h =
     elim (length last == 0) as (λ b. cond b (ended r) (line_at r true last) ≡ Ok s → IsWhole s)
     [ true ↦ λ e. whole_end r s h e | false ↦ λ e. absurd (never_cut r s last e) ]
@@ -95,7 +98,8 @@ all_fit cpus few = lt-ltb (2 ^ cpus - 1) (2 ^ 64) (omega (arith, pow_mono few, p
 
 all_cpus : (cpus : ℕ) → cpus ≤ MAX_CPUS → is_partition cpus (first_cpus cpus ∷ []) ≡ true
 all_cpus cpus few =
-    let fine = no_fault_from_partition cpus (first_cpus cpus ∷ []) (record { below = and_from _ _ (all_below cpus) refl; apart = refl }) in
+    let fine = no_fault_from_partition cpus (first_cpus cpus ∷ [])
+    (record { below = and_from _ _ (all_below cpus) refl; apart = refl }) in
     and_from _ _ (and_from _ _ (all_fit cpus few) refl) (ap is_none fine)
 
 lanes_are : (r : Reading) (o : Option ℕ) → is_some o ≡ true → IfSome o (AreLanes r.cpus r.distances)

@@ -1,4 +1,5 @@
 -- A table of distances with a row more: the ranges of its entries, and the tests of its last row.
+-- For `Reading::dist_line` and `is_bad_distance`.
 use Rattle.std.proofs.Common.{◌≡◌, ℕ, zero, suc, ◌-◌, ◌<◌, leb, Bool, true, ◌&&◌, List, [], ◌∷◌, ◌++◌, length, map, drop, length-append, inl, inr, refl, sym, ap, ◌∙◌, arith}
 use Rattle.std.specs.List.{range_with_len, list_any, list_all}
 use Rattle.std.specs.Str.Parse.{digits_value}
@@ -36,7 +37,8 @@ bad_last nodes table earlier row sizes some e =
     ∙ last_tests table earlier row (length table - 1) e refl
 
 -- ---- a row that a line says
-distance_read : (field : List ℕ) → is_number 1 MAX_DISTANCE field ≡ true → is_distance (number (number_within 1 MAX_DISTANCE field)) ≡ true
+distance_read : (field : List ℕ) → is_number 1 MAX_DISTANCE field ≡ true
+    → is_distance (number (number_within 1 MAX_DISTANCE field)) ≡ true
 unfolding number_within
 distance_read field e =
     elim (cases_Bool (is_numeral field && leb 1 (digits_value 10 field) && leb (digits_value 10 field) MAX_DISTANCE)) [
@@ -54,11 +56,13 @@ distances_read (field ∷ fields) e =
     let parts = and_parts _ _ e in and_from _ _ (distance_read field parts.0) (distances_read fields parts.1)
 
 -- with that row more the table keeps to what it kept to
-all_with : {X : Type 0} (p : X → Bool) (xs : List X) (x : X) → list_all p xs ≡ true → p x ≡ true → list_all p (xs ++ x ∷ []) ≡ true
+all_with : {X : Type 0} (p : X → Bool) (xs : List X) (x : X) → list_all p xs ≡ true → p x ≡ true
+    → list_all p (xs ++ x ∷ []) ≡ true
 all_with p [] x all one = and_from _ _ one refl
 all_with p (y ∷ xs) x all one = let parts = and_parts _ _ all in and_from _ _ parts.0 (all_with p xs x parts.1 one)
 
 pub in_range_with : (table : List (List ℕ)) (fields : List (List ℕ)) → list_all (list_all is_distance) table ≡ true
     → list_all (is_number 1 MAX_DISTANCE) (drop 1 fields) ≡ true
     → list_all (list_all is_distance) (table ++ distances_in fields ∷ []) ≡ true
-in_range_with table fields all good = all_with (list_all is_distance) table (distances_in fields) all (distances_read (drop 1 fields) good)
+in_range_with table fields all good = all_with (list_all is_distance) table (distances_in fields) all
+    (distances_read (drop 1 fields) good)

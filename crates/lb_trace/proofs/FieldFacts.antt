@@ -1,4 +1,5 @@
 -- Fields that are read one after the other: the values so far, and those of the fields that are left.
+-- For `masks_from` and `distances_in`.
 use Rattle.std.proofs.Common.{◌≡◌, ℕ, zero, suc, ◌+◌, ◌<◌, Bool, false, ◌&&◌, List, [], ◌∷◌, ◌++◌, length, map, drop, Option, Some, None, refl, sym, ap, ◌∙◌, append_assoc, arith}
 use Rattle.std.specs.Prelude.{is_some, unwrap_or, option_and_then}
 use Rattle.std.specs.List.{list_all}
@@ -37,7 +38,8 @@ pub one_read : {X : Type 0} (read : List ℕ → Option X) (default : X) (fs : L
     → AreRead read default fs from (i + 1) (xs ++ x ∷ [])
 one_read {X} read default fs from i xs x r e = at (field_at fs i) refl e
   where
-    at : (o : Option (List ℕ)) → field_at fs i ≡ o → option_and_then read o ≡ Some x → AreRead read default fs from (i + 1) (xs ++ x ∷ [])
+    at : (o : Option (List ℕ)) → field_at fs i ≡ o → option_and_then read o ≡ Some x → AreRead read default fs from
+        (i + 1) (xs ++ x ∷ [])
     at None there got = cc got
     at (Some f) there got =
         let rest = drop_field i fs f there in
@@ -46,12 +48,14 @@ one_read {X} read default fs from i xs x r e = at (field_at fs i) refl e
               ∙ (ap (λ (v : X). xs ++ v ∷ values read default (drop (i + 1) fs))
               (sym (ap (λ (o : Option X). unwrap_or o default) got))
               ∙ (sym (ap (λ (gs : List (List ℕ)). xs ++ values read default gs) rest) ∙ r.so_far));
-          good = sym (ap (λ (o : Option X). is_some o && all_read read (drop (i + 1) fs)) got) ∙ (sym (ap (all_read read) rest) ∙ r.good);
+          good = sym (ap (λ (o : Option X). is_some o && all_read read (drop (i + 1) fs)) got) ∙
+              (sym (ap (all_read read) rest) ∙ r.good);
         }
 
 -- a field that cannot be read
 pub misread : {X : Type 0} (read : List ℕ → Option X) (default : X) (fs : List (List ℕ)) (from i : ℕ) (xs : List X)
-    → AreRead read default fs from i xs → i < length fs → option_and_then read (field_at fs i) ≡ None → all_read read (drop from fs) ≡ false
+    → AreRead read default fs from i xs → i < length fs → option_and_then read (field_at fs i) ≡ None
+    → all_read read (drop from fs) ≡ false
 misread {X} read default fs from i xs r lt e =
     let there = some_field i fs lt in
     let none : read there.0 ≡ None = sym (ap (option_and_then read) there.1) ∙ e in

@@ -1,4 +1,5 @@
 -- A refusal names the first bad line and its first code, and an accepted text has no bad line.
+-- For the law `first_bad`.
 use Rattle.std.proofs.Common.{◌≡◌, ℕ, ◌<◌, true, false, List, length, Ok, Err, refl, sym, ap, subst, ◌∙◌, arith, inl, inr}
 use Rattle.std.specs.Prelude.{Result, is_ok}
 use Rattle.std.proofs.lemmas.Bool.{cases_lt, cases_order, both_ways}
@@ -43,7 +44,11 @@ lines_accepted lines t (Ok s) at e k lt = ap is_bad (tests_same lines k) ∙ acc
 refusal : (text : List ℕ) (n : ℕ) (code : Code) → reading_of text ≡ Err (n, code) → IsRefusal text n code
 refusal text n code e = elim (cases_lt MAX_BYTES (length text)) [
   | inl lt ↦ let same = ap (refused_as (n, code)) (sym e ∙ read_past text lt) in inl (lt, ap (λ p. p.0) same, ap (λ p. p.1) same)
-  | inr le ↦ inr (le, lines_refused (lines_of text) n code (lines_from nothing_read (lines_of text)) refl (sym (read_within text le) ∙ e))
+  | inr le ↦ inr (
+    le,
+    lines_refused (lines_of text) n code (lines_from nothing_read (lines_of text)) refl
+        (sym (read_within text le) ∙ e),
+  )
 ]
 
 none_bad : (text : List ℕ) (t : Trace) → reading_of text ≡ Ok t → HasNoneBad text

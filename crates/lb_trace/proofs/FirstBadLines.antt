@@ -1,4 +1,5 @@
 -- Reading line after line stops at the first bad one.
+-- For `lines_from`; cited by `lb_read` too.
 use Rattle.std.proofs.Common.{◌≡◌, ℕ, zero, suc, ◌+◌, ◌<◌, Bool, true, false, List, [], ◌∷◌, ◌++◌, ◌==◌, cond, length, take, drop, Option, Some, None, Ok, Err, refl, sym, ap, subst, ◌∙◌, arith}
 use Rattle.std.specs.Prelude.{Result, fold}
 use Rattle.lb_fields.specs.Pieces.{pieces}
@@ -89,7 +90,8 @@ refused_as other (Ok a) = other
 refused_as other (Err p) = p
 
 bad_here : (r : Reading) (lines : List (List ℕ)) (n m : ℕ) (code other : Code) → 0 < length lines
-    → IsFirstCode (tests_from r lines 0) other → m ≡ r.line → on_line {A = Reading} m (Err other) ≡ Err (n, code) → IsBadAt r lines n code
+    → IsFirstCode (tests_from r lines 0) other → m ≡ r.line → on_line {A = Reading} m (Err other) ≡ Err (n, code)
+    → IsBadAt r lines n code
 bad_here r lines n m code other some first at e =
     let same = ap (refused_as (n, code)) e in
     let number = ap (λ p. p.0) same in
@@ -104,7 +106,8 @@ bad_here r lines n m code other some first at e =
 on_last : (r : Reading) (last : List ℕ) (n : ℕ) (code : Code) (o : Result Reading Code) → last_line r last ≡ o
     → on_line r.line o ≡ Err (n, code) → IsBadAt r (last ∷ []) n code
 on_last r last n code (Ok s) at e = absurd (cc)
-on_last r last n code (Err other) at e = bad_here r (last ∷ []) n r.line code other (omega arith) (last_bad r last other at) refl e
+on_last r last n code (Err other) at e = bad_here r (last ∷ []) n r.line code other (omega arith)
+    (last_bad r last other at) refl e
 
 on_more : (r : Reading) (line next : List ℕ) (more : List (List ℕ)) (n : ℕ) (code : Code) (o : Result Reading Code)
     → line_at r false line ≡ o
@@ -131,7 +134,8 @@ on_more r line next more n code (Ok s) at rest e =
     before r s line next more k at rest zero lt = line_good r s false line at
     before r s line next more k at rest (suc j) lt = ap is_bad (later r s line next more j at) ∙ rest j (omega (arith, lt))
 
-pub refused_at : (r : Reading) (lines : List (List ℕ)) (n : ℕ) (code : Code) → lines_from r lines ≡ Err (n, code) → IsBadAt r lines n code
+pub refused_at : (r : Reading) (lines : List (List ℕ)) (n : ℕ) (code : Code) → lines_from r lines ≡ Err (n, code)
+    → IsBadAt r lines n code
 unfolding lines_from
 refused_at r [] n code e = absurd (cc)
 refused_at r (last ∷ []) n code e = on_last r last n code (last_line r last) refl e
@@ -151,7 +155,8 @@ good_more : (r s : Reading) (line next : List ℕ) (more : List (List ℕ)) (o :
     → is_bad (tests_from r (line ∷ next ∷ more) k) ≡ false
 good_more r s line next more (Err code) at rest e k lt = absurd (cc)
 good_more r s line next more (Ok t) at rest e zero lt = line_good r t false line at
-good_more r s line next more (Ok t) at rest e (suc k) lt = ap is_bad (later r t line next more k at) ∙ rest t e k (omega (arith, lt))
+good_more r s line next more (Ok t) at rest e (suc k) lt = ap is_bad (later r t line next more k at) ∙ rest t e k
+    (omega (arith, lt))
 
 pub accepted_at : (r s : Reading) (lines : List (List ℕ)) → lines_from r lines ≡ Ok s → (k : ℕ) → k < length lines
     → is_bad (tests_from r lines k) ≡ false

@@ -1,4 +1,6 @@
--- The first of several tests that holds, and its code.
+-- Of the tests of a line in their order, the first that holds gives the code of the refusal.
+-- For the lemmas of `AcceptedFacts`, `FirstBadLaws` and other files, and so for the laws `accepted` and `first_bad`;
+-- cited by `lb_read` too.
 use Rattle.std.proofs.Common.{◌≡◌, true, false, [], ◌∷◌, ◌++◌, Ok, Err, refl, sym, ap, ◌∙◌}
 use Rattle.lb_trace.specs.declared.trace.Code.{Code}
 use Rattle.lb_trace.specs.Tests.{Tests, unless_bad}
@@ -17,7 +19,8 @@ passes ((false, code) ∷ tests) given value e =
     record { same = rest.same; good = rest.good }
 
 -- a code that is given is the first, and the first is given
-pub first_code : {A : Type 0} (tests : Tests) (given : A) (code : Code) → unless_bad tests given ≡ Err code → IsFirstCode tests code
+pub first_code : {A : Type 0} (tests : Tests) (given : A) (code : Code) → unless_bad tests given ≡ Err code
+    → IsFirstCode tests code
 first_code [] given code e = absurd (cc)
 first_code ((true, other) ∷ tests) given code e =
     record { before = []; after = tests; place = ap (λ c. (true, c) ∷ tests) (cc); first = refl }

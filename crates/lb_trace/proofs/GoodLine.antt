@@ -1,4 +1,6 @@
 -- What the tests of a good line say, one by one.
+-- For the lemmas of `SoundFacts`, `SoundHeader` and other files, and so for the law `accepted`; cited by
+-- `lb_generator` and `lb_read` too.
 use Rattle.std.proofs.Common.{◌≡◌, ℕ, true, false, List, length, Some, sym, ◌∙◌, ◌++◌}
 use Rattle.std.proofs.lemmas.Bool.{or_parts, not-false}
 use Rattle.std.proofs.lemmas.List.Folds.{list_any-append}

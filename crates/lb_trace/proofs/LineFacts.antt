@@ -1,4 +1,5 @@
 -- For Reading::take_line: an empty line whose bytes pass has no kind, so its code is Kind.
+-- For `Reading::take_line`.
 use Rattle.std.proofs.Common.{◌≡◌, ℕ, false, List, [], ◌∷◌, ◌++◌, length, Err, arith}
 use Rattle.csv.specs.Records.{field_at}
 use Rattle.lb_trace.specs.declared.trace.Code.TheVariants as bad

@@ -1,5 +1,6 @@
 -- The ranges of what was read are within those that a machine is read in and a task is declared with.
 -- What runs an accepted trace cites `nice_range`.
+-- For `is_nested` and `Header::machine`; cited by `lb_act` too.
 use Rattle.std.proofs.Common.{◌≡◌, ℕ, ℤ, pos, negsuc, ◌≤◌, ◌≤ℤ◌, Bool, true, List, [], ◌∷◌, refl, arith}
 use Rattle.std.specs.Prelude.{nat_lt, nat_le}
 use Rattle.std.specs.List.{list_all}
@@ -14,7 +15,8 @@ use Rattle.lb_trace.specs.Accepted.{is_cpu, is_distance, is_nice_value}
 all_weaker : {X : Type 0} (p q : X → Bool) → ((x : X) → p x ≡ true → q x ≡ true) → (xs : List X)
     → list_all p xs ≡ true → list_all q xs ≡ true
 all_weaker p q weaker [] all = refl
-all_weaker p q weaker (x ∷ xs) all = let h = and_parts (p x) _ all in and_from (q x) _ (weaker x h.0) (all_weaker p q weaker xs h.1)
+all_weaker p q weaker (x ∷ xs) all = let h = and_parts (p x) _ all in and_from (q x) _ (weaker x h.0)
+    (all_weaker p q weaker xs h.1)
 
 pub nodes_range : (cpus : List CpuRow) → list_all is_cpu cpus ≡ true → nodes_in_range cpus ≡ true
 nodes_range cpus all = all_weaker is_cpu (λ row. nat_lt row.node 16) (λ row h. (and_parts _ _ h).1) cpus all

@@ -1,4 +1,5 @@
 -- What was read is sound, from nothing on and with each good line.
+-- For `lines_from`; cited by `lb_read` too.
 use Rattle.std.proofs.Common.{◌≡◌, ℕ, ◌≤◌, false, List, [], length, Option, Some, None, Ok, refl, sym, subst, arith}
 use Rattle.lb_text.specs.declared.marks.TheConstants.{COMMA}
 use Rattle.lb_fields.specs.Pieces.{pieces}

@@ -1,5 +1,6 @@
 -- What was read stays sound with one of the other lines of the header: partition masks, the number of
 -- lanes, or a task.
+-- For the lemmas of `SoundFacts` and `SoundRows`, and so for the law `accepted`.
 use Rattle.std.proofs.Common.{◌≡◌, ℕ, ◌+◌, ◌<◌, ◌≤◌, ◌^◌, true, false, not, List, length, Option, Some, None, refl, ap, arith}
 use Rattle.std.specs.Prelude.{is_some, is_none}
 use Rattle.std.proofs.lemmas.Bool.{and_parts, and_from, or_parts, lt-ltb, le-leb, ltb-true, leb-true, eqb-true, not-false, both_ways, not_from_false}
@@ -54,7 +55,8 @@ sound_parts r fields few h good =
     }
 
 -- ---- the number of lanes
-pub sound_lanes : (r : Reading) (fields : List (List ℕ)) → IsSound r → IsGood r kinds.Lanes fields → IsSound (after r kinds.Lanes fields)
+pub sound_lanes : (r : Reading) (fields : List (List ℕ)) → IsSound r → IsGood r kinds.Lanes fields
+    → IsSound (after r kinds.Lanes fields)
 sound_lanes r fields h good =
     let place = and_parts _ _ good.stands in
     let lanes = none_there r.lanes place.1 in
@@ -76,7 +78,8 @@ task_in r fields good =
     (not_from_false _ mask.0)) (not-false _ mask.1))
     (list_in 4 fields)
 
-pub sound_task : (r : Reading) (fields : List (List ℕ)) → IsSound r → IsGood r kinds.Task fields → IsSound (after r kinds.Task fields)
+pub sound_task : (r : Reading) (fields : List (List ℕ)) → IsSound r → IsGood r kinds.Task fields
+    → IsSound (after r kinds.Task fields)
 sound_task r fields h good =
     let room = and_parts _ _ good.stands in
     let place = and_parts _ _ room.0 in
@@ -90,5 +93,6 @@ sound_task r fields h good =
         most = omega (arith, longer, ltb-true _ _ room.1);
         all = all_push (is_task (length r.cpus)) r.tasks (task_of fields) h.tasks.all (task_in r fields good);
       };
-      rows = no_rows (trace_of (after r kinds.Task fields)).header (is_some r.lanes) r.rows (nil_from_length r.rows (eqb-true _ _ place.1));
+      rows = no_rows (trace_of (after r kinds.Task fields)).header (is_some r.lanes) r.rows
+          (nil_from_length r.rows (eqb-true _ _ place.1));
     }

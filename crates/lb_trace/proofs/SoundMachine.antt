@@ -1,4 +1,5 @@
 -- What was read stays sound with a line of the machine: a CPU, or a node's distances.
+-- For the lemmas of `AcceptedFacts` and `SoundFacts`, and so for the law `accepted`.
 use Rattle.std.proofs.Common.{◌≡◌, ℕ, ◌+◌, ◌<◌, ◌≤◌, Bool, true, false, ◌&&◌, not, nat_lt, List, [], ◌∷◌, ◌++◌, length, arith}
 use Rattle.std.specs.Prelude.{is_some}
 use Rattle.std.proofs.lemmas.Bool.{and_parts, and_from, or_parts, lt-ltb, ltb-true, eqb-true, eqb-false, eq-eqb, not-true, not-false}
@@ -53,7 +54,8 @@ cpu_in r fields good =
     (at_most (number (cache_in fields)) MAX_CORE (number_in 3 0 MAX_CORE fields cache.1).1))
     (at_most (number (node_in fields)) 15 (number_in 4 0 15 fields node.1).1)
 
-pub sound_cpu : (r : Reading) (fields : List (List ℕ)) → IsSound r → IsGood r kinds.Cpu fields → IsSound (after r kinds.Cpu fields)
+pub sound_cpu : (r : Reading) (fields : List (List ℕ)) → IsSound r → IsGood r kinds.Cpu fields
+    → IsSound (after r kinds.Cpu fields)
 sound_cpu r fields h good =
     let place = and_parts _ _ good.stands in
     let none : length r.distances ≡ 0 = eqb-true _ _ place.0 in
@@ -83,7 +85,8 @@ nested_there : (whole nested : Bool) → (whole && not nested) ≡ false → who
 nested_there true nested good e = not-false nested good
 nested_there false nested good e = absurd (cc)
 
-pub sound_dist : (r : Reading) (fields : List (List ℕ)) → IsSound r → IsGood r kinds.Dist fields → IsSound (after r kinds.Dist fields)
+pub sound_dist : (r : Reading) (fields : List (List ℕ)) → IsSound r → IsGood r kinds.Dist fields
+    → IsSound (after r kinds.Dist fields)
 sound_dist r fields h good =
     let room = ltb-true _ _ good.stands in
     let yet = no_machine r room in

@@ -1,4 +1,5 @@
--- What was read stays sound with a row.
+-- What was read of a trace keeps its limits (`IsSound`) as one good line of a row is added.
+-- For the lemmas of `SoundFacts`, and so for the law `accepted`.
 use Rattle.std.proofs.Common.{◌≡◌, ℕ, ◌≤◌, Bool, true, false, ◌||◌, not, List, length, refl, arith}
 use Rattle.std.proofs.lemmas.Bool.{and_from, or_parts, leb-true, leb-false, le-leb, not-false, both_ways}
 use Rattle.std.proofs.lemmas.List.{length_push}
@@ -44,7 +45,8 @@ row_in r kind fields few good =
     (le-leb (number (moment_in fields)) MAX_MOMENT (number_in 2 0 MAX_MOMENT fields numbers.1).1))
     (command_in r kind fields few good)
 
-ticks_in : (r : Reading) (kind : RowKind) (fields : List (List ℕ)) → IsGood r (kinds.Row kind) fields → Agrees (row_of kind fields) r.rows
+ticks_in : (r : Reading) (kind : RowKind) (fields : List (List ℕ)) → IsGood r (kinds.Row kind) fields
+    → Agrees (row_of kind fields) r.rows
 unfolding is_ticked_beside
 ticks_in r rows.Wake fields good = quiet_agrees _ r.rows refl
 ticks_in r rows.Sleep fields good = quiet_agrees _ r.rows refl

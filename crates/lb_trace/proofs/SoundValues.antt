@@ -1,4 +1,5 @@
 -- The ranges of what the fields of a good line say.
+-- For the lemmas of `SoundFacts`, `SoundHeader` and other files, and so for the law `accepted`.
 use Rattle.std.proofs.Common.{◌≡◌, ℕ, zero, suc, ℤ, pos, neg_ℤ, ◌+◌, ◌-◌, ◌≤◌, Bool, true, false, ◌&&◌, nat_le, ◌==◌, cond, List, [], ◌∷◌, length, drop, map, Option, Some, None, IfSome, refl, ◌∙◌, arith, length-drop}
 use Rattle.std.specs.Prelude.{is_none, option_and_then}
 use Rattle.std.specs.List.{list_all}
@@ -34,7 +35,8 @@ within_is least most text = both (is_numeral text) (nat_le least (digits_value 1
     both true false c h = tt
     both false b c h = tt
 
-then_is : {A B : Type 0} (P : B → Type 0) (o : Option A) (f : A → Option B) → ((a : A) → IfSome (f a) P) → IfSome (option_and_then f o) P
+then_is : {A B : Type 0} (P : B → Type 0) (o : Option A) (f : A → Option B) → ((a : A) → IfSome (f a) P)
+    → IfSome (option_and_then f o) P
 then_is P None f each = tt
 then_is P (Some a) f each = each a
 
@@ -109,8 +111,14 @@ length-masks_from i fields = length-map (drop i fields) (λ field. list (list_of
 
 -- ---- distances
 pub length-distances_in : (fields : List (List ℕ)) → length (distances_in fields) ≡ length fields - 1
-length-distances_in fields = length-map (drop 1 fields) (λ field. number (number_within 1 MAX_DISTANCE field)) ∙ length-drop 1 fields
+length-distances_in fields = length-map (drop 1 fields) (λ field. number (number_within 1 MAX_DISTANCE field)) ∙
+    length-drop 1 fields
 
 -- ---- how many
 pub few_fields : (mark : ℕ) (line : List ℕ) → length (pieces mark line) ≤ length line + 1
-few_fields mark line = omega (arith, length-slice_split (λ byte. byte == mark) line, count_by-le-length (λ byte. byte == mark) line)
+few_fields mark line = omega (
+  arith,
+  length-slice_split (λ byte. byte == mark) line,
+  count_by-le-length
+      (λ byte. byte == mark) line,
+)

@@ -1,4 +1,5 @@
 -- The length of a text: past the limit it is refused as a whole, and no line is longer than its text.
+-- For the lemmas of `AcceptedFacts` and `FirstBadLaws`, and so for the laws `accepted` and `first_bad`.
 use Rattle.std.proofs.Common.{◌≡◌, ℕ, ◌+◌, ◌<◌, ◌≤◌, true, nat_le, ◌==◌, List, [], ◌∷◌, length, Ok, Err, refl, arith, inl, inr}
 use Rattle.std.specs.Prelude.{Result}
 use Rattle.std.specs.List.{list_all, onto_first}
@@ -29,7 +30,8 @@ pub some_line : (mark : ℕ) (text : List ℕ) → 0 < length (pieces mark text)
 some_line mark text = omega (arith, length-slice_split (λ byte. byte == mark) text)
 
 onto_short : (byte most : ℕ) (ps : List (List ℕ)) → 0 < most
-    → list_all (λ part. nat_le (length part + 1) most) ps ≡ true → list_all (λ part. nat_le (length part) most) (onto_first byte ps) ≡ true
+    → list_all (λ part. nat_le (length part + 1) most) ps ≡ true → list_all (λ part. nat_le (length part) most)
+    (onto_first byte ps) ≡ true
 onto_short byte most [] some short = and_from _ _ (le-leb 1 most some) refl
 onto_short byte most (p ∷ ps) some short =
     let each = and_parts _ _ short in

@@ -1,4 +1,5 @@
--- The lanes that tick, with a row more.
+-- Which lane ticked each CPU, with one row more: as the reader keeps it, and as the list of rows says it.
+-- For `Reading::tick_line`, `Reading::row_line`, `Reading::line_of` and `none_ticked`.
 use Rattle.std.proofs.Common.{◌≡◌, ℕ, ◌<◌, ◌==◌, Bool, true, false, not, ◌&&◌, ◌||◌, List, [], ◌∷◌, ◌++◌, length, length-set, Option, Some, None, OnOk, Ok, Err, inl, inr, refl, sym, ap, subst, ◌∙◌, arith}
 use Rattle.std.specs.Prelude.{Result}
 use Rattle.std.specs.List.{slice_index_or, slice_set, list_any}
@@ -51,7 +52,8 @@ one_lane : (ticking : Option ℕ) (own lane : ℕ) → is_other ticking own ≡ 
     → (is_other ticking lane || not (own == lane)) ≡ not (own == lane)
 one_lane None own lane e = refl
 one_lane (Some first) own lane e =
-    ap (λ (l : ℕ). not (l == lane) || not (own == lane)) (eqb-true first own (not-false (first == own) e)) ∙ both_or (not (own == lane))
+    ap (λ (l : ℕ). not (l == lane) || not (own == lane)) (eqb-true first own (not-false (first == own) e)) ∙ both_or
+    (not (own == lane))
   where
     both_or : (b : Bool) → (b || b) ≡ b
     both_or true = refl
@@ -74,13 +76,16 @@ one_tick rows ticked cpu lane at within are same other by lt =
       | inr there ↦
           ap (λ (b : Bool). is_ticked_beside rows other by || (b && not (lane == by))) (ne_eqb cpu other there)
           ∙ (or-false (is_ticked_beside rows other by)
-          ∙ (known ∙ sym (ap (λ (o : Option ℕ). is_other o by) (get_or-set_other ticked cpu other (Some lane) None (λ e. there (sym e))))))
+          ∙ (known ∙ sym (ap (λ (o : Option ℕ). is_other o by)
+          (get_or-set_other ticked cpu other (Some lane) None (λ e. there (sym e))))))
     ]
 
 -- ---- a line more
 -- where a good line would leave the lanes that tick, a step does
-keeps : {A : Type 0} (kind : LineKind) (fields : List (List ℕ)) (old new : Reading) (ticked : List (Option ℕ)) (result : Result A LineError)
-    → AreTicked (after old kind fields).rows ticked → TakesLine kind fields old new result → OnOk result (AreTicked new.rows ticked)
+keeps : {A : Type 0} (kind : LineKind) (fields : List (List ℕ)) (old new : Reading) (ticked : List (Option ℕ))
+    (result : Result A LineError)
+    → AreTicked (after old kind fields).rows ticked → TakesLine kind fields old new result
+    → OnOk result (AreTicked new.rows ticked)
 keeps kind fields old new ticked (Ok a) are step =
     subst (λ (read : Reading). AreTicked read.rows ticked)
     (sym (passes (value_tests old kind fields) (after old kind fields) new step).same) are
@@ -93,7 +98,8 @@ is_row_kind kind = false
 
 pub keeps_above : {A : Type 0} (kind : LineKind) (fields : List (List ℕ)) (old new : Reading)
     (ticked : List (Option ℕ)) (result : Result A LineError)
-    → is_row_kind kind ≡ false → AreTicked old.rows ticked → TakesLine kind fields old new result → OnOk result (AreTicked new.rows ticked)
+    → is_row_kind kind ≡ false → AreTicked old.rows ticked → TakesLine kind fields old new result
+    → OnOk result (AreTicked new.rows ticked)
 keeps_above kinds.Version fields old new ticked result other are step = keeps kinds.Version fields old new ticked result are step
 keeps_above kinds.Cpu fields old new ticked result other are step = keeps kinds.Cpu fields old new ticked result are step
 keeps_above kinds.Dist fields old new ticked result other are step = keeps kinds.Dist fields old new ticked result are step

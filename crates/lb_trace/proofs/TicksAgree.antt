@@ -1,4 +1,5 @@
 -- Rows that tick one CPU are of one lane, and stay so with a row more.
+-- For the lemmas of `SoundRows`, and so for the law `accepted`.
 use Rattle.std.proofs.Common.{◌≡◌, ℕ, Bool, true, false, ◌&&◌, ◌||◌, not, ◌==◌, List, [], ◌∷◌, ◌++◌, refl, sym, inl, inr}
 use Rattle.std.specs.List.{list_all, list_any}
 use Rattle.std.proofs.lemmas.Bool.{and_parts, and_from, and_cases, or_parts, or_right, eqb-true, eqb-false, eq-eqb, ne_eqb, not-false}
@@ -19,7 +20,8 @@ agrees_none row = record { with_each = refl; by_each = refl }
 
 pub agrees_more : (row other : Row) (rows : List Row) → agree row other ≡ true → agree other row ≡ true
     → Agrees row rows → Agrees row (other ∷ rows)
-agrees_more row other rows one back rest = record { with_each = and_from _ _ one rest.with_each; by_each = and_from _ _ back rest.by_each }
+agrees_more row other rows one back rest = record
+    { with_each = and_from _ _ one rest.with_each; by_each = and_from _ _ back rest.by_each }
 
 -- ---- a row that is no tick
 abbrev pub is_tick : Command → Bool
@@ -64,7 +66,8 @@ not_so : (test lane : Bool) → test ≡ false → (not test || lane) ≡ true
 not_so test lane e = rw e refl
 
 tick_agree : (cpu lane other : ℕ) (command : Command) → (ticks_cpu cpu command && not (other == lane)) ≡ false
-    → ((not (ticks_cpu cpu command) || lane == other) ≡ true) × ((not (both_tick command (commands.Tick cpu)) || other == lane) ≡ true)
+    → ((not (ticks_cpu cpu command) || lane == other) ≡ true) ×
+    ((not (both_tick command (commands.Tick cpu)) || other == lane) ≡ true)
 tick_agree cpu lane other (commands.Tick ticked) beside = elim (and_cases (ticked == cpu) (not (other == lane)) beside) [
   | inl different ↦ (not_so _ _ different, not_so _ _ (ne_eqb cpu ticked (λ same. eqb-false ticked cpu different (sym same))))
   | inr not_beside ↦ let same = eqb-true other lane (not-false _ not_beside) in
@@ -89,7 +92,8 @@ tick_agrees cpu at lane (other ∷ rows) beside =
 self_agrees : (row : Row) → agree row row ≡ true
 self_agrees row = or_right _ _ (eq-eqb row.lane row.lane refl)
 
-pub ticks_agree_push : (rows : List Row) (row : Row) → ticks_agree rows ≡ true → Agrees row rows → ticks_agree (rows ++ row ∷ []) ≡ true
+pub ticks_agree_push : (rows : List Row) (row : Row) → ticks_agree rows ≡ true → Agrees row rows
+    → ticks_agree (rows ++ row ∷ []) ≡ true
 ticks_agree_push rows row all one =
     all_push (λ a. list_all (agree a) (rows ++ row ∷ [])) rows row (each rows all one.by_each)
     (all_push (agree row) rows row one.with_each (self_agrees row))

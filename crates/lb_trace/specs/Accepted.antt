@@ -1,5 +1,6 @@
 -- What an accepted trace keeps to: the ranges of its numbers, a machine and masks without a fault, and
 -- rows that name what is declared alone. What a list keeps to is a test of each item.
+-- Cited by the law `accepted`, and `is_nested` and `Header::machine`; also by `lb`, `lb_act` and other crates.
 use Rattle.std.specs.Prelude.{◌≡◌, ℕ, ℤ, pos, negsuc, ◌<◌, ◌≤◌, ◌^◌, ◌==◌, nat_lt, nat_le, Bool, true, false, not, ◌&&◌, ◌||◌, List, [], ◌∷◌, length, None, is_none}
 use Rattle.std.specs.List.{list_all}
 use Rattle.lb_base.specs.declared.mask.Mask.{Mask}

@@ -1,4 +1,5 @@
 -- The words that are printed for the codes of refusals.
+-- Cited by the contract of `Code::word`; also by `lb`.
 use Rattle.std.specs.Prelude.{ℕ, List, codes}
 use Rattle.lb_trace.specs.declared.trace.Code.{Code}
 use Rattle.lb_trace.specs.declared.trace.Code.TheVariants as bad

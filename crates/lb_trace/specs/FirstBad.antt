@@ -1,5 +1,6 @@
 -- Which line of a text is the first bad one, and which of its codes is the first: the tests of each line
 -- stand by themselves, after what the lines before it say.
+-- Cited by the law `first_bad`; also by `lb_generator` and `lb_read`.
 use Rattle.std.specs.Prelude.{◌≡◌, ℕ, ◌+◌, ◌<◌, ◌≤◌, ◌==◌, ◌⊎◌, ◌↔◌, Bool, true, false, List, [], ◌∷◌, ◌++◌, length, take, drop, fold, if◌then◌else◌, Result, Ok, Err, is_ok}
 use Rattle.std.specs.List.{list_any}
 use Rattle.lb_text.specs.declared.marks.TheConstants.{LINE_FEED}

@@ -1,5 +1,7 @@
 -- The text of a trace, line after line: what was read with a line more, and which trace the whole text
 -- is, or its first bad line and that line's code.
+-- Cited by the law `accepted`, and `Reading::cpu_line`, `Reading::dist_line` and others; also by `lb`, `lb_generator`
+-- and `lb_read`.
 use Rattle.std.specs.Prelude.{◌≡◌, ℕ, ◌+◌, ◌==◌, nat_le, Bool, true, false, List, [], ◌∷◌, ◌++◌, length, if◌then◌else◌, Option, Some, None, unwrap_or, Result, Ok, Err}
 use Rattle.lb_base.specs.Mask.{first_cpus}
 use Rattle.lb_text.specs.declared.marks.TheConstants.{COMMA, LINE_FEED}

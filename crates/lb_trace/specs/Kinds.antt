@@ -1,4 +1,5 @@
 -- The kinds of line, and the words that name them: the first field of a line is the word of its kind.
+-- Cited by the contracts of `line_kind`, `kind_named` and `Reading::kind_line`; also by `lb_generator` and `lb_read`.
 use Rattle.std.specs.Prelude.{ℕ, List, [], ◌∷◌, codes, if◌then◌else◌, Option, Some, None, option_and_then}
 use Rattle.std.specs.Str.{bytes_eq}
 use Rattle.csv.specs.Records.{field_at}

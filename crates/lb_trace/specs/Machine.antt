@@ -1,6 +1,7 @@
 -- Lines that no machine has: a CPU that shares with an earlier one a core and not all above it, or a
 -- cache and not the node; distances that cannot stand below those of earlier nodes; and, at the last
 -- node, nodes that are not nested.
+-- For the definitions of `Tests`, and so for the laws `first_bad` and `accepted`.
 use Rattle.std.specs.Prelude.{ℕ, ◌==◌, Bool, false, not, ◌&&◌, List, [], ◌∷◌, ◌++◌, length}
 use Rattle.lb_levels.specs.Rows.{cpu_clashes, is_bad_distance, is_nested}
 use Rattle.lb_levels.specs.Faults.{nodes_of}

@@ -1,6 +1,7 @@
 -- Lines that name what they must not: an id that is not the next, a CPU, task or lane that is not
 -- declared, masks that do not part the CPUs, a task's mask that gives it no CPU of the machine, and a
 -- CPU that another lane ticks.
+-- Cited by the contract of `Reading::has_lane`; also by `lb_generator`.
 use Rattle.std.specs.Prelude.{ℕ, ◌==◌, nat_lt, Bool, false, not, ◌&&◌, ◌||◌, List, length, unwrap_or}
 use Rattle.std.specs.List.{list_any, list_all}
 use Rattle.lb_base.specs.declared.mask.Mask.{Mask}

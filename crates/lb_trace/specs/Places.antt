@@ -1,5 +1,7 @@
 -- Where a kind of line can stand: what must and must not have been read before it, and how many fields
 -- it has there. The lines stand in the order version, `cpu`, `dist`, `parts`, `lanes`, `task`, rows.
+-- Cited by the contracts of `Reading::dist_line`, `row_has_fields`, `Reading::has_machine` and others; also by
+-- `lb_generator` and `lb_read`.
 use Rattle.std.specs.Prelude.{ℕ, ◌+◌, ◌==◌, nat_lt, nat_le, Bool, false, not, ◌&&◌, List, length, is_some, is_none}
 use Rattle.lb_base.specs.declared.mask.TheConstants.{MAX_CPUS}
 use Rattle.lb_levels.specs.declared.cpu_row.CpuRow.{CpuRow}

@@ -1,6 +1,7 @@
 -- What holds of the lines that were read so far: what an accepted trace keeps to, as far as they say it,
 -- and that lines stand in their order. The contracts of Reading's functions ask for it and keep it, and lb_read's proofs cite
 -- it.
+-- Cited by the contracts of `Reading::dist_line`, `is_bad_distance`, `is_nested` and others; also by `lb_read`.
 use Rattle.std.specs.Prelude.{◌≡◌, ℕ, ◌<◌, ◌≤◌, ◌==◌, Bool, true, false, List, [], length, take, IfSome, is_some}
 use Rattle.std.specs.List.{list_all}
 use Rattle.lb_base.specs.declared.mask.Mask.{Mask}

@@ -1,5 +1,6 @@
 -- Lines whose numbers or lists are misspelt or out of range. An id, and a field that is one CPU, one
 -- task or one lane, has no bound of its own here.
+-- Cited by the contracts of `cpu_in` and `task_in`; also by `lb_generator`.
 use Rattle.std.specs.Prelude.{Bool, false, not, ◌||◌, List, ℕ, drop, is_none}
 use Rattle.std.specs.List.{list_all}
 use Rattle.lb_text.specs.Numbers.{is_number}

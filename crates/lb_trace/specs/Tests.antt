@@ -1,5 +1,7 @@
 -- The tests that a line has to pass, each with the code of a line that fails it, in the order in which
 -- the codes are tried: the first test that holds gives the line's code.
+-- Cited by the contracts of `Reading::cpu_line`, `Reading::dist_line`, `Reading::parts_line` and others; also by
+-- `lb_generator` and `lb_read`.
 use Rattle.std.specs.Prelude.{ℕ, Bool, true, not, ◌&&◌, List, [], ◌∷◌, ◌++◌, length, codes, if◌then◌else◌, Option, Some, None, is_none, Result, Ok, Err}
 use Rattle.std.specs.Str.{bytes_eq}
 use Rattle.lb_text.specs.declared.marks.TheConstants.{COMMA}

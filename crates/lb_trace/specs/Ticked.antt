@@ -1,4 +1,5 @@
 -- Which lane ticked each CPU, as it is kept beside the rows that were read.
+-- Cited by the contracts of `Reading::take_line`, `Reading::tick_line`, `none_ticked` and others.
 use Rattle.std.specs.Prelude.{◌≡◌, ℕ, ◌<◌, ◌==◌, Bool, false, not, Option, Some, None, List, length}
 use Rattle.std.specs.List.{slice_index_or}
 use Rattle.lb_trace.specs.declared.trace.Row.{Row}

@@ -1,5 +1,6 @@
 -- What the fields of a line say, by their places and ranges. Where a field is misspelt or is not there,
 -- its value is 0 or no CPU: such a line is refused before its values count.
+-- Cited by the contracts of `number_at`, `nice_at`, `list_at` and others; also by `lb_generator` and `lb_read`.
 use Rattle.std.specs.Prelude.{ℕ, ℤ, pos, ◌-◌, List, drop, map, Option, option_and_then, unwrap_or}
 use Rattle.csv.specs.Records.{field_at}
 use Rattle.lb_base.specs.declared.mask.Mask.{Mask}

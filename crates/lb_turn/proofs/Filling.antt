@@ -1,5 +1,6 @@
 -- An array that is filled from the front with the items of a list, as shapes, records and names are copied from where they
 -- stand: after one item more. For callers too.
+-- For `shapes_of`; cited by `lb_act` and `lb_cell` too.
 use Rattle.std.proofs.Common.{ℕ, ◌≡◌, ◌+◌, ◌<◌, List, [], ◌∷◌, ◌++◌, length, take, slice_set, slice_index_or, refl, sym, ◌∙◌, ap}
 use Rattle.std.proofs.lemmas.Grind.{take-set_at, take_at_read}
 

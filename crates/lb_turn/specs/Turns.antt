@@ -1,5 +1,7 @@
 -- The turn of a lane: the course, over the topology of the version that it took up; the domain whose figures
 -- are due; and what a decision about a domain asks of the figures.
+-- Cited by the contracts of `Turn::new`, `Turn::with`, `Turn::shape` and others; also by `lb_cell`, `lb_draw` and
+-- other crates.
 use Rattle.std.specs.Prelude.{◌≡◌, ℕ, ◌<◌, true, false, List, length}
 use Rattle.lb_base.specs.declared.figure.Fig.{Fig}
 use Rattle.lb_base.specs.Mask.{has}

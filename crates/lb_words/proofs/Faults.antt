@@ -1,5 +1,6 @@
 -- What the parser finds wrong with words that are not special: for each subcommand and each number of
 -- words after it.
+-- For `work_of`.
 use Rattle.std.proofs.Common.{◌≡◌, ℕ, Bool, true, false, ◌==◌, List, [], ◌∷◌, ◌++◌, Some, None, refl, ◌∙◌, codes, append_assoc}
 use Rattle.std.proofs.lemmas.List.{append-nil}
 use Rattle.std.specs.Str.{bytes_eq}

@@ -1,4 +1,5 @@
 -- What the parser's matches hold, in the words of its specification.
+-- For `work_read` and `work_found`.
 use Rattle.std.proofs.Common.{◌≡◌, List, Option, Some, None, refl}
 use Rattle.std.specs.Prelude.{option_map}
 use Rattle.std.specs.Box.{box_value}

@@ -1,4 +1,5 @@
 -- The parser takes exactly the words that are a command, and what it finds there is that command's work.
+-- For `work_of`.
 use Rattle.std.proofs.Common.{◌≡◌, ℕ, Bool, true, false, ◌==◌, List, [], ◌∷◌, Option, Some, None, refl, sym, subst, ◌∙◌, codes, inl, inr}
 use Rattle.std.proofs.lemmas.Bool.{cases_Bool, eqb-true}
 use Rattle.std.specs.Prelude.{◌||◌, ◌&&◌, ◌⊎◌, if◌then◌else◌, option_and_then}
@@ -132,7 +133,8 @@ check_found = refl
 -- words of which the first is no command
 no_command : (w : Text) (rest : List Text)
     → bytes_eq w (codes "step") ≡ false → bytes_eq w (codes "run") ≡ false → bytes_eq w (codes "topo") ≡ false
-    → bytes_eq w (codes "check") ≡ false → bytes_eq w (codes "gen") ≡ false → bytes_eq w (codes "sum") ≡ false → work_of (w ∷ rest) ≡ None
+    → bytes_eq w (codes "check") ≡ false → bytes_eq w (codes "gen") ≡ false → bytes_eq w (codes "sum") ≡ false
+    → work_of (w ∷ rest) ≡ None
 unfolding work_of
 no_command w [] step run topo check gen sum = rw (step, run, topo, check) refl
 no_command w (x ∷ []) step run topo check gen sum = refl
@@ -141,7 +143,8 @@ no_command w (x ∷ y ∷ z ∷ more) step run topo check gen sum = refl
 
 other : (w : Text) (rest : List Text) → is_dashed w ≡ false
     → bytes_eq w (codes "step") ≡ false → bytes_eq w (codes "run") ≡ false → bytes_eq w (codes "topo") ≡ false
-    → bytes_eq w (codes "check") ≡ false → bytes_eq w (codes "gen") ≡ false → bytes_eq w (codes "sum") ≡ false → Verdict (w ∷ rest)
+    → bytes_eq w (codes "check") ≡ false → bytes_eq w (codes "gen") ≡ false → bytes_eq w (codes "sum") ≡ false
+    → Verdict (w ∷ rest)
 other w rest e step run topo check gen sum =
     refused _ _ _
     (unknown w rest e (turned w (codes "step") step) (turned w (codes "run") run) (turned w (codes "topo") topo)

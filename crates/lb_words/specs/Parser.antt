@@ -1,5 +1,6 @@
 -- The program's parser as `clap` has it: a simple command with one level of subcommands, of which `gen`
 -- and `sum` have two values; and the work that is read from what it finds.
+-- Cited by the contracts of `parser`, `work_of`, `value` and others.
 use Rattle.std.specs.Prelude.{Bool, true, false, ◌||◌, ◌==◌, List, [], ◌∷◌, codes, if◌then◌else◌, Option, Some, None, option_and_then}
 use Rattle.std.specs.Str.{bytes_eq}
 use Rattle.clap.specs.Words.{App, Row, Rule, Text, first_of, new_app, new_rule, with_rule, with_subcommand}

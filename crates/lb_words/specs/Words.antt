@@ -1,5 +1,6 @@
 -- What the words of a command line ask for: a word alone, or a word with two numbers, NUMBER and ROWS.
 -- All other words are no command.
+-- Cited by the contracts of `work_of`, `generated`, `work_read` and `work_found`; also by `lb`.
 use Rattle.std.specs.Prelude.{ℕ, ◌≤◌, List, [], ◌∷◌, codes, if◌then◌else◌, Option, Some, None, option_and_then}
 use Rattle.std.specs.Str.{bytes_eq}
 use Rattle.lb_text.specs.Numbers.{number_of}

@@ -1,3 +1,5 @@
+-- For `active_pick` of src/lib.rt: the task that a push to the CPU `to` takes: the id of the one nearest the
+-- back whose mask has `to`, or None where there is none.
 use Rattle.std.proofs.Common.{rules, tests, sym, ◌∙◌, ap}
 use Rattle.std.specs.Prelude.{option_map}
 use Rattle.std.proofs.lemmas.Iterator.Search.{find_from_yields_List}

@@ -1,3 +1,6 @@
+-- For `idle_average` of src/lib.rt: the average idle time of a CPU after it was idle for `sample`, both in
+-- nanoseconds: it goes an eighth of the way to the sample, and is at most [`MAX_AVERAGE`]
+-- (docs/rules/counters.md).
 use Rattle.std.proofs.Common.{arith, rules}
 use Rattle.lb_newidle.proofs.Averages.{average_above, average_below}
 use Rattle.lb_newidle.proofs.idle_average.Goals as goal

@@ -1,3 +1,5 @@
+-- For `turns` of src/lib.rt: the CPUs for which a kick starts a turn: those of `span` whose figure has the
+-- tickless flag.
 use Rattle.std.proofs.Common.{◌≡◌, ◌^◌, ◌<◌, ◌&&◌, arith, rules, sym, ◌∙◌, inl, inr}
 use Rattle.std.proofs.lemmas.Bool.{cases_lt, lt-ltb, le-ltb, and_left}
 use Rattle.lb_base.specs.Mask.{has}

@@ -1,3 +1,5 @@
+-- The loops of `turns` of src/lib.rt: the CPUs for which a kick starts a turn: those of `span` whose figure
+-- has the tickless flag.
 use Rattle.std.proofs.Common.{◌≡◌, ℕ, nat_lt, ◌&&◌}
 use Rattle.lb_base.specs.Mask.{has}
 use Rattle.lb_base.specs.Figures.{fig_at, is_tickless}

@@ -1,3 +1,7 @@
+-- For `histories_are_sound` of src/laws.rt: of each history of a trace that was read: after each entry every
+-- task stands at one place, where it may run unless it is asked to leave; each look takes what the rules
+-- pick, and each row has its reply; what the entries say is in range, and its text reads as it, and as
+-- nothing else (docs/rules/legality.md).
 use Rattle.lb.proofs.Sound.{sound}
 use Rattle.lb.proofs.laws.histories_are_sound.Goals as goal
 

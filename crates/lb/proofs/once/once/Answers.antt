@@ -1,3 +1,4 @@
+-- For `once` of src/once.rt: does the work of the words on one thread, and answers how it ended.
 use Rattle.std.proofs.Common.{Option, map, ap}
 use Rattle.std.specs.Prelude.{string_bytes}
 use Rattle.lb_words.specs.declared.work.Work.{Work}

@@ -1,3 +1,5 @@
+-- For `input_of` of src/reading.rt: the input of a work: all that its source has, or nothing where it reads
+-- nothing.
 use Rattle.std.proofs.Common.{ap, Err}
 use Rattle.lb.specs.Invocation.{Stream, stream_of}
 use Rattle.lb.specs.Works.{Fails}
@@ -13,4 +15,5 @@ returns-in_err-read_all-in-Some-clause-failed g c =
     read_failed c.args.work source c.in-Some.most e.field-0.0 c.in-Some.ensures.most.1 c.in-Some.ensures.most.0
     (λ is. e.ensures.fault (ap Err is)) (λ is. e.ensures.too_long (ap Err is))
     in
-    made_into c.from_residual.result (status_of_read_error e.field-0.0) (λ s. Fails c.args.work source s) c.from_residual.ensures.1 fails
+    made_into c.from_residual.result (status_of_read_error e.field-0.0) (λ s. Fails c.args.work source s)
+    c.from_residual.ensures.1 fails

@@ -1,3 +1,5 @@
+-- For `run` of src/run.rt: does the work of `run`, and answers how it ended, if it ends: it waits for the
+-- threads that it starts.
 use Rattle.std.proofs.Common.{Some, refl}
 use Rattle.lb_words.specs.declared.work.Work.TheVariants.{Run}
 use Rattle.lb.specs.Invocation.{Stream, stream_of}

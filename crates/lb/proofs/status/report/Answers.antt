@@ -1,3 +1,6 @@
+-- For `report` of src/status.rt: writes the text of a status, and answers the status that stands then: a
+-- write fault where a write failed, and want of memory where there is none for a text that names what was
+-- found.
 use Rattle.std.proofs.Common.{sym, subst}
 use Rattle.lb.specs.declared.status.Status.{Status}
 use Rattle.lb.specs.Invocation.{Stream, stream_of}

@@ -1,3 +1,5 @@
+-- For `top` of src/top.rt: all that the program does: `run` on threads, which pass the gate, and every other
+-- command on one thread.
 use Rattle.std.proofs.Common.{None, map, refl}
 use Rattle.std.specs.Prelude.{string_bytes}
 use Rattle.lb_words.specs.Words.{work_of}

@@ -1,3 +1,5 @@
+-- For `judged_text` of src/works.rt: what `check` writes of the history that an input reads as, where it is
+-- legal.
 use Rattle.lb.proofs.works.judged_text.Goals as goal
 
 pub check-requires-clause-header : goal.check-requires-clause-header

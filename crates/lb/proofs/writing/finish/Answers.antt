@@ -1,3 +1,5 @@
+-- For `finish` of src/writing.rt: ends a call: writes what its work made of its source, or keeps the status
+-- with which it failed, and reports how the call ended.
 use Rattle.lb.proofs.Ending.{Reading}
 use Rattle.lb.proofs.Reporting.{reported, completes}
 use Rattle.lb.proofs.writing.finish.Goals as goal

@@ -1,3 +1,4 @@
+-- For `note_records` of src/hands.rt: the records of the tasks in a hand take the place of as many others.
 use Rattle.std.proofs.Common.{◌≡◌, ◌<◌, ◌+◌, length, take, sym, ap, ◌∙◌, arith}
 use Rattle.std.proofs.Math.ListN.{length-set}
 use Rattle.std.proofs.lemmas.Option.{get_or_from_slice_get}

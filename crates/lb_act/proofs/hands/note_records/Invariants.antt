@@ -1,3 +1,5 @@
+-- The loops of `note_records` of src/hands.rt: the records of the tasks in a hand take the place of as many
+-- others.
 use Rattle.std.proofs.Common.{◌≡◌, length, take}
 use Rattle.lb_act.proofs.hands.note_records.Given as goal
 

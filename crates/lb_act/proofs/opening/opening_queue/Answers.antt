@@ -1,3 +1,5 @@
+-- For `opening_queue` of src/opening.rt: the queue of a CPU before any entry: the tasks that are at home
+-- there sleep.
 use Rattle.std.proofs.Common.{◌≡◌, ◌<◌, ℕ, ℤ, pos, false, true, List, take, get_or, length, sym, ap, ◌∙◌, arith, subst}
 use Rattle.std.specs.Int.{w32}
 use Rattle.std.proofs.Math.Seq.{take-length}

@@ -1,3 +1,5 @@
+-- For `opening_queues` of src/opening.rt: the queues of all CPUs before any entry, in their order: the tasks
+-- that are at home at each sleep there.
 use Rattle.std.proofs.Common.{ℕ, List, [], ◌∷◌, ◌++◌, map, ap, sym, ◌∙◌, rules, arith}
 use Rattle.std.specs.List.{range_with_len}
 use Rattle.std.proofs.lemmas.List.FromFn.{map-range_with_len_more}

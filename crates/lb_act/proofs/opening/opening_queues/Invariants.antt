@@ -1,3 +1,5 @@
+-- The loops of `opening_queues` of src/opening.rt: the queues of all CPUs before any entry, in their order:
+-- the tasks that are at home at each sleep there.
 use Rattle.std.proofs.Common.{◌≡◌, ◌≤◌, length, map, vec_capacity}
 use Rattle.std.specs.List.{range_with_len}
 use Rattle.lb_core.specs.Machine.{opening_queue}

@@ -1,3 +1,5 @@
+-- For `picks_of` of src/pulls.rt: what a pull picks at a queue at the moment `at` (ns), in lists that have
+-- room for the take itself.
 use Rattle.std.proofs.Common.{rules, length, ap}
 use Rattle.lb_act.proofs.Lists.{views_length}
 use Rattle.lb_act.proofs.pulls.picks_of.Goals as goal

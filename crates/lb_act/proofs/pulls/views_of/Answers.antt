@@ -1,3 +1,5 @@
+-- For `views_of` of src/pulls.rt: the awake tasks of a queue from the front to the back, as a pull sees them
+-- at the moment `at` (ns).
 use Rattle.std.proofs.Common.{arith, ◌∙◌, sym, ap, List, [], ◌∷◌, ◌++◌, ◌≡◌, ℕ, take, length}
 use Rattle.lb_base.specs.declared.view.TaskView.{TaskView}
 use Rattle.std.proofs.Math.Seq.{take-length}

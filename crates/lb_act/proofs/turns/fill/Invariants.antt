@@ -1,3 +1,4 @@
+-- The loops of `fill` of src/turns.rt: as many counters as there are take the place of others.
 use Rattle.std.proofs.Common.{◌≡◌, length, take}
 use Rattle.lb_act.proofs.turns.fill.Given as goal
 

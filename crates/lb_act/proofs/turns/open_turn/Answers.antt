@@ -1,3 +1,5 @@
+-- For `open_turn` of src/turns.rt: a lane's turn opens at a queue with these positions, and the course notes
+-- the counters that it found there.
 use Rattle.std.proofs.Common.{◌≡◌, Bool, List, [], if◌then◌else◌, length, unwrap_or, ap, sym, ◌∙◌}
 use Rattle.lb_interval.specs.declared.Counters.{Counters}
 use Rattle.lb_base.specs.Sets.{least}

@@ -1,3 +1,5 @@
+-- For `refuse_turn` of src/turns.rt: a lane's turn is refused at a queue where one is open, and ends for the
+-- course.
 use Rattle.std.proofs.Common.{Bool, if◌then◌else◌, ap, ◌∙◌}
 use Rattle.lb_queue.specs.Turns.{opened, shut, turn}
 use Rattle.lb_act.proofs.turns.refuse_turn.Goals as goal

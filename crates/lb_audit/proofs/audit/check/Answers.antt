@@ -1,3 +1,5 @@
+-- For `check` of src/audit.rt: whether a history that was read from a text is legal, or its first fault
+-- (docs/rules/legality.md).
 use Rattle.std.proofs.Common.{refl, sym, ◌∙◌, ap}
 use Rattle.lb_core.specs.Machine.{MachineState}
 use Rattle.lb_audit.proofs.Steps.{verdict_from, steps}

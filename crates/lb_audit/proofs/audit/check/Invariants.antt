@@ -1,3 +1,5 @@
+-- The loops of `check` of src/audit.rt: whether a history that was read from a text is legal, or its first
+-- fault (docs/rules/legality.md).
 use Rattle.std.proofs.Common.{◌≡◌, ◌+◌, drop}
 use Rattle.lb_audit.specs.Verdict.{verdict_of}
 use Rattle.lb_audit.proofs.Steps.{verdict_from}

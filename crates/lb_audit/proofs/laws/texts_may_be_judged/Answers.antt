@@ -1,3 +1,5 @@
+-- For `texts_may_be_judged` of src/laws.rt: what a text reads as may be judged: its header is that of an
+-- accepted trace, and what its entries say is in range.
 use Rattle.std.proofs.Common.{◌≡◌, ℕ, Result, Ok, Err, refl, subst}
 use Rattle.lb_trace.specs.declared.trace.Code.{Code}
 use Rattle.lb_trace.specs.declared.trace.Header.{Header}

@@ -1,3 +1,6 @@
+-- For `verdicts_are_exact` of src/laws.rt: a history that was read is called legal exactly where its tickets
+-- are the places of its entries and these are a legal history; and it is refused with a ticket and a rule
+-- exactly where that is its first fault.
 use Rattle.lb_audit.proofs.Faults.{legal_exactly, fault_exactly, own_verdict}
 use Rattle.lb_audit.proofs.laws.verdicts_are_exact.Goals as goal
 

@@ -1,3 +1,5 @@
+-- For `new_holder` of src/board.rt: a further holder of a writer's cell, which has seen what the writer has
+-- published.
 use Rattle.std.proofs.Common.{rules}
 use Rattle.lb_board.specs.Board.{Posts}
 use Rattle.lb_seen.proofs.Steps.{forks}

@@ -1,3 +1,4 @@
+-- For `new_reader` of src/board.rt: a reader that has seen what the writers have published.
 use Rattle.std.proofs.Common.{rules, map, ap, ◌∙◌}
 use Rattle.lb_board.proofs.Sights.{same_get}
 use Rattle.lb_board.proofs.board.new_reader.Goals as goal

@@ -1,3 +1,4 @@
+-- The loops of `new_reader` of src/board.rt: a reader that has seen what the writers have published.
 use Rattle.std.proofs.Common.{◌≡◌, ◌≤◌, length, take, vec_capacity}
 use Rattle.lb_board.specs.Board.{sight_of, sight_of_all}
 use Rattle.lb_board.proofs.board.new_reader.Given as goal

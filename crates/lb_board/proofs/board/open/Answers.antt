@@ -1,3 +1,4 @@
+-- For `open` of src/board.rt: a cell with the opening figure, and the right to write it.
 use Rattle.std.proofs.Common.{rules, refl, [], ◌∷◌}
 use Rattle.lb_board.specs.Board.{Posts, opening}
 use Rattle.lb_seen.proofs.Steps.{begins}

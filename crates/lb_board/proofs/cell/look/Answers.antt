@@ -1,3 +1,4 @@
+-- For `look` of src/cell.rt: the figure that is there now, and all that were published before it are seen.
 use Rattle.std.proofs.Common.{rules}
 use Rattle.lb_board.specs.Board.{Posts}
 use Rattle.lb_seen.proofs.Steps.{looks}

@@ -1,3 +1,4 @@
+-- For `look_told` of src/cell.rt: a holder is told what another one saw, and looks.
 use Rattle.std.proofs.Common.{rules}
 use Rattle.lb_board.specs.Board.{Posts}
 use Rattle.lb_seen.proofs.Steps.{forks, merges}

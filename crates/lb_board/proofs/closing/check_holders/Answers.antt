@@ -1,3 +1,4 @@
+-- For `check_holders` of src/closing.rt: the same for each CPU.
 use Rattle.std.proofs.Common.{rules, ◌≡◌, map, ap, sym, subst, get_or, ◌∙◌}
 use mathlib.Core.List.{IsPrefix}
 use Rattle.lb_board.specs.Board.{cell_of, seen_by, seen_at, sight_of}

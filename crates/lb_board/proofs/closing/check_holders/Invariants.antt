@@ -1,3 +1,4 @@
+-- The loops of `check_holders` of src/closing.rt: the same for each CPU.
 use Rattle.std.proofs.Common.{◌≡◌}
 use Rattle.lb_board.specs.Board.{sight_of, Witnesses}
 use Rattle.lb_board.proofs.closing.check_holders.Given as goal

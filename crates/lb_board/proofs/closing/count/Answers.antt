@@ -1,3 +1,4 @@
+-- For `count` of src/closing.rt: how many figures were published, the opening ones not counted.
 use Rattle.std.proofs.Common.{rules, map, ap, ◌∙◌}
 use Rattle.lb_board.proofs.Sights.{same_get}
 use Rattle.lb_board.proofs.closing.count.Goals as goal

@@ -1,3 +1,4 @@
+-- The loops of `count` of src/closing.rt: how many figures were published, the opening ones not counted.
 use Rattle.std.proofs.Common.{◌≡◌, ◌+◌, ◌*◌, ◌≤◌, length, take}
 use Rattle.std.specs.List.{sum_by}
 use Rattle.lb_board.proofs.closing.count.Given as goal

@@ -1,3 +1,5 @@
+-- For `gather` of src/closing.rt: spends the board, its writers and its readers, and answers how many figures
+-- were published, the opening ones not counted.
 use Rattle.std.proofs.Common.{rules, ◌≡◌, ℕ, length, ap, sym, subst, get_or, arith, ◌∙◌}
 use Rattle.std.proofs.lemmas.List.{length-map}
 use mathlib.Core.Logic.{dite}

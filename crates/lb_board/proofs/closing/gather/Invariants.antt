@@ -1,3 +1,5 @@
+-- The loops of `gather` of src/closing.rt: spends the board, its writers and its readers, and answers how
+-- many figures were published, the opening ones not counted.
 use Rattle.std.proofs.Common.{◌≡◌, ℕ, ◌<◌, length, get_or}
 use Rattle.lb_board.specs.Board.{Sight, Witnesses}
 use Rattle.lb_board.proofs.closing.gather.Given as goal

@@ -1,3 +1,4 @@
+-- For `with_group` of src/group.rt: the busiest of the groups up to the i-th.
 use Rattle.std.proofs.Common.{rules, sym, ◌∙◌}
 use Rattle.lb_base.proofs.Greatest.{Picks-first, Picks-takes}
 use Rattle.lb_busiest.proofs.Order.{busier_ranking}

@@ -1,3 +1,5 @@
+-- For `busiest_group` of src/laws.rt: the busiest group is found wherever a group may be it, and there is
+-- only one.
 use Rattle.std.proofs.Common.{length, refl}
 use Rattle.lb_busiest.proofs.Order.{busiest_of_picks, busiest_of-found}
 use Rattle.lb_busiest.proofs.laws.busiest_group.Goals as goal

@@ -1,3 +1,5 @@
+-- For `source_queue` of src/laws.rt: the source queue is found wherever a CPU may be it, and there is only
+-- one.
 use Rattle.lb_busiest.proofs.Order.{source_of_picks, source_of-found}
 use Rattle.lb_busiest.proofs.laws.source_queue.Goals as goal
 

@@ -1,3 +1,5 @@
+-- For `source` of src/queue.rt: the CPU of `group` that a pull takes from, or None where no CPU of it has
+-- something to give (docs/rules/decision.md).
 use Rattle.std.proofs.Common.{◌+◌, None, arith}
 use Rattle.lb_base.specs.declared.mask.TheConstants.{MAX_CPUS}
 use Rattle.lb_base.specs.Greatest.{Picks}
@@ -35,4 +37,7 @@ pub returns : goal.returns
 returns c =
     let found : Picks (may_be_source c.args.figs.now c.args.group c.args.kind c.args.imbalance)
     (has_more c.args.figs.now c.args.kind) MAX_CPUS c.loop-next.best = rw c.in_default.is at c.loop-next.invariant in
-    record { value = source_of-found c.args.figs.now c.args.group c.args.kind c.args.imbalance c.loop-next.best found; first = found }
+    record {
+      value = source_of-found c.args.figs.now c.args.group c.args.kind c.args.imbalance c.loop-next.best found;
+      first = found;
+    }

@@ -1,3 +1,5 @@
+-- The loops of `source` of src/queue.rt: the CPU of `group` that a pull takes from, or None where no CPU of
+-- it has something to give (docs/rules/decision.md).
 use Rattle.lb_busiest.specs.Sources.{may_be_source, has_more}
 use Rattle.lb_busiest.proofs.Walk.{Walks, left}
 use Rattle.lb_busiest.proofs.queue.source.Given as goal

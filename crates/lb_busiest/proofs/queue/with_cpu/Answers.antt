@@ -1,3 +1,4 @@
+-- For `with_cpu` of src/queue.rt: the source queue among the CPUs up to `cpu`.
 use Rattle.std.proofs.Common.{rules, sym, ◌∙◌}
 use Rattle.lb_busiest.proofs.Order.{source_in}
 use Rattle.lb_busiest.proofs.queue.with_cpu.Goals as goal

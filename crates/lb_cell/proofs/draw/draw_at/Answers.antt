@@ -1,3 +1,5 @@
+-- For `draw_at` of src/draw.rt: draws an entry of a queue for a lane, and answers its ticket: the queue has
+-- made its step.
 use Rattle.lb_cell.proofs.Publishing.{next_figure}
 use Rattle.lb_cell.proofs.draw.draw_at.Goals as goal
 

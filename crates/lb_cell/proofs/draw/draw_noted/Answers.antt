@@ -1,3 +1,4 @@
+-- For `draw_noted` of src/draw.rt: draws an entry of any owner for a lane, and answers its ticket.
 use Rattle.std.proofs.Common.{subst, sym, map, length}
 use Rattle.lb_ticket.specs.Tickets.{pair}
 use Rattle.lb_journal.specs.Journal.{Fits}

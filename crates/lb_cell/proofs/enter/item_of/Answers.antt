@@ -1,3 +1,5 @@
+-- For `item_of` of src/enter.rt: the item of an entry: the course counts it as its lane's greatest number at
+-- the queue, and with that is what the entry leaves.
 use Rattle.std.proofs.Common.{◌≡◌, ◌<◌, ◌+◌, subst, sym, ap, ◌∙◌, length, map, []}
 use Rattle.lb_ticket.specs.Tickets.{pair}
 use Rattle.lb_journal.specs.Journal.{Journal, Fits, queue_by_item, replay}

@@ -1,3 +1,5 @@
+-- For `depart` of src/leaving.rt: draws the `out` of tasks that have left a queue in a hand, upon the cell
+-- and the lane as they were before.
 use Rattle.std.proofs.Common.{subst, sym, ap, ◌∙◌}
 use Rattle.lb_queue.specs.Tasks.{ids}
 use Rattle.lb_core.specs.declared.course.Course.{Course}

@@ -1,3 +1,4 @@
+-- For `name` of src/lists.rt: the ids of the tasks in a hand.
 use Rattle.std.proofs.Common.{◌≡◌, ◌<◌, ◌+◌, length, take, get_or, sym, ap, ◌∙◌, arith}
 use Rattle.std.proofs.Math.ListN.{length-set}
 use Rattle.std.proofs.lemmas.List.{length-map, get_or-map}

@@ -1,3 +1,4 @@
+-- The loops of `name` of src/lists.rt: the ids of the tasks in a hand.
 use Rattle.std.proofs.Common.{◌≡◌, length, take}
 use Rattle.lb_queue.specs.Tasks.{ids}
 use Rattle.lb_cell.proofs.lists.name.Given as goal

@@ -1,3 +1,5 @@
+-- For `enter_own` of src/own.rt: draws an entry of a lane's own list, upon the lane as it was before it, and
+-- answers its ticket: its course has made its step.
 use Rattle.std.proofs.Common.{rules, ℕ, ◌≡◌, ◌+◌, ◌<◌, subst, sym, ap, ◌∙◌, map}
 use Rattle.lb_ticket.specs.Tickets.{pair}
 use Rattle.lb_journal.specs.Journal.{Fits}

@@ -1,3 +1,6 @@
+-- For `permitted` of src/laws.rt: after every legal front of an accepted header, each awake task may run
+-- where it is or is asked to leave, and each task in a hand may run where the hand goes
+-- (docs/rules/queue.md).
 use Rattle.lb_core.proofs.Permits.{permitted_always}
 use Rattle.lb_core.proofs.Passing.{passes_always}
 use Rattle.lb_core.proofs.laws.permitted.Goals as goal

@@ -1,3 +1,6 @@
+-- For `replies` of src/laws.rt: in a legal history each row has the next number of its lane, from 1, and its
+-- reply: the lane's next entry, drawn by the queue where the row's task stands, or whose CPU it ticks, or by
+-- the publisher, with the value that the queue then answers, or with the next version.
 use Rattle.lb_core.proofs.Replies.{replies_always, next_always}
 use Rattle.lb_core.proofs.laws.replies.Goals as goal
 

@@ -1,3 +1,6 @@
+-- For `turns_fit` of src/laws.rt: after every legal front a queue's counters are as many as its CPU has
+-- domains in the version that they are kept for, and an open turn has counters and balances positions of
+-- these domains alone (docs/rules/counters.md).
 use Rattle.lb_core.proofs.Turning.{turns_fit_always}
 use Rattle.lb_core.proofs.laws.turns_fit.Goals as goal
 

@@ -1,3 +1,5 @@
+-- For `by_cpu` of src/figures.rt: the figures that were read, one for each CPU, from CPU 0. A CPU of which
+-- none was read has none.
 use Rattle.std.proofs.Common.{ℕ, ◌≡◌, ◌==◌, ◌<◌, length, find, take, map, arith, ap, sym, ◌∙◌}
 use Rattle.std.specs.List.{range_with_len}
 use Rattle.std.proofs.Math.Seq.{take-length}

@@ -1,3 +1,5 @@
+-- The loops of `by_cpu` of src/figures.rt: the figures that were read, one for each CPU, from CPU 0. A CPU of
+-- which none was read has none.
 use Rattle.std.proofs.Common.{ℕ, ◌≡◌, ◌==◌, length, take, map, find}
 use Rattle.std.specs.List.{range_with_len}
 use Rattle.lb_base.specs.declared.mask.TheConstants.{MAX_CPUS}

@@ -1,3 +1,4 @@
+-- The loops of `fig_of` of src/figures.rt: the figure of a CPU among those that were read.
 use Rattle.std.proofs.Common.{◌≡◌, ◌==◌, drop, find}
 use Rattle.lb_course.proofs.figures.fig_of.Given as goal
 

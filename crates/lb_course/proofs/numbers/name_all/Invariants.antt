@@ -1,3 +1,4 @@
+-- The loops of `name_all` of src/numbers.rt: the named numbers are the greatest now.
 use Rattle.std.proofs.Common.{◌≡◌, drop, length}
 use Rattle.lb_core.specs.CourseAfter.{raised_numbers}
 use Rattle.lb_course.proofs.numbers.name_all.Given as goal

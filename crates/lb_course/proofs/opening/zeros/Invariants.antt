@@ -1,3 +1,4 @@
+-- The loops of `zeros` of src/opening.rt: so many zeros.
 use Rattle.std.proofs.Common.{◌≡◌, replicate}
 use Rattle.lb_course.proofs.opening.zeros.Given as goal
 

@@ -1,3 +1,4 @@
+-- For `end_cell` of src/apart.rt: the cell of a CPU, out of its lock.
 use Rattle.lb_cpu.proofs.Parting.{left_cell}
 use Rattle.lb_cpu.proofs.apart.end_cell.Goals as goal
 

@@ -1,3 +1,4 @@
+-- For `end_cells` of src/apart.rt: the cells of all CPUs, out of their locks.
 use Rattle.std.proofs.Common.{ℕ, ◌≡◌, length, subst, rules, arith}
 use Rattle.lb_cpu.specs.Ends.{LeftCell}
 use Rattle.lb_cpu.proofs.Places.{three_push}

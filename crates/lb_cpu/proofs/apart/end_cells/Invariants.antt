@@ -1,3 +1,4 @@
+-- The loops of `end_cells` of src/apart.rt: the cells of all CPUs, out of their locks.
 use Rattle.std.proofs.Common.{◌≡◌, ◌+◌, ◌≤◌, length, vec_len, vec_capacity}
 use Rattle.std.specs.Vec.Iter.{into_iter_len}
 use Rattle.lb_cpu.specs.Ends.{LeftCell}

@@ -1,3 +1,5 @@
+-- For `end_lane` of src/apart.rt: what is left of a lane: its seat, its reader, its looker, its course, the
+-- ticket of its last entry, and the note of lane 0.
 use Rattle.std.proofs.Common.{length, ap, sym, ◌∙◌}
 use Rattle.lb_board.specs.Board.{Sight}
 use Rattle.lb_journal.specs.contracts.journal.Journal.{the_row}

@@ -1,3 +1,4 @@
+-- The loops of `end_lanes` of src/apart.rt: what is left of all lanes.
 use Rattle.std.proofs.Common.{◌≡◌, ◌≤◌, ◌++◌, length, map, vec_capacity}
 use Rattle.std.specs.Vec.Iter.{into_iter_items, into_iter_len}
 use Rattle.lb_journal.specs.contracts.journal.Journal.{the_row}
@@ -8,7 +9,8 @@ use Rattle.lb_cpu.proofs.apart.end_lanes.Given as goal
 
 abbrev pub invariant-loop-lane : goal.invariant-loop-lane
 invariant-loop-lane g l = record {
-  so_far : EachOfTwo (LeftLane g.N.Names.header g.N.Names.book g.N.Names.board g.N.Versions.versions the_row.coded left_row.coded) l.yielded l.seats.items;
+  so_far : EachOfTwo (LeftLane g.N.Names.header g.N.Names.book g.N.Names.board g.N.Versions.versions the_row.coded
+      left_row.coded) l.yielded l.seats.items;
   readers : l.readers.items ≡ map (λ x. x.side.known.reader) l.yielded;
   lookers : l.lookers.items ≡ map (λ x. x.looker) l.yielded;
   courses : l.courses.items ≡ map (λ x. x.side.course) l.yielded;

@@ -1,3 +1,4 @@
+-- For `close_at` of src/closing.rt: the position in work is closed.
 use Rattle.std.proofs.Common.{ap, refl}
 use Rattle.lb_journal.specs.contracts.journal.Journal.{the_row}
 use Rattle.lb_cpu.proofs.There.{drew_there}

@@ -1,3 +1,4 @@
+-- For `answer_at` of src/command.rt: a queue answers the command in service, which it may.
 use Rattle.std.proofs.Common.{ap, sym, subst}
 use Rattle.lb_queue.specs.Queue.{BookedQueue}
 use Rattle.lb_cell.specs.Commands.{CanAnswer}

@@ -1,3 +1,4 @@
+-- For `cut` of src/cut.rt: cuts up the seats of a book, of which there are 17 or more.
 use Rattle.std.proofs.Common.{List, length, ap, arith}
 use Rattle.lb_ticket.specs.Seats.{SeatIs}
 use Rattle.lb_journal.specs.Journal.{Journal}

@@ -1,3 +1,4 @@
+-- For `differ` of src/landing.rt: whether the ids of the tasks differ.
 use Rattle.std.proofs.Common.{rules, ◌≡◌, ◌∷◌, sym, subst}
 use Rattle.lb_cpu.proofs.Differing.{Differ, front}
 use Rattle.lb_cpu.proofs.landing.differ.Goals as goal

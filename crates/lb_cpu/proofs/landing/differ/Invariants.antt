@@ -1,3 +1,4 @@
+-- The loops of `differ` of src/landing.rt: whether the ids of the tasks differ.
 use Rattle.std.proofs.Common.{length}
 use Rattle.lb_cpu.proofs.Differing.{Differ}
 use Rattle.lb_cpu.proofs.landing.differ.Given as goal

@@ -1,3 +1,4 @@
+-- For `land_at` of src/landing.rt: the tasks of the lane's hand land at a queue.
 use Rattle.lb_journal.specs.contracts.journal.Journal.{the_row}
 use Rattle.lb_cpu.proofs.There.{drew_there}
 use Rattle.lb_cpu.proofs.landing.land_at.Goals as goal

@@ -1,3 +1,4 @@
+-- For `ask_at` of src/requests.rt: the source of a failed pull is asked for a push.
 use Rattle.std.proofs.Common.{ap}
 use Rattle.lb_journal.specs.contracts.journal.Journal.{the_row}
 use Rattle.lb_cpu.proofs.There.{drew_there}

@@ -1,3 +1,4 @@
+-- For `kick_at` of src/requests.rt: a tickless CPU is kicked.
 use Rattle.std.proofs.Common.{ap}
 use Rattle.lb_journal.specs.contracts.journal.Journal.{the_row}
 use Rattle.lb_cpu.proofs.There.{drew_there}

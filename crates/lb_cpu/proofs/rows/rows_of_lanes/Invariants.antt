@@ -1,3 +1,4 @@
+-- The loops of `rows_of_lanes` of src/rows.rt: the rows of each lane, in their order.
 use Rattle.std.proofs.Common.{◌≡◌, ◌≤◌, length, map, vec_capacity}
 use Rattle.std.specs.List.{range_with_len}
 use Rattle.lb_core.specs.OfTrace.{of_lane}

@@ -1,3 +1,4 @@
+-- For `serve_at` of src/serving.rt: the tasks that are due leave the queue in a hand.
 use Rattle.std.proofs.Common.{◌≡◌, ◌∙◌, Some, ap, refl, sym, subst}
 use Rattle.lb_queue.specs.Queue.{BookedQueue}
 use Rattle.lb_queue.specs.Tasks.{ids}

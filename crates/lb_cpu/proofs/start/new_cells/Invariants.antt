@@ -1,3 +1,4 @@
+-- The loops of `new_cells` of src/start.rt: the queues behind their locks, in the order of their CPUs.
 use Rattle.std.proofs.Common.{◌≡◌, ◌+◌, ◌≤◌, length, vec_len, vec_capacity}
 use Rattle.std.specs.Vec.Iter.{into_iter_items, into_iter_len}
 use Rattle.lb_cpu.specs.Blanks.{FitCpus}

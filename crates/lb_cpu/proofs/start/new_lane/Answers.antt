@@ -1,3 +1,4 @@
+-- For `new_lane` of src/start.rt: a lane before any entry.
 use Rattle.std.proofs.Common.{◌≡◌, ℕ, All, ap, sym, subst}
 use Rattle.lb_cell.specs.Cells.{LaneIs as SideIs}
 use Rattle.lb_cpu.proofs.Starting.{declared_rows}

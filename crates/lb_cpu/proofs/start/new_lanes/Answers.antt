@@ -1,3 +1,4 @@
+-- For `new_lanes` of src/start.rt: the lanes before any entry, in order.
 use Rattle.std.proofs.Common.{ℕ, ◌≡◌, ◌+◌, List, [], ◌∷◌, ◌++◌, map, length, ap, sym, subst, ◌∙◌, rules, arith}
 use Rattle.std.specs.Vec.Iter.{into_iter_items}
 use Rattle.std.proofs.lemmas.List.{append_assoc, map-append, length_push}

@@ -1,3 +1,4 @@
+-- The loops of `new_lanes` of src/start.rt: the lanes before any entry, in order.
 use Rattle.std.proofs.Common.{◌≡◌, ◌+◌, ◌≤◌, ◌++◌, length, map, vec_capacity}
 use Rattle.std.specs.Vec.Iter.{into_iter_items, into_iter_len}
 use Rattle.lb_cpu.specs.Blanks.{FitLanes}

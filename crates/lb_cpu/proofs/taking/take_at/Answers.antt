@@ -1,3 +1,4 @@
+-- For `take_at` of src/taking.rt: what the last look asks for leaves the source.
 use Rattle.std.proofs.Common.{◌≡◌, ◌∙◌, ◌<◌, false, length, ap, sym, subst}
 use Rattle.lb_queue.specs.declared.answers.OutCause.TheVariants.{Pull}
 use Rattle.lb_queue.specs.Tasks.{ids}

@@ -1,3 +1,4 @@
+-- For `leave_at` of src/waking.rt: the woken task leaves its queue in a hand.
 use Rattle.std.proofs.Common.{ap, sym, subst}
 use Rattle.lb_core.specs.declared.course.Course.{Course}
 use Rattle.lb_core.specs.declared.entry.What.TheVariants.{Out}

@@ -1,3 +1,4 @@
+-- The loops of `append_ids` of src/examination.rt: adds the ids of the tasks, in their order.
 use Rattle.std.proofs.Common.{◌≡◌, ◌+◌, ◌++◌, take, vec_len}
 use Rattle.std.specs.Prelude.{map, vec_capacity}
 use Rattle.lb_detach.proofs.examination.append_ids.Given as goal

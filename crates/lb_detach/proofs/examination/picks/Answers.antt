@@ -1,3 +1,5 @@
+-- For `picks` of src/examination.rt: fills `picked` with what the pull takes out of the list and what it
+-- leaves there.
 use Rattle.std.proofs.Common.{◌≡◌, ◌<◌, true, false, length, refl, sym, ◌∙◌, arith, rules}
 use Rattle.lb_detach.specs.Picks.{task_at, ends, picked_ids}
 use Rattle.lb_detach.proofs.Examining.{HasExamined-none, HasExamined-more, ends_is, examined_is, kept_are}

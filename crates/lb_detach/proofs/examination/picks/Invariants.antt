@@ -1,3 +1,5 @@
+-- The loops of `picks` of src/examination.rt: fills `picked` with what the pull takes out of the list and
+-- what it leaves there.
 use Rattle.std.proofs.Common.{◌≡◌, ◌-◌, ◌≤◌, length, vec_len}
 use Rattle.std.specs.Prelude.{vec_capacity}
 use Rattle.lb_detach.proofs.Examining.{HasExamined}

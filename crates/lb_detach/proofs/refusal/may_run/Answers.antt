@@ -1,3 +1,4 @@
+-- For `may_run` of src/refusal.rt: whether the mask has the CPU; it has none past the last.
 use Rattle.std.proofs.Common.{rules, ◌<◌, ◌^◌, sym}
 use Rattle.lb_base.proofs.Members.{has_above}
 use Rattle.lb_detach.proofs.refusal.may_run.Goals as goal

@@ -1,3 +1,4 @@
+-- For `domain_at` of src/build.rt: the domain of a level, if it is kept.
 use Rattle.std.proofs.Common.{◌≡◌, ℕ, ◌&&◌, Some, List, sym, ◌∙◌, ap, arith}
 use Rattle.std.specs.List.{slice_index_or}
 use Rattle.std.proofs.lemmas.Bool.{and_parts}
@@ -17,7 +18,8 @@ returns-then-not-is_kept c =
     let level = level_at c.args.machine.now.distances c.args.level in
     let span = c.step_span-span.ensures ∙ step_up c.args.machine.now.cpus c.args.machine.now.distances c.args.part
     c.args.level c.args.cpu in
-    is_dropped (step_span c.args.machine.now.cpus c.args.machine.now.distances c.args.part c.args.level) c.args.cpu c.args.below level
+    is_dropped (step_span c.args.machine.now.cpus c.args.machine.now.distances c.args.part c.args.level) c.args.cpu
+    c.args.below level
     (cut_span c.args.machine.now.cpus c.args.machine.now.distances c.args.part level c.args.cpu)
     (sym (c.if-not-is_kept.ensures ∙ ap (is_kept c.args.below) span))
 

@@ -1,3 +1,4 @@
+-- For `domains_in` of src/build.rt: the domains of a CPU within its part.
 use Rattle.std.proofs.Common.{◌≡◌, ◌+◌, List, [], ◌++◌, drop, Option, sym, ◌∙◌, ap, arith}
 use Rattle.std.specs.List.{cons_option}
 use Rattle.lb_base.specs.declared.shape.Shape.{Shape}

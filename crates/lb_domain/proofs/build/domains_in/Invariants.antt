@@ -1,3 +1,4 @@
+-- The loops of `domains_in` of src/build.rt: the domains of a CPU within its part.
 use Rattle.std.proofs.Common.{◌≡◌, ◌≤◌, ◌++◌, drop, Some}
 use Rattle.lb_levels.specs.Spans.{levels_of}
 use Rattle.lb_domain.specs.Domains.{cut_span, position_above, domains_from, domains_in}

@@ -1,3 +1,4 @@
+-- For `domains_of_all` of src/build.rt: the domains of every CPU, each within its own part.
 use Rattle.std.proofs.Common.{◌≡◌, ℕ, List, map, length, None, ◌∙◌, ap, arith}
 use Rattle.std.specs.List.{range_with_len, slice_index_or}
 use Rattle.lb_base.proofs.Ranges.{map_range_more}

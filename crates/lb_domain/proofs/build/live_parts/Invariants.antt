@@ -1,3 +1,4 @@
+-- The loops of `live_parts` of src/build.rt: the parts that have a CPU.
 use Rattle.std.proofs.Common.{◌≡◌, ◌==◌, not, filter, take}
 use Rattle.lb_domain.proofs.build.live_parts.Given as goal
 

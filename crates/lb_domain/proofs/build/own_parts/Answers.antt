@@ -1,3 +1,4 @@
+-- For `own_parts` of src/build.rt: the part of each CPU below `cpus`.
 use Rattle.std.proofs.Common.{◌≡◌, ℕ, map, ◌∙◌, ap, arith}
 use Rattle.std.specs.List.{range_with_len}
 use Rattle.lb_base.proofs.Ranges.{map_range_more}

@@ -1,3 +1,4 @@
+-- The loops of `own_parts` of src/build.rt: the part of each CPU below `cpus`.
 use Rattle.std.proofs.Common.{◌≡◌, map}
 use Rattle.std.specs.List.{range_with_len}
 use Rattle.lb_domain.specs.Domains.{part_of}

@@ -1,3 +1,4 @@
+-- The loops of `part_of` of src/build.rt: the part that has the CPU.
 use Rattle.std.proofs.Common.{◌≡◌, drop}
 use Rattle.lb_domain.specs.Domains.{part_of}
 use Rattle.lb_domain.proofs.build.part_of.Given as goal

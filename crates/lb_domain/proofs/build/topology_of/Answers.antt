@@ -1,3 +1,4 @@
+-- For `topology_of` of src/build.rt: the domains of every CPU within disjoint parts.
 use Rattle.std.proofs.Common.{◌≡◌, ◌<◌, ◌≤◌, ℕ, List, length, Option, Some, None, ◌∙◌, sym, ap, subst, arith}
 use Rattle.std.specs.List.{slice_index_or}
 use Rattle.std.proofs.lemmas.Result.{IfOk-weaker}
@@ -12,11 +13,13 @@ use Rattle.lb_domain.proofs.build.topology_of.Goals as goal
 
 pub all_leaders-requires : goal.all_leaders-requires
 all_leaders-requires c =
-    ap length (c.as_slice-2.ensures ∙ c.in_ok-own.ensures) ∙ length-own_parts c.cpus.result c.as_slice.result.now ∙ c.cpus.ensures.count
+    ap length (c.as_slice-2.ensures ∙ c.in_ok-own.ensures) ∙ length-own_parts c.cpus.result c.as_slice.result.now ∙
+    c.cpus.ensures.count
 
 pub domains_of_all-requires-clause-all : goal.domains_of_all-requires-clause-all
 domains_of_all-requires-clause-all c =
-    ap length (c.as_slice-3.ensures ∙ c.in_ok-own.ensures) ∙ length-own_parts c.cpus.result c.as_slice.result.now ∙ c.cpus.ensures.count
+    ap length (c.as_slice-3.ensures ∙ c.in_ok-own.ensures) ∙ length-own_parts c.cpus.result c.as_slice.result.now ∙
+    c.cpus.ensures.count
 
 -- the parts of the CPUs
 own_is : (c : goal.After-as_slice-4) → c.in_ok-own.own ≡ own_parts (length c.args.machine.now.cpus) c.args.parts.now
@@ -46,7 +49,8 @@ returns-clause-value c =
     ∙ own_parts_live c.cpus.result c.args.parts.now
     ∙ ap (λ (n : ℕ). own_parts n c.args.parts.now) c.cpus.ensures.count in
     IfOk-weaker c.domains_of_all.result _ _
-    (λ all value. value ∙ all_domains c.args.machine.now.cpus c.args.machine.now.distances c.args.parts.now c.as_slice-3.result.now own)
+    (λ all value. value ∙ all_domains c.args.machine.now.cpus c.args.machine.now.distances c.args.parts.now
+    c.as_slice-3.result.now own)
     c.domains_of_all.ensures
 
 pub returns-clause-small : goal.returns-clause-small

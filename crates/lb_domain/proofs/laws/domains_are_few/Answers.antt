@@ -1,3 +1,5 @@
+-- For `domains_are_few` of src/laws.rt: a CPU has at most as many domains as the machine has levels, so at
+-- most `MAX_LEVELS`.
 use Rattle.std.proofs.Common.{arith}
 use Rattle.lb_domain.proofs.Sizes.{domains_few}
 use Rattle.lb_domain.proofs.laws.domains_are_few.Goals as goal

@@ -1,3 +1,5 @@
+-- For `groups_part_the_span` of src/laws.rt: the groups of a domain part its span: no two share a CPU, and
+-- together they are the span.
 use Rattle.lb_domain.proofs.Growing.{domains_parted}
 use Rattle.lb_domain.proofs.laws.groups_part_the_span.Goals as goal
 

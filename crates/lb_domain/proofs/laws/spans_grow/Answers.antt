@@ -1,3 +1,5 @@
+-- For `spans_grow` of src/laws.rt: from position to position the span grows: it has every CPU that it had
+-- below, and others.
 use Rattle.lb_domain.proofs.Growing.{domains_grow}
 use Rattle.lb_domain.proofs.laws.spans_grow.Goals as goal
 

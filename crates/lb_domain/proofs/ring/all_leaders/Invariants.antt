@@ -1,3 +1,5 @@
+-- The loops of `all_leaders` of src/ring.rt: for each step below the uppermost level, the CPUs that come
+-- first in their spans.
 use Rattle.std.proofs.Common.{◌≡◌, ℕ, ◌<◌, ltb, ◌&&◌, length, None}
 use Rattle.std.specs.List.{slice_index_or}
 use Rattle.lb_base.specs.Mask.{has, no_cpus}

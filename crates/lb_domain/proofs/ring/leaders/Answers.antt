@@ -1,3 +1,4 @@
+-- For `leaders` of src/ring.rt: the CPUs that come first in their spans at a step, each within its own mask.
 use Rattle.std.proofs.Common.{◌≡◌, ℕ, Bool, ltb, eqb, ◌&&◌, ◌||◌, length, None, ◌∙◌, ap, arith}
 use Rattle.std.specs.List.{slice_index_or}
 use Rattle.lb_base.proofs.Ranges.{one_joins}

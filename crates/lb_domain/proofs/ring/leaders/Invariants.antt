@@ -1,3 +1,5 @@
+-- The loops of `leaders` of src/ring.rt: the CPUs that come first in their spans at a step, each within its
+-- own mask.
 use Rattle.std.proofs.Common.{◌≡◌, ℕ, ltb, ◌&&◌, None}
 use Rattle.std.specs.List.{slice_index_or}
 use Rattle.lb_base.specs.Mask.{has}

@@ -1,3 +1,4 @@
+-- For `push_spans` of src/ring.rt: adds the spans of these CPUs at a step.
 use Rattle.std.proofs.Common.{ℕ, ◌+◌, [], ◌∷◌, ◌++◌, map, List, sym, ◌∙◌, ap}
 use Rattle.lb_base.specs.declared.mask.Mask.{Mask}
 use Rattle.lb_base.proofs.Members.{members_all}
@@ -28,4 +29,5 @@ pub returns : goal.returns
 returns c =
     let at = (rw c.in_default.is at c.loop-next.invariant) in
     at.pushed ∙ ap (λ (ks : List ℕ). c.args.groups.now ++ map
-    (step_span c.args.machine.now.cpus c.args.machine.now.distances c.args.part c.args.step) ks) (sym (members_all c.args.leaders))
+    (step_span c.args.machine.now.cpus c.args.machine.now.distances c.args.part c.args.step) ks)
+    (sym (members_all c.args.leaders))

@@ -1,3 +1,4 @@
+-- The loops of `push_spans` of src/ring.rt: adds the spans of these CPUs at a step.
 use Rattle.std.proofs.Common.{◌≡◌, ◌-◌, ◌++◌, map}
 use Rattle.lb_base.specs.declared.mask.TheConstants.{MAX_CPUS}
 use Rattle.lb_base.specs.Mask.{members_below}

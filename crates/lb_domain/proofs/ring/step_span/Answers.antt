@@ -1,3 +1,4 @@
+-- For `step_span` of src/ring.rt: the span of a CPU at a step, within its part.
 use Rattle.std.proofs.Common.{sym, ◌∙◌, ap, arith}
 use Rattle.lb_base.specs.declared.mask.Mask.{Mask}
 use Rattle.lb_base.specs.Mask.{both}

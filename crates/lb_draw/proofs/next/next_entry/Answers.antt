@@ -1,3 +1,4 @@
+-- For `next_entry` of src/next.rt: the entry that a lane draws next with the newest version and figures.
 use Rattle.std.proofs.Common.{◌∙◌}
 use Rattle.std.proofs.lemmas.Result.{IfOk-weaker}
 use Rattle.lb_draw.proofs.Coming.{drawn_serial, own_row}

@@ -1,3 +1,5 @@
+-- For `what_next` of src/next.rt: what the form of the lane's course says next, where this CPU's queue is the
+-- one that draws.
 use Rattle.lb_draw.proofs.Coming.{drawn_there, opening_asks, looking_asks, landed_asks}
 use Rattle.lb_draw.proofs.next.what_next.Goals as goal
 

@@ -1,3 +1,4 @@
+-- For `reply_due` of src/answers.rt: what the queue where the task is answers to the command in service.
 use Rattle.std.proofs.Common.{rules, sym, ◌∙◌, subst}
 use Rattle.lb_core.specs.declared.place.Place.{Place}
 use Rattle.lb_queue.specs.declared.answers.Reply.TheVariants.{Done, Already, Gone}
@@ -8,19 +9,22 @@ pub returns-in-Awake : goal.returns-in-Awake
 returns-in-Awake c =
     let m = c.args.engine.now.machine in
     subst (λ (p : Place). Says c.args.command.now m (by_place Already Done Gone p)) (sym c.place.ensures ∙ c.in-Awake.is)
-    (wake_says c.calls_may_be_made.ensures.stand m c.requires.ready c.args.command.now c.in-Some-Wake.task c.requires.names (search rules))
+    (wake_says c.calls_may_be_made.ensures.stand m c.requires.ready c.args.command.now c.in-Some-Wake.task
+    c.requires.names (search rules))
 
 pub returns-in-Asleep : goal.returns-in-Asleep
 returns-in-Asleep c =
     let m = c.args.engine.now.machine in
     subst (λ (p : Place). Says c.args.command.now m (by_place Already Done Gone p)) (sym c.place.ensures ∙ c.in-Asleep.is)
-    (wake_says c.calls_may_be_made.ensures.stand m c.requires.ready c.args.command.now c.in-Some-Wake.task c.requires.names (search rules))
+    (wake_says c.calls_may_be_made.ensures.stand m c.requires.ready c.args.command.now c.in-Some-Wake.task
+    c.requires.names (search rules))
 
 pub returns-in-Gone : goal.returns-in-Gone
 returns-in-Gone c =
     let m = c.args.engine.now.machine in
     subst (λ (p : Place). Says c.args.command.now m (by_place Already Done Gone p)) (sym c.place.ensures ∙ c.in-Gone.is)
-    (wake_says c.calls_may_be_made.ensures.stand m c.requires.ready c.args.command.now c.in-Some-Wake.task c.requires.names (search rules))
+    (wake_says c.calls_may_be_made.ensures.stand m c.requires.ready c.args.command.now c.in-Some-Wake.task
+    c.requires.names (search rules))
 
 pub returns-in-Awake-place : goal.returns-in-Awake-place
 returns-in-Awake-place c =
@@ -41,7 +45,8 @@ returns-in-Asleep-place c =
 pub returns-in-Gone-place : goal.returns-in-Gone-place
 returns-in-Gone-place c =
     let m = c.args.engine.now.machine in
-    subst (λ (p : Place). Says c.args.command.now m (by_place Done Already Gone p)) (sym c.place-in-Some-Sleep.ensures ∙ c.in-Gone-place.is)
+    subst (λ (p : Place). Says c.args.command.now m (by_place Done Already Gone p))
+    (sym c.place-in-Some-Sleep.ensures ∙ c.in-Gone-place.is)
     (sleep_says c.calls_may_be_made.ensures.stand m c.requires.ready c.args.command.now c.in-Some-Sleep.task
     c.requires.names (search rules))
 

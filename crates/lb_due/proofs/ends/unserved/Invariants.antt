@@ -1,3 +1,4 @@
+-- The loops of `unserved` of src/ends.rt: the CPUs whose active request is unserved.
 use Rattle.std.proofs.Common.{◌≡◌, ◌&&◌, ℕ, ltb, is_some}
 use Rattle.lb_base.specs.Mask.{has}
 use Rattle.lb_core.specs.Machine.{queue_at}

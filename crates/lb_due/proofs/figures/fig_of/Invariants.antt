@@ -1,3 +1,4 @@
+-- The loops of `fig_of` of src/figures.rt: the figure of a CPU among those that are named.
 use Rattle.std.proofs.Common.{◌≡◌, ◌==◌, find, drop}
 use Rattle.lb_core.specs.Machine.{figures_named}
 use Rattle.lb_due.proofs.figures.fig_of.Given as goal

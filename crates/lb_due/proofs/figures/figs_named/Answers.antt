@@ -1,3 +1,5 @@
+-- For `figs_named` of src/figures.rt: the named figures, one for each CPU, from CPU 0. A CPU that is not
+-- named has none.
 use Rattle.std.proofs.Common.{ℕ, ◌≡◌, ◌==◌, ◌<◌, length, find, take, map, arith, ap, sym, ◌∙◌}
 use Rattle.std.specs.List.{range_with_len}
 use Rattle.std.proofs.Math.Seq.{take-length}

@@ -1,3 +1,5 @@
+-- The loops of `figs_named` of src/figures.rt: the named figures, one for each CPU, from CPU 0. A CPU that is
+-- not named has none.
 use Rattle.std.proofs.Common.{ℕ, ◌≡◌, ◌==◌, length, take, map, find}
 use Rattle.std.specs.List.{range_with_len}
 use Rattle.lb_base.specs.declared.mask.TheConstants.{MAX_CPUS}

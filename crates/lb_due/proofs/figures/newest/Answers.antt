@@ -1,3 +1,4 @@
+-- For `newest` of src/figures.rt: the names of the last figures that are due.
 use Rattle.std.proofs.Common.{◌≡◌, ◌+◌, ℕ, List, [], ◌∷◌, ◌++◌, sym, ◌∙◌, ap}
 use Rattle.std.proofs.lemmas.List.{map-append}
 use Rattle.lb_base.specs.Mask.{members_below}

@@ -1,3 +1,4 @@
+-- The loops of `newest` of src/figures.rt: the names of the last figures that are due.
 use Rattle.std.proofs.Common.{◌≡◌, ◌-◌}
 use Rattle.lb_base.specs.declared.mask.TheConstants.{MAX_CPUS}
 use Rattle.lb_base.specs.Mask.{members_below}

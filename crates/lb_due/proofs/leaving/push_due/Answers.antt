@@ -1,3 +1,4 @@
+-- For `push_due` of src/leaving.rt: the push that is due.
 use Rattle.std.proofs.Common.{sym, ◌∙◌, ap, List}
 use Rattle.lb_base.specs.declared.view.TaskView.{TaskView}
 use Rattle.lb_active.specs.Choice.{pick_of}

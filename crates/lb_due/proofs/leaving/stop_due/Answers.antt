@@ -1,3 +1,4 @@
+-- For `stop_due` of src/leaving.rt: the stop that is due.
 use Rattle.std.proofs.Common.{sym}
 use Rattle.lb_due.proofs.Outgoing.{stop_is}
 use Rattle.lb_due.proofs.leaving.stop_due.Goals as goal

@@ -1,3 +1,4 @@
+-- For `wake_due` of src/leaving.rt: the wake that is due elsewhere.
 use Rattle.std.proofs.Common.{rules, sym}
 use Rattle.lb_due.proofs.Outgoing.{wake_is}
 use Rattle.lb_due.proofs.leaving.wake_due.Goals as goal

@@ -1,3 +1,4 @@
+-- The loops of `all_rest` of src/readers.rt: whether every lane is at rest.
 use Rattle.std.proofs.Common.{◌≡◌, true, take}
 use Rattle.std.specs.List.{list_all}
 use Rattle.lb_core.specs.declared.course.Course.{Course}

@@ -1,3 +1,4 @@
+-- For `first_pending` of src/readers.rt: the least CPU with a pending stop request.
 use Rattle.std.proofs.Common.{rules, arith, length}
 use Rattle.lb_base.proofs.Ranges.{found, not_found}
 use Rattle.lb_queue.specs.Requests.{has_pending}

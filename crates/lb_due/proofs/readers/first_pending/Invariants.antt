@@ -1,3 +1,4 @@
+-- The loops of `first_pending` of src/readers.rt: the least CPU with a pending stop request.
 use Rattle.std.proofs.Common.{◌≡◌, ◌<◌, ℕ, false}
 use Rattle.lb_queue.specs.Requests.{has_pending}
 use Rattle.lb_core.specs.Machine.{queue_at}

@@ -1,3 +1,4 @@
+-- For `is_apart` of src/rows.rt: whether two masks share no CPU.
 use Rattle.std.proofs.Common.{sym, ◌∙◌}
 use Rattle.lb_base.proofs.Sets.{apart_is}
 use Rattle.lb_due.proofs.Tests.{same_unless}

@@ -1,3 +1,4 @@
+-- For `is_in` of src/rows.rt: whether a mask has CPUs of a machine of so many alone.
 use Rattle.std.proofs.Common.{sym, ◌∙◌, ap, Bool, not, ◌&&◌}
 use Rattle.lb_base.specs.Mask.{has}
 use Rattle.lb_base.proofs.Sets.{below_is}

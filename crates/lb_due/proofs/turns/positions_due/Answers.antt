@@ -1,3 +1,4 @@
+-- For `positions_due` of src/turns.rt: the positions of the turn that is due, where no turn is open.
 use Rattle.lb_due.proofs.Opened.{not_open, opened}
 use Rattle.lb_due.proofs.turns.positions_due.Goals as goal
 

@@ -1,3 +1,5 @@
+-- For `draw_noted` of src/drawing.rt: draws an entry of any owner for lane 0. It quotes the lane's last
+-- entry, and is that from now on.
 use Rattle.std.proofs.Common.{length}
 use Rattle.lb_journal.specs.contracts.journal.Left.{the_row}
 use Rattle.lb_cell.proofs.Quoting.{quote_known}

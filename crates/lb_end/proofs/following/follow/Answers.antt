@@ -1,3 +1,5 @@
+-- For `follow` of src/following.rt: the seat of one owner reads what another drew so far: its next ticket is
+-- above all of that, and not below the other's next one.
 use Rattle.std.proofs.Common.{ℕ, ◌≡◌, ◌<◌, ◌+◌, ◌++◌, length, get_or, refl, sym, subst, ap, ◌∙◌, arith}
 use Rattle.std.proofs.lemmas.List.{length-append}
 use Rattle.lb_journal.specs.declared.journal.Journal.{the_code}
@@ -16,7 +18,8 @@ follow-requires c =
       book = (
         ap (λ s. s.table) la ∙ (numbered_at c.args.book.now.table 0 ss c.args.a _ c.requires.book c.requires.inside.0).0,
         ap (λ s. s.table) lb
-            ∙ (numbered_at c.args.book.now.table 0 ss (c.args.b + 0) _ c.requires.book (let i = c.requires.inside.1 in omega arith)).0,
+            ∙ (numbered_at c.args.book.now.table 0 ss (c.args.b + 0) _ c.requires.book
+            (let i = c.requires.inside.1 in omega arith)).0,
       );
     }
 
@@ -25,7 +28,8 @@ follow-requires-else-a-b c =
     let cut = c.split_at_mut-low-else-a-b in
     let ss = c.args.seats.now in
     let whole = sym cut.ensures.value in
-    let apart : c.args.b < c.args.a = other_below c.args.a c.args.b (let no = c.if-a-b.false in omega (arith, no)) c.requires.apart in
+    let apart : c.args.b < c.args.a = other_below c.args.a c.args.b (let no = c.if-a-b.false in omega (arith, no))
+    c.requires.apart in
     let la = in_high ss cut.result.0.now cut.result.1.now c.args.a whole cut.ensures.front_len 0
     c.index-high-0-else-a-b.result in
     let lb = in_low ss cut.result.0.now cut.result.1.now c.args.a whole cut.ensures.front_len c.args.b c.index-low-b.result
@@ -33,7 +37,8 @@ follow-requires-else-a-b c =
     record {
       book = (
         ap (λ s. s.table) la
-            ∙ (numbered_at c.args.book.now.table 0 ss (c.args.a + 0) _ c.requires.book (let i = c.requires.inside.0 in omega arith)).0,
+            ∙ (numbered_at c.args.book.now.table 0 ss (c.args.a + 0) _ c.requires.book
+            (let i = c.requires.inside.0 in omega arith)).0,
         ap (λ s. s.table) lb ∙ (numbered_at c.args.book.now.table 0 ss c.args.b _ c.requires.book c.requires.inside.1).0,
       );
     }
@@ -60,7 +65,8 @@ returns-else-a-b c =
     let low = cut.result.0.now in
     let high = cut.result.1.now in
     let whole = sym cut.ensures.value in
-    let apart : c.args.b < c.args.a = other_below c.args.a c.args.b (let no = c.if-a-b.false in omega (arith, no)) c.requires.apart in
+    let apart : c.args.b < c.args.a = other_below c.args.a c.args.b (let no = c.if-a-b.false in omega (arith, no))
+    c.requires.apart in
     let la = in_high ss low high c.args.a whole cut.ensures.front_len 0 c.index-high-0-else-a-b.result in
     let lb = in_low ss low high c.args.a whole cut.ensures.front_len c.args.b c.index-low-b.result apart in
     let f = c.follow-else-a-b in

@@ -1,3 +1,5 @@
+-- For `draw_end` of src/stops.rt: lane 0, which is at rest, ends the history with the CPUs whose active
+-- request is unserved.
 use Rattle.std.proofs.Common.{sym, subst, map}
 use Rattle.lb_core.specs.declared.course.Course.{Course}
 use Rattle.lb_core.specs.declared.entry.Owner.TheVariants as owner

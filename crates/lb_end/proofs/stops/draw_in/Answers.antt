@@ -1,3 +1,5 @@
+-- For `draw_in` of src/stops.rt: the task of lane 0's hand lands at the queue where it goes, by an `in`, and
+-- lane 0 is at rest again.
 use Rattle.std.proofs.Common.{◌≡◌, ◌+◌, length, sym, subst, ap, ◌∙◌, map}
 use Rattle.lb_queue.specs.declared.answers.OutCause.TheVariants as cause
 use Rattle.lb_core.specs.declared.course.Course.{Course}

@@ -1,3 +1,5 @@
+-- For `draw_out` of src/stops.rt: the task of the queue's next pending stop request leaves in a hand that
+-- goes where it does, by an `out stop`.
 use Rattle.std.proofs.Common.{◌≡◌, ◌<◌, ◌+◌, length, sym, subst, ap, ◌∙◌, map, arith}
 use Rattle.std.proofs.lemmas.List.{length-set}
 use Rattle.std.specs.Prelude.{None}
@@ -22,7 +24,8 @@ note_records-requires c =
     let q = c.args.queue.now.state in
     let at = c.args.course.now.at in
     c.requires.lists.0
-    ∙ sym (ap length (hand_tasks q at (take_stop q at c.args.stop.id).0 c.args.hand.now c.take_stop.new.hand c.take_stop.ensures.hand
+    ∙ sym (ap length (hand_tasks q at (take_stop q at c.args.stop.id).0 c.args.hand.now c.take_stop.new.hand
+    c.take_stop.ensures.hand
     c.requires.hand.0)
     ∙ one_long c.args.stop.id _ (one_task q at c.args.stop.id c.args.hand.now.to c.requires.stop.1))
 

@@ -1,3 +1,5 @@
+-- For `next_fields` of src/fields.rt: reads the fields of the next line into `row`: the pieces of the line
+-- between its commas, one more than it has commas, of which some may be empty.
 use Rattle.std.proofs.Common.{inl, ◌∙◌}
 use Rattle.lb_fields.proofs.LineFacts.{takes_line}
 use Rattle.lb_fields.proofs.fields.next_fields.Goals as goal

@@ -1,3 +1,5 @@
+-- For `start` of src/fields.rt: a reader of the fields of a text's lines, which stands at the start of the
+-- first one.
 use Rattle.std.proofs.Common.{Some, ap, inr, ◌∙◌, rules}
 use Rattle.lb_fields.proofs.MarkFacts.{no_mark}
 use Rattle.lb_fields.proofs.fields.start.Goals as goal

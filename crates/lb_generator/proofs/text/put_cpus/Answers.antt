@@ -1,3 +1,4 @@
+-- For `put_cpus` of src/text.rt: the lines of the CPUs.
 use Rattle.std.proofs.Common.{ℕ, ◌+◌, List, [], ◌∷◌, ◌++◌, sym, ap, ◌∙◌}
 use Rattle.std.proofs.lemmas.List.{append-nil}
 use Rattle.lb_text.specs.Lines.{lines_text}

@@ -1,3 +1,4 @@
+-- The loops of `put_cpus` of src/text.rt: the lines of the CPUs.
 use Rattle.std.proofs.Common.{◌≡◌, ◌++◌}
 use Rattle.lb_text.specs.Lines.{lines_text}
 use Rattle.lb_generator.specs.Text.{cpu_lines}

@@ -1,3 +1,4 @@
+-- For `put_header` of src/text.rt: the lines of the header.
 use Rattle.std.proofs.Common.{◌≡◌, ℕ, List, ◌++◌, sym, ap, ◌∙◌, codes}
 use Rattle.lb_text.specs.Lines.{lines_text}
 use Rattle.lb_generator.specs.Text.{cpu_lines, task_lines, header_lines}

@@ -1,3 +1,4 @@
+-- For `put_rows` of src/text.rt: the lines of the rows.
 use Rattle.std.proofs.Common.{ℕ, ◌+◌, ◌-◌, List, [], ◌∷◌, ◌++◌, map, sym, ap, ◌∙◌, arith}
 use Rattle.std.proofs.lemmas.List.{append-nil}
 use Rattle.lb_generator.specs.Generator.{rows_from}

@@ -1,3 +1,4 @@
+-- The loops of `put_rows` of src/text.rt: the lines of the rows.
 use Rattle.std.proofs.Common.{◌≡◌, ◌-◌, ◌++◌, map}
 use Rattle.lb_generator.specs.Generator.{rows_from}
 use Rattle.lb_text.specs.Lines.{lines_text}

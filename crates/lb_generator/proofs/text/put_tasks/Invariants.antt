@@ -1,3 +1,4 @@
+-- The loops of `put_tasks` of src/text.rt: the lines of the tasks.
 use Rattle.std.proofs.Common.{◌≡◌, ◌++◌}
 use Rattle.lb_text.specs.Lines.{lines_text}
 use Rattle.lb_generator.specs.Text.{task_lines}

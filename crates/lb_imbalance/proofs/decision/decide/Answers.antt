@@ -1,3 +1,5 @@
+-- For `decide` of src/decision.rt: the decision of `cpu` about one of its domains, of the given shape and
+-- groups (docs/rules/decision.md).
 use Rattle.std.proofs.Common.{◌≤◌, length, get_or, arith, rules}
 use Rattle.lb_base.specs.Mask.{no_cpus}
 use Rattle.lb_imbalance.specs.Decision.{all_stats}
@@ -36,7 +38,8 @@ decide_over-requires-clause-ranges c =
 
 pub decide_over-requires-clause-load : goal.decide_over-requires-clause-load
 decide_over-requires-clause-load c =
-    rw (c.stats_of_groups-stats.ensures, all_loads c.args.shape.now c.args.groups.now c.args.figs.now c.args.excluded) c.requires.sums.load
+    rw (c.stats_of_groups-stats.ensures, all_loads c.args.shape.now c.args.groups.now c.args.figs.now c.args.excluded)
+    c.requires.sums.load
 
 pub decide_over-requires-clause-some_cap : goal.decide_over-requires-clause-some_cap
 decide_over-requires-clause-some_cap c =

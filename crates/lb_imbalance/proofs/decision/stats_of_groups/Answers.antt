@@ -1,3 +1,5 @@
+-- For `stats_of_groups` of src/decision.rt: the statistics of the groups without the excluded CPUs, in the
+-- first places.
 use Rattle.std.proofs.Common.{◌≡◌, ◌<◌, length, get_or, arith, sym, refl, ◌∙◌}
 use Rattle.std.proofs.lemmas.List.{get_or_default}
 use Rattle.std.proofs.Math.ListN.{length-set}
@@ -12,7 +14,8 @@ pub loop-i-preserved : goal.loop-i-preserved
 loop-i-preserved c =
     let room : c.loop-i.i < length c.loop-i.all = omega arith in
     let g = get_or c.args.groups.now c.loop-i.i no_cpus in
-    let read : g ≡ get_or c.args.groups.now c.loop-i.i g = get_or_default c.args.groups.now c.loop-i.i no_cpus g c.loop-i-test.true in
+    let read : g ≡ get_or c.args.groups.now c.loop-i.i g = get_or_default c.args.groups.now c.loop-i.i no_cpus g
+    c.loop-i-test.true in
     let stats = rw c.percent.ensures at c.group_stats.ensures in
     record {
       room = length-set c.loop-i.all c.loop-i.i c.group_stats.result ∙ c.loop-i.invariant.room;

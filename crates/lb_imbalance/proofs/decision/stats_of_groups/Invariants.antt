@@ -1,3 +1,5 @@
+-- The loops of `stats_of_groups` of src/decision.rt: the statistics of the groups without the excluded CPUs,
+-- in the first places.
 use Rattle.std.proofs.Common.{◌≡◌, length, take}
 use Rattle.lb_base.specs.declared.mask.TheConstants.{MAX_CPUS}
 use Rattle.lb_imbalance.specs.Decision.{all_stats}

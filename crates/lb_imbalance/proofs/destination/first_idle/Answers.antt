@@ -1,3 +1,4 @@
+-- For `first_idle` of src/destination.rt.
 use Rattle.std.proofs.Common.{◌+◌, arith}
 use Rattle.lb_base.proofs.Walks.{stands, IsAt}
 use Rattle.lb_imbalance.proofs.Idle.{none_passed, none_more, first_idle_none, first_idle_some, NoneIdle}
@@ -7,7 +8,8 @@ use Rattle.lb_imbalance.proofs.destination.first_idle.Goals.{In-Some}
 pub loop-next-init : goal.loop-next-init
 loop-next-init c = record {
   at = stands c.args.group 0 c.first-next.result c.first-next.ensures.cpus;
-  none = none_passed c.args.figs.now c.args.group 0 c.first-next.result (λ k lt. absurd (omega (arith, lt))) c.first-next.ensures.cpus;
+  none = none_passed c.args.figs.now c.args.group 0 c.first-next.result (λ k lt. absurd (omega (arith, lt)))
+      c.first-next.ensures.cpus;
 }
 
 at : (c : In-Some) → IsAt c.args.group c.in-Some.cpu

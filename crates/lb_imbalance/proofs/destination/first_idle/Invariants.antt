@@ -1,3 +1,4 @@
+-- The loops of `first_idle` of src/destination.rt.
 use Rattle.std.proofs.Common.{◌-◌}
 use Rattle.lb_base.specs.declared.mask.TheConstants.{MAX_CPUS}
 use Rattle.lb_base.proofs.Walks.{passed, Stands}

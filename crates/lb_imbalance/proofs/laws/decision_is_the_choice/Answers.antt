@@ -1,3 +1,5 @@
+-- For `decision_is_the_choice` of src/laws.rt: the decision is around one choice: the busiest group is the
+-- first of the greatest, and the source queue is the least CPU among those with the greatest value.
 use Rattle.lb_imbalance.proofs.Chosen.{Laws, is_decision, only_decision}
 use Rattle.lb_imbalance.proofs.laws.decision_is_the_choice.Goals as goal
 

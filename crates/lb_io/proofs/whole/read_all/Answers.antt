@@ -1,3 +1,4 @@
+-- For `read_all` of src/whole.rt: all bytes up to the end of the input, of which there may be at most `max`.
 use Rattle.lb_io.proofs.OneAfterAnother.{consumes_then}
 use Rattle.lb_io.proofs.whole.read_all.Goals as goal
 

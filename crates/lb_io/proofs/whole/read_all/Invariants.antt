@@ -1,3 +1,5 @@
+-- The loops of `read_all` of src/whole.rt: all bytes up to the end of the input, of which there may be at
+-- most `max`.
 use Rattle.std.proofs.Common.{◌-◌, ◌≤◌, vec_len}
 use Rattle.std.specs.Io.KnownBytes.{Consumes}
 use Rattle.lb_io.proofs.whole.read_all.Given as goal

@@ -1,3 +1,4 @@
+-- For `write_all` of src/whole.rt: writes all of `bytes`, in as many calls as the sink asks for.
 use Rattle.std.proofs.Common.{arith, length-drop, ◌∙◌}
 use Rattle.std.proofs.lemmas.List.{take_rest}
 use Rattle.std.proofs.lemmas.Result.{err_from_is_err_and}

@@ -1,3 +1,4 @@
+-- The loops of `write_all` of src/whole.rt: writes all of `bytes`, in as many calls as the sink asks for.
 use Rattle.std.proofs.Common.{◌≡◌, length, ◌-◌, ◌≤◌, take}
 use Rattle.std.specs.Io.KnownBytes.{Appends}
 use Rattle.lb_io.proofs.whole.write_all.Given as goal

@@ -1,3 +1,5 @@
+-- For `close_in_order` of src/order.rt: closes the book, and answers the entries that the seats drew, all of
+-- them, in the order of their tickets.
 use Rattle.std.proofs.Common.{◌≡◌, List, sym, subst}
 use Rattle.lb_core.specs.declared.entry.Entry.{Entry}
 use Rattle.lb_core.specs.Legal.{IsLegalHistory}

@@ -1,3 +1,4 @@
+-- The loops of `count` of src/order.rt: how many items there are, where that can be counted.
 use Rattle.std.proofs.Common.{◌≡◌, ◌+◌, map, drop}
 use Rattle.lb_journal.specs.Ordering.{total_length}
 use Rattle.lb_journal.proofs.order.count.Given as goal

@@ -1,3 +1,4 @@
+-- For `in_order` of src/order.rt: the entries of the lists of a closed book, in the order of their tickets.
 use Rattle.std.proofs.Common.{length, map, None, ap, sym, subst, ◌∙◌}
 use Rattle.std.proofs.lemmas.List.{length-replicate, take_at}
 use Rattle.lb_ticket.specs.Tickets.{Closes}

@@ -1,3 +1,4 @@
+-- For `place` of src/order.rt: the entry of each item of a list goes into its ticket's slot.
 use Rattle.std.proofs.Common.{◌≡◌, suc, ◌-◌, Some, arith, length, set, ap, sym, subst, ◌∙◌}
 use Rattle.std.proofs.lemmas.List.{length-set}
 use Rattle.lb_journal.specs.Ordering.{placed, HaveSlots}

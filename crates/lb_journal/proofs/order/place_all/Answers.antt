@@ -1,3 +1,4 @@
+-- For `place_all` of src/order.rt: the entry of each item of the lists goes into its ticket's slot.
 use Rattle.std.proofs.Common.{suc, [], arith, length, map, ap, sym, subst, ◌∙◌, All}
 use Rattle.lb_journal.specs.Ordering.{placed_lists, HaveSlots}
 use Rattle.lb_journal.proofs.Ordering.{placed-length}

@@ -1,3 +1,4 @@
+-- The loops of `place_all` of src/order.rt: the entry of each item of the lists goes into its ticket's slot.
 use Rattle.std.proofs.Common.{◌≡◌, length, map, All}
 use Rattle.lb_journal.specs.Ordering.{placed_lists, HaveSlots}
 use Rattle.lb_journal.proofs.order.place_all.Given as goal

@@ -1,3 +1,4 @@
+-- For `closing_before_all_rest` of src/laws.rt: what the premise `at_rest` is for.
 use Rattle.std.proofs.Common.{◌≡◌, ◌∙◌, ap, refl, arith}
 use Rattle.lb_core.specs.Legal.{Fault, first_fault}
 use Rattle.lb_core.specs.declared.rule.Rule.TheVariants.{Stage}

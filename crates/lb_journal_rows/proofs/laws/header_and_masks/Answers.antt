@@ -1,3 +1,6 @@
+-- For `header_and_masks` of src/laws.rt: each item of the lists of a history carries its header, and each
+-- `use` of the worked ones the masks of its version: those of the header, or of the rebuild that the
+-- publisher's entry of that version serves.
 use Rattle.std.proofs.Common.{refl}
 use Rattle.lb_rows.specs.Balancing.{one_task_moves_history}
 use Rattle.lb_rows.specs.Commands.{rebuilt_history}

@@ -1,3 +1,5 @@
+-- For `merged_back` of src/laws.rt: the entries of a history, cut into the lists of their owners and merged
+-- by their tickets, are the history.
 use Rattle.std.proofs.Common.{refl}
 use Rattle.lb_journal_rows.proofs.laws.merged_back.Goals as goal
 

@@ -1,3 +1,4 @@
+-- For `undeclared_lane` of src/laws.rt: what `declared` of the owner's test is for.
 use Rattle.lb_journal_rows.proofs.Missing.{undeclared, declared_fit, stray_meets, stray_breaks}
 use Rattle.lb_journal_rows.proofs.laws.undeclared_lane.Goals as goal
 

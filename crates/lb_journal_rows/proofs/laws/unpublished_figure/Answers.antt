@@ -1,3 +1,4 @@
+-- For `unpublished_figure` of src/laws.rt: what the premise `figures` is for.
 use Rattle.std.proofs.Common.{◌≡◌, ◌∙◌, ap, refl, arith}
 use Rattle.lb_core.specs.Legal.{Fault, first_fault}
 use Rattle.lb_core.specs.declared.rule.Rule.TheVariants.{Figure}

@@ -1,3 +1,4 @@
+-- For `breaks_owed` of src/answers.rt: whether the entry breaks the rule `owed`.
 use Rattle.std.proofs.Common.{refl}
 use Rattle.lb_judge.proofs.Staged.{has_queue, staged_use}
 use Rattle.lb_judge.proofs.answers.breaks_owed.Goals as goal

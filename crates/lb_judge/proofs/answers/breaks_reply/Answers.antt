@@ -1,3 +1,4 @@
+-- For `breaks_reply` of src/answers.rt: whether the entry breaks the rule `reply`.
 use Rattle.std.proofs.Common.{◌≡◌, refl, sym, ◌∙◌, ap, ◌==◌, ◌+◌, ℕ, Bool, not, false}
 use denote.Enum.Bare.{sameb}
 use Rattle.lb_queue.specs.contracts.answers.Reply.{the_type}

@@ -1,3 +1,5 @@
+-- The loops of `are_of` of src/figures.rt: whether there is one name for each CPU of the mask, in their
+-- order.
 use Rattle.std.proofs.Common.{◌≡◌, map, drop}
 use Rattle.lb_base.specs.Mask.{members}
 use Rattle.lb_base.proofs.Walks.{Stands}

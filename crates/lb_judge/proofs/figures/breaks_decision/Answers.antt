@@ -1,3 +1,4 @@
+-- For `breaks_decision` of src/figures.rt: whether the entry breaks the rule `decision`.
 use Rattle.lb_judge.proofs.Staged.{staged_look}
 use Rattle.lb_judge.proofs.figures.breaks_decision.Goals as goal
 

@@ -1,3 +1,4 @@
+-- For `are_same` of src/leaving.rt: whether two lists of ids are equal.
 use Rattle.lb_judge.proofs.Lists.{other_length}
 use Rattle.lb_judge.proofs.leaving.are_same.Goals as goal
 

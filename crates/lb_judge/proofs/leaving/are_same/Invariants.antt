@@ -1,3 +1,4 @@
+-- The loops of `are_same` of src/leaving.rt: whether two lists of ids are equal.
 use Rattle.std.proofs.Common.{◌≡◌, drop}
 use Rattle.lb_core.specs.Same.{same_numbers}
 use Rattle.lb_judge.proofs.leaving.are_same.Given as goal

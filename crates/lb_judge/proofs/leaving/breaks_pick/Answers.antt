@@ -1,3 +1,4 @@
+-- For `breaks_pick` of src/leaving.rt: whether the entry breaks the rule `pick`.
 use Rattle.std.proofs.Common.{refl, rules, sym, ◌∙◌}
 use Rattle.lb_judge.proofs.Outgoing.{pick_breaks}
 use Rattle.lb_judge.proofs.Staged.{has_queue, pulls}

@@ -1,3 +1,4 @@
+-- For `is_hand` of src/leaving.rt: whether these are the tasks in the hand, in their order.
 use Rattle.std.proofs.Common.{arith, ◌≡◌, ◌==◌, true, false, refl, sym, ◌∙◌, get_or}
 use Rattle.std.proofs.lemmas.Bool.{eq-eqb}
 use Rattle.std.proofs.lemmas.Bool.{ne_eqb}
@@ -27,5 +28,6 @@ loop-i-preserved c =
     let l = length-map hand (λ (t : TaskRecord). t.id) in
     let more = same_more c.args.tasks.now (ids hand) c.loop-i.i (omega arith) (omega arith) in
     let here = get_map (λ (t : TaskRecord). t.id) hand c.loop-i.i c.get.result.now c.get.ensures in
-    let agree : (get_or c.args.tasks.now c.loop-i.i 0 == get_or (ids hand) c.loop-i.i 0) ≡ true = rw here (eq-eqb _ _ c.if-tasks-i.false) in
+    let agree : (get_or c.args.tasks.now c.loop-i.i 0 == get_or (ids hand) c.loop-i.i 0) ≡ true = rw here
+    (eq-eqb _ _ c.if-tasks-i.false) in
     c.loop-i.invariant ∙ more ∙ rw agree refl

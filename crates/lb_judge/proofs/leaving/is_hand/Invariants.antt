@@ -1,3 +1,4 @@
+-- The loops of `is_hand` of src/leaving.rt: whether these are the tasks in the hand, in their order.
 use Rattle.std.proofs.Common.{◌≡◌, drop}
 use Rattle.lb_queue.specs.Tasks.{ids}
 use Rattle.lb_core.specs.Same.{same_numbers}

@@ -1,3 +1,4 @@
+-- For `draws` of src/stage.rt: whether the form of the lane's course draws such an entry.
 use Rattle.std.proofs.Common.{◌∙◌}
 use Rattle.lb_judge.proofs.Undrawn.{row_drawn, scan_drawn, landed_drawn, turn_drawn, shut_drawn, ask_drawn, over_drawn, told}
 use Rattle.lb_judge.proofs.stage.draws.Goals as goal

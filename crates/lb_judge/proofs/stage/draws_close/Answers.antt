@@ -1,3 +1,4 @@
+-- For `draws_close` of src/stage.rt: whether the position in work closes.
 use Rattle.lb_judge.proofs.Undrawn.{close_undrawn}
 use Rattle.lb_judge.proofs.stage.draws_close.Goals as goal
 

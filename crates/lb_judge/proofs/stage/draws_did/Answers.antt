@@ -1,3 +1,4 @@
+-- For `draws_did` of src/stage.rt: whether a queue's answer is due.
 use Rattle.lb_judge.proofs.Undrawn.{did_undrawn}
 use Rattle.lb_judge.proofs.stage.draws_did.Goals as goal
 

@@ -1,3 +1,4 @@
+-- For `draws_end` of src/stage.rt: whether the history may end.
 use Rattle.lb_judge.proofs.Undrawn.{end_undrawn}
 use Rattle.lb_judge.proofs.stage.draws_end.Goals as goal
 

@@ -1,3 +1,4 @@
+-- For `draws_kick` of src/stage.rt: whether a kick is due.
 use Rattle.lb_judge.proofs.Undrawn.{kick_undrawn}
 use Rattle.lb_judge.proofs.stage.draws_kick.Goals as goal
 

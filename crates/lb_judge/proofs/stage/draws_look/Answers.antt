@@ -1,3 +1,4 @@
+-- For `draws_look` of src/stage.rt: whether a look is due at the position in work.
 use Rattle.lb_judge.proofs.Undrawn.{look_undrawn}
 use Rattle.lb_judge.proofs.stage.draws_look.Goals as goal
 

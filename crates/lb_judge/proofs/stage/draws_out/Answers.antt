@@ -1,3 +1,4 @@
+-- For `draws_out` of src/stage.rt: whether tasks may leave the owner's queue.
 use Rattle.lb_judge.proofs.Undrawn.{out_undrawn}
 use Rattle.lb_core.specs.Machine.{owned_queue}
 use Rattle.lb_judge.proofs.stage.draws_out.Goals as goal

@@ -1,3 +1,4 @@
+-- For `draws_pub` of src/stage.rt: whether a publication is due.
 use Rattle.lb_judge.proofs.Undrawn.{pub_undrawn}
 use Rattle.lb_judge.proofs.stage.draws_pub.Goals as goal
 

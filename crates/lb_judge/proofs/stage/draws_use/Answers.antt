@@ -1,3 +1,4 @@
+-- For `draws_use` of src/stage.rt: whether a version may be taken up for a turn of this kind of the CPU.
 use Rattle.lb_judge.proofs.Undrawn.{use_undrawn}
 use Rattle.lb_judge.proofs.stage.draws_use.Goals as goal
 

@@ -1,3 +1,4 @@
+-- For `is_form` of src/stage.rt: whether a form is this one.
 use Rattle.std.proofs.Common.{◌≡◌, refl, ◌∙◌}
 use denote.Enum.Declared.{tag_of}
 use Rattle.lb_core.specs.contracts.course.Form.{the_type}

@@ -1,3 +1,4 @@
+-- For `breaks_counters` of src/turns.rt: whether the entry breaks the rule `counters`.
 use Rattle.std.proofs.Common.{refl}
 use Rattle.lb_judge.proofs.Staged.{has_queue, staged_turn, staged_close, turn_asks, none_open}
 use Rattle.lb_judge.proofs.turns.breaks_counters.Goals as goal

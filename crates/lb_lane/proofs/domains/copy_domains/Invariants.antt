@@ -1,3 +1,4 @@
+-- The loops of `copy_domains` of src/domains.rt: a copy of the domains of a CPU.
 use Rattle.std.proofs.Common.{◌≡◌, take}
 use Rattle.lb_lane.proofs.domains.copy_domains.Given as goal
 

@@ -1,3 +1,5 @@
+-- For `enter` of src/enter.rt: draws an entry that breaks no rule in a lane's own list, and answers its
+-- ticket.
 use Rattle.lb_lane.proofs.Drawing.{may_draw, may_after, range_after}
 use Rattle.lb_lane.proofs.enter.enter.Goals as goal
 

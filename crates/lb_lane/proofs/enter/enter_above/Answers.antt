@@ -1,3 +1,5 @@
+-- For `enter_above` of src/enter.rt: draws an entry that names figures, above their tickets, and answers its
+-- ticket.
 use Rattle.std.proofs.Common.{List, None, [], sym, subst, ap}
 use Rattle.lb_base.specs.declared.mask.Mask.{Mask}
 use Rattle.lb_core.specs.declared.course.Course.{Course}

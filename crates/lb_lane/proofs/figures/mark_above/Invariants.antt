@@ -1,3 +1,4 @@
+-- The loops of `mark_above` of src/figures.rt: marks until each further ticket of the lane is above this one.
 use Rattle.std.proofs.Common.{◌≡◌, ◌≤◌}
 use Rattle.lb_cell.specs.Reads.{SameBut}
 use Rattle.lb_lane.proofs.figures.mark_above.Given as goal

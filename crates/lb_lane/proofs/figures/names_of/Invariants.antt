@@ -1,3 +1,4 @@
+-- The loops of `names_of` of src/figures.rt: the names of figures.
 use Rattle.std.proofs.Common.{◌≡◌, take}
 use Rattle.lb_journal.specs.Journal.{names_of}
 use Rattle.lb_lane.proofs.figures.names_of.Given as goal

@@ -1,3 +1,4 @@
+-- For `read_all` of src/figures.rt: a figure of each CPU of a mask.
 use Rattle.std.proofs.Common.{ℕ, ◌+◌, ◌<◌, List, length, sym, subst, All}
 use Rattle.std.proofs.lemmas.List.Elements.{All-nil, All-push}
 use Rattle.lb_base.specs.Mask.{members_below}

@@ -1,3 +1,4 @@
+-- The loops of `read_all` of src/figures.rt: a figure of each CPU of a mask.
 use Rattle.std.proofs.Common.{◌-◌, ◌<◌, length, All}
 use Rattle.lb_base.specs.declared.mask.TheConstants.{MAX_CPUS}
 use Rattle.lb_base.specs.Mask.{members_below}

@@ -1,3 +1,4 @@
+-- For `read_one` of src/figures.rt: a figure of one CPU.
 use Rattle.lb_lane.proofs.figures.read_one.Goals as goal
 
 pub returns-clause-sees : goal.returns-clause-sees

@@ -1,3 +1,4 @@
+-- The loops of `top_ticket` of src/figures.rt: the greatest ticket of figures.
 use Rattle.std.proofs.Common.{◌≤◌, take, All}
 use Rattle.lb_lane.proofs.figures.top_ticket.Given as goal
 

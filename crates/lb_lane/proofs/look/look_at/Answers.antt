@@ -1,3 +1,4 @@
+-- For `look_at` of src/look.rt: the look, of the lane's side alone.
 use Rattle.std.proofs.Common.{rules, ◌≡◌, ◌∙◌, [], true, false, sym, ap, subst, arith}
 use Rattle.lb_base.specs.Mask.{has, members}
 use Rattle.lb_domain.specs.declared.domain.Domain.{Domain}

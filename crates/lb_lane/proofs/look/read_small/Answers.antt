@@ -1,3 +1,5 @@
+-- For `read_small` of src/look.rt: the figures of a domain without the excluded CPUs, read again until their
+-- sums are small enough to decide on.
 use Rattle.std.proofs.Common.{rules, ◌∙◌, sym, ap, subst}
 use Rattle.std.proofs.lemmas.Bool.{and_parts}
 use Rattle.lb_base.specs.Mask.{members, without}

@@ -1,3 +1,4 @@
+-- The loops of `tell` of src/publisher.rt: tells a looker of all versions.
 use Rattle.std.proofs.Common.{◌≡◌}
 use Rattle.lb_lane.proofs.publisher.tell.Given as goal
 

@@ -1,3 +1,4 @@
+-- For `scan_at` of src/scan.rt: the scan, of the lane's side alone.
 use Rattle.std.proofs.Common.{rules, ◌≡◌, ◌∙◌, ◌<◌, All, length, [], true, sym, ap, subst, arith}
 use Rattle.std.proofs.lemmas.Bool.{and_parts}
 use Rattle.lb_base.specs.declared.mask.Mask.{Mask}

@@ -1,3 +1,5 @@
+-- For `add_group` of src/sums.rt: a sum with the numbers of all CPUs of a group; None where it is not below
+-- the limit.
 use Rattle.std.proofs.Common.{rules, ℕ, ◌≡◌, ◌+◌, List, sym, ap, ◌∙◌, arith}
 use Rattle.std.specs.List.{sum_by}
 use Rattle.std.proofs.lemmas.List.Sums.{sum_by_push}

@@ -1,3 +1,5 @@
+-- The loops of `add_group` of src/sums.rt: a sum with the numbers of all CPUs of a group; None where it is
+-- not below the limit.
 use Rattle.std.proofs.Common.{◌≡◌, ◌+◌, ◌-◌, ◌<◌}
 use Rattle.std.specs.List.{sum_by}
 use Rattle.lb_base.specs.declared.mask.TheConstants.{MAX_CPUS}

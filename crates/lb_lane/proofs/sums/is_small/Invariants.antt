@@ -1,3 +1,5 @@
+-- The loops of `is_small` of src/sums.rt: whether the sum over all groups, without the excluded CPUs, is
+-- below the limit.
 use Rattle.std.proofs.Common.{◌≡◌, ◌<◌, take}
 use Rattle.std.specs.List.{sum_by}
 use Rattle.lb_base.specs.Mask.{without}

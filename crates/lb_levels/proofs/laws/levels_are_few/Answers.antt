@@ -1,3 +1,5 @@
+-- For `levels_are_few` of src/laws.rt: a machine has at most two levels more than nodes, so at most
+-- `MAX_LEVELS`.
 use Rattle.lb_levels.proofs.Depth.{few_levels, most_levels}
 use Rattle.lb_levels.proofs.laws.levels_are_few.Goals as goal
 

@@ -1,3 +1,4 @@
+-- The loops of `copy_of` of src/machine.rt.
 use Rattle.std.proofs.Common.{◌≡◌, take}
 use Rattle.lb_levels.proofs.machine.copy_of.Given as goal
 

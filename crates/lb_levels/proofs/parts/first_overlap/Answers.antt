@@ -1,3 +1,5 @@
+-- For `first_overlap` of src/parts.rt: the first mask that shares a CPU with one before it, and the first of
+-- those.
 use Rattle.std.proofs.Common.{◌∙◌, arith}
 use borrow.Author.Count.{below_more}
 use Rattle.lb_levels.proofs.Overlaps.{sharing, not_sharing, none_seen, one_more_seen, overlap_found, no_overlap}

@@ -1,3 +1,5 @@
+-- The loops of `first_overlap` of src/parts.rt: the first mask that shares a CPU with one before it, and the
+-- first of those.
 use Rattle.std.proofs.Common.{◌≡◌, ℕ, ◌<◌, is_some, false}
 use Rattle.lb_levels.specs.Faults.{first_sharing}
 use Rattle.lb_levels.proofs.Overlaps.{IsUnion}

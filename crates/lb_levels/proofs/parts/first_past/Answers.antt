@@ -1,3 +1,4 @@
+-- For `first_past` of src/parts.rt: the first mask that has a CPU past the machine.
 use Rattle.std.proofs.Common.{not, length, arith, rules}
 use Rattle.lb_base.specs.Sets.{is_below}
 use Rattle.lb_levels.specs.Faults.{part_at, first_past}

@@ -1,3 +1,4 @@
+-- The loops of `first_past` of src/parts.rt: the first mask that has a CPU past the machine.
 use Rattle.std.proofs.Common.{◌≡◌, ℕ, ◌<◌, not, false}
 use Rattle.lb_base.specs.Sets.{is_below}
 use Rattle.lb_levels.specs.Faults.{part_at}

@@ -1,3 +1,4 @@
+-- For `first_sharing` of src/parts.rt: the first mask before this one that shares a CPU with it.
 use Rattle.std.proofs.Common.{not, arith, rules}
 use Rattle.lb_base.specs.Sets.{are_apart}
 use Rattle.lb_levels.specs.Faults.{part_at, first_sharing}

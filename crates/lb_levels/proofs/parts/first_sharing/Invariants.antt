@@ -1,3 +1,4 @@
+-- The loops of `first_sharing` of src/parts.rt: the first mask before this one that shares a CPU with it.
 use Rattle.std.proofs.Common.{◌≡◌, ℕ, ◌<◌, not, false}
 use Rattle.lb_base.specs.Sets.{are_apart}
 use Rattle.lb_levels.specs.Faults.{part_at}

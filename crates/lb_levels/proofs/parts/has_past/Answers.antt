@@ -1,3 +1,4 @@
+-- For `has_past` of src/parts.rt: whether a mask has a CPU past the machine.
 use Rattle.std.proofs.Common.{Bool, ◌&&◌, not, ◌∙◌, ap}
 use Rattle.lb_base.specs.Mask.{has}
 use Rattle.lb_base.proofs.Sets.{below_is}

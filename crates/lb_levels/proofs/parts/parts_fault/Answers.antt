@@ -1,3 +1,5 @@
+-- For `parts_fault` of src/parts.rt: the first fault of a list of masks that are to part the machine's CPUs,
+-- or None where each of its masks has CPUs of the machine alone and no two share one (docs/rules/domains.md).
 use Rattle.std.proofs.Common.{ℕ, length, sym, ◌∙◌, ap}
 use Rattle.lb_levels.specs.Faults.{first_past}
 use Rattle.lb_levels.proofs.Overlaps.{past_first, overlap_second}

@@ -1,3 +1,4 @@
+-- For `shares` of src/parts.rt.
 use Rattle.std.proofs.Common.{◌∙◌}
 use Rattle.lb_base.proofs.Sets.{apart_is}
 use Rattle.lb_levels.proofs.parts.shares.Goals as goal

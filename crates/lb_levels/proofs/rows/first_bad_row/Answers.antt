@@ -1,3 +1,4 @@
+-- For `first_bad_row` of src/rows.rt: the first row that cannot stand below those before it.
 use Rattle.std.proofs.Common.{length, take, arith, rules}
 use Rattle.lb_levels.specs.Rows.{distances_at, is_bad_distance}
 use Rattle.lb_levels.specs.Faults.{first_bad_row}
@@ -14,5 +15,6 @@ returns-then-is_bad_row c =
 pub returns : goal.returns
 unfolding first_bad_row
 returns c =
-    not_found (λ a. is_bad_distance (take a c.args.distances.now) (distances_at c.args.distances.now a)) (length c.args.distances.now)
+    not_found (λ a. is_bad_distance (take a c.args.distances.now) (distances_at c.args.distances.now a))
+    (length c.args.distances.now)
     (λ k lt. c.loop-a.invariant k (omega (arith, lt)))

@@ -1,3 +1,4 @@
+-- For `first_clash` of src/rows.rt: the first CPU that cannot stand beside those before it.
 use Rattle.std.proofs.Common.{length, take, arith, rules}
 use Rattle.lb_levels.specs.Rows.{row_at, cpu_clashes}
 use Rattle.lb_levels.specs.Faults.{first_clash}

@@ -1,3 +1,4 @@
+-- For `first_misfit` of src/rows.rt: the first row that is missing, too many or of the wrong size.
 use Rattle.std.proofs.Common.{length, max, arith, rules}
 use Rattle.lb_levels.specs.Faults.{is_misfit, first_misfit}
 use Rattle.lb_base.proofs.Ranges.{found, not_found}

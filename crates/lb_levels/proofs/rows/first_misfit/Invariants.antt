@@ -1,3 +1,4 @@
+-- The loops of `first_misfit` of src/rows.rt: the first row that is missing, too many or of the wrong size.
 use Rattle.std.proofs.Common.{◌≡◌, ℕ, ◌<◌, false}
 use Rattle.lb_levels.specs.Faults.{is_misfit}
 use Rattle.lb_levels.proofs.rows.first_misfit.Given as goal

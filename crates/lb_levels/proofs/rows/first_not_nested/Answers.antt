@@ -1,3 +1,4 @@
+-- For `first_not_nested` of src/rows.rt: the least distance at which the nodes are not nested.
 use Rattle.std.proofs.Common.{◌&&◌, not, arith, rules, sym, ◌∙◌}
 use Rattle.std.specs.List.{range_with_len}
 use Rattle.lb_levels.specs.Rows.{is_entry, is_nested_at, distances_of, first_not_nested}

@@ -1,3 +1,4 @@
+-- For `is_apart` of src/rows.rt: whether no node is within distance `d` of both.
 use Rattle.std.proofs.Common.{◌&&◌, not, length, arith, rules}
 use Rattle.lb_levels.specs.Rows.{is_within, is_apart}
 use Rattle.lb_base.proofs.Ranges.{all_pass, one_fails}

@@ -1,3 +1,4 @@
+-- For `is_bad_row` of src/rows.rt: whether the row of node `a` cannot stand below those before it.
 use Rattle.std.proofs.Common.{length, arith, rules, ◌∙◌, sym}
 use Rattle.lb_levels.specs.Rows.{is_bad_entry}
 use Rattle.lb_base.proofs.Ranges.{one_passes, none_passes}

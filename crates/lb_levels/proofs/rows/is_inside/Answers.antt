@@ -1,3 +1,4 @@
+-- For `is_inside` of src/rows.rt: whether each node within distance `d` of `a` is within it of `b`.
 use Rattle.std.proofs.Common.{◌||◌, not, length, arith, rules}
 use Rattle.lb_levels.specs.Rows.{is_within, is_inside}
 use Rattle.lb_base.proofs.Ranges.{all_pass, one_fails}

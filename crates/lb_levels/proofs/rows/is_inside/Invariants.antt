@@ -1,3 +1,4 @@
+-- The loops of `is_inside` of src/rows.rt: whether each node within distance `d` of `a` is within it of `b`.
 use Rattle.std.proofs.Common.{◌≡◌, ℕ, ◌<◌, ◌||◌, not, true}
 use Rattle.lb_levels.specs.Rows.{is_within}
 use Rattle.lb_levels.proofs.rows.is_inside.Given as goal

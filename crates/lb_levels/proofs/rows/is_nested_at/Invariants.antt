@@ -1,3 +1,4 @@
+-- The loops of `is_nested_at` of src/rows.rt.
 use Rattle.std.proofs.Common.{◌≡◌, ℕ, ◌<◌, length, true}
 use Rattle.std.specs.List.{range_with_len, list_all}
 use Rattle.lb_levels.specs.Rows.{are_nested}

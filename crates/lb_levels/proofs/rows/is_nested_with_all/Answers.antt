@@ -1,3 +1,5 @@
+-- For `is_nested_with_all` of src/rows.rt: whether the nodes within distance `d` of node `a` are nested with
+-- those of each node.
 use Rattle.std.proofs.Common.{length, arith, rules}
 use Rattle.lb_levels.specs.Rows.{are_nested}
 use Rattle.lb_base.proofs.Ranges.{all_pass, one_fails}

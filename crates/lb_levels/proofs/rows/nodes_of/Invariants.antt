@@ -1,3 +1,4 @@
+-- The loops of `nodes_of` of src/rows.rt: how many nodes there are.
 use Rattle.std.proofs.Common.{◌≡◌, ◌≤◌, take}
 use Rattle.lb_levels.specs.Faults.{nodes_of}
 use Rattle.lb_levels.proofs.rows.nodes_of.Given as goal

@@ -1,3 +1,4 @@
+-- For `levels_of` of src/span.rt: the levels, from the bottom.
 use Rattle.std.proofs.Common.{◌≡◌, ℕ, List, ◌∷◌, map, filter, sym, ◌∙◌, ap, arith}
 use Rattle.std.specs.List.{range_with_len}
 use Rattle.std.proofs.lemmas.List.{map_push}
@@ -19,7 +20,8 @@ loop-d-preserved c =
           ∙ map_push numa (filter (is_far c.args.distances.now) (range_with_len 0 c.loop-d.d)) c.loop-d.d in
           grind (arith, common_steps, more, w.names-is, w.in_ok-push-4.ensures, c.loop-d.invariant)
       | else-is_far w ↦
-          let same = ap (map numa) (filter_same (is_far c.args.distances.now) c.loop-d.d (sym c.is_far.ensures ∙ w.if-is_far.false)) in
+          let same = ap (map numa) (filter_same (is_far c.args.distances.now) c.loop-d.d
+          (sym c.is_far.ensures ∙ w.if-is_far.false)) in
           w.names-is ∙ c.loop-d.invariant ∙ ap (λ (ls : List LevelName). Smt ∷ Mc ∷ Pkg ∷ ls) (sym same)
     ]
 
@@ -27,4 +29,5 @@ pub returns : goal.returns
 unfolding levels_of
 returns c =
     let all : c.loop-d.d ≡ 256 = omega arith in
-    c.loop-d.invariant ∙ ap (λ (n : ℕ). Smt ∷ Mc ∷ Pkg ∷ map (λ d. Numa d) (filter (is_far c.args.distances.now) (range_with_len 0 n))) all
+    c.loop-d.invariant ∙ ap (λ (n : ℕ). Smt ∷ Mc ∷ Pkg ∷ map (λ d. Numa d)
+    (filter (is_far c.args.distances.now) (range_with_len 0 n))) all

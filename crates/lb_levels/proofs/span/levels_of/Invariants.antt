@@ -1,3 +1,4 @@
+-- The loops of `levels_of` of src/span.rt: the levels, from the bottom.
 use Rattle.std.proofs.Common.{◌≡◌, ◌∷◌, map, filter}
 use Rattle.std.specs.List.{range_with_len}
 use Rattle.lb_base.specs.declared.shape.LevelName.TheVariants.{Smt, Mc, Pkg, Numa}

@@ -1,3 +1,4 @@
+-- For `span_of` of src/span.rt: the span of a CPU at a level.
 use Rattle.std.proofs.Common.{◌≡◌, ℕ, Bool, ltb, eqb, ◌&&◌, ◌||◌, length, ◌∙◌, ap, arith}
 use Rattle.lb_levels.specs.Rows.{row_at}
 use Rattle.lb_levels.specs.Spans.{shares, span_of}

@@ -1,3 +1,4 @@
+-- The loops of `span_of` of src/span.rt: the span of a CPU at a level.
 use Rattle.std.proofs.Common.{◌≡◌, ℕ, ltb, ◌&&◌}
 use Rattle.lb_base.specs.Mask.{has}
 use Rattle.lb_levels.specs.Rows.{row_at}

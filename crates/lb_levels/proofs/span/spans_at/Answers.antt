@@ -1,3 +1,4 @@
+-- For `spans_at` of src/span.rt: the spans of all CPUs at a level.
 use Rattle.std.proofs.Common.{◌≡◌, ℕ, length, map, ◌∙◌, ap, arith}
 use Rattle.std.specs.List.{range_with_len}
 use Rattle.lb_levels.specs.Spans.{span_of, spans_at}
@@ -11,4 +12,5 @@ pub returns : goal.returns
 unfolding spans_at
 returns c =
     let all : c.loop-cpu.cpu ≡ length c.args.cpus.now = omega arith in
-    c.loop-cpu.invariant ∙ ap (λ (n : ℕ). map (span_of c.args.cpus.now c.args.distances.now c.args.level) (range_with_len 0 n)) all
+    c.loop-cpu.invariant ∙ ap (λ (n : ℕ). map (span_of c.args.cpus.now c.args.distances.now c.args.level)
+    (range_with_len 0 n)) all

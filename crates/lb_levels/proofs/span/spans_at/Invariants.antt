@@ -1,3 +1,4 @@
+-- The loops of `spans_at` of src/span.rt: the spans of all CPUs at a level.
 use Rattle.std.proofs.Common.{◌≡◌, map}
 use Rattle.std.specs.List.{range_with_len}
 use Rattle.lb_levels.specs.Spans.{span_of}

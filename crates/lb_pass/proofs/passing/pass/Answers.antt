@@ -1,3 +1,5 @@
+-- For `pass` of src/passing.rt: makes the looks, takes and landings of one position of the lane's open turn,
+-- and its close, and answers how the position ended (docs/rules/lanes.md, docs/rules/counters.md).
 use Rattle.lb_pass.proofs.Closing.{can_close, closed_rows, closed_turn, due_declared, first_look, goes_on_after, passed, stops_settled}
 use Rattle.lb_pass.proofs.Settling.{on_err}
 use Rattle.lb_pass.proofs.passing.pass.Goals as goal

@@ -1,3 +1,4 @@
+-- For `settle` of src/passing.rt: attempts until no further look is due, or one moves nothing.
 use Rattle.std.proofs.Common.{refl}
 use Rattle.lb_pass.proofs.Settling.{ends_in_vain, ends_pulled, one_more, pull_of, still, stop_stays, vain_of}
 use Rattle.lb_pass.proofs.passing.settle.Goals as goal
@@ -29,5 +30,6 @@ loop-preserved g c = (
   tt,
   tt,
   one_more g.N.Names.header g.N.Names.book g.N.Names.board _ c.args.lane.now c.loop.lane c.attempt.new.lane
-      c.loop.invariant.2 (pull_of _ _ c.in_ok-pulled.pulled c.if-not-pulled.false c.in_ok-pulled.ensures.ok) (c.if-not-can_look.ensures.0 refl),
+      c.loop.invariant.2 (pull_of _ _ c.in_ok-pulled.pulled c.if-not-pulled.false c.in_ok-pulled.ensures.ok)
+      (c.if-not-can_look.ensures.0 refl),
 )

@@ -1,3 +1,4 @@
+-- The loops of `settle` of src/passing.rt: attempts until no further look is due, or one moves nothing.
 use Rattle.lb_journal.specs.contracts.journal.Journal.{the_row}
 use Rattle.lb_pass.proofs.Settling.{Tries}
 use Rattle.lb_pass.proofs.passing.settle.Given as goal

@@ -1,3 +1,4 @@
+-- For `attempt` of src/trying.rt: a look, and the pull that it decides for.
 use Rattle.std.proofs.Common.{arith}
 use Rattle.lb_lane_laws.proofs.Sources.{Laws}
 use Rattle.lb_pass.proofs.Attempting.{further_after, pull_due, source_after}

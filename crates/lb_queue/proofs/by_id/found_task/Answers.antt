@@ -1,3 +1,4 @@
+-- For `found_task` of src/by_id.rt: what is known of a task of a list.
 use Rattle.std.proofs.Common.{◌==◌, ◌∙◌, sym, ap, get_or}
 use Rattle.lb_queue.specs.declared.record.TaskRecord.{TaskRecord}
 use Rattle.lb_queue.proofs.Search.{find_of_position, find_of_no_position}

@@ -1,3 +1,4 @@
+-- For `take_awake` of src/by_id.rt: takes an awake task out of a list in which it stands at most once.
 use Rattle.std.proofs.Common.{◌∙◌, ap, sym, reverse, not, ◌==◌}
 use Rattle.lb_queue.specs.declared.awake.Awake.{Awake}
 use Rattle.lb_queue.proofs.Search.{find_of_position, find_of_no_position, rest_of_position, rest_of_none}

@@ -1,3 +1,4 @@
+-- For `take_task` of src/by_id.rt: takes a task out of a list in which it stands at most once.
 use Rattle.std.proofs.Common.{◌∙◌, sym, ◌==◌}
 use Rattle.lb_queue.specs.declared.record.TaskRecord.{TaskRecord}
 use Rattle.lb_queue.proofs.Search.{find_of_position, find_of_no_position, rest_of_position, rest_of_none}
@@ -15,7 +16,8 @@ returns-in-Some-clause-rest c = c.remove.ensures.items
 
 pub returns-in-None-clause-found : goal.returns-in-None-clause-found
 returns-in-None-clause-found c = sym (find_of_no_position
-    (λ (t : TaskRecord). t.id == c.args.id) c.args.tasks.now.items (rw c.deref.ensures.value at (sym c.place_of.ensures ∙ c.in-None.is)))
+    (λ (t : TaskRecord). t.id == c.args.id) c.args.tasks.now.items
+    (rw c.deref.ensures.value at (sym c.place_of.ensures ∙ c.in-None.is)))
 
 pub returns-in-None-clause-rest : goal.returns-in-None-clause-rest
 returns-in-None-clause-rest c =

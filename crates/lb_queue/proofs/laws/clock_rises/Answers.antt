@@ -1,3 +1,4 @@
+-- For `clock_rises` of src/laws.rt: the clock never falls, whatever calls are made.
 use Rattle.lb_queue.proofs.Reached.{clock_rises}
 use Rattle.lb_queue.proofs.laws.clock_rises.Goals as goal
 

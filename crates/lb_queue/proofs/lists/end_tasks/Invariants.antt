@@ -1,3 +1,4 @@
+-- The loops of `end_tasks` of src/lists.rt: the tasks of a list end.
 use Rattle.std.proofs.Common.{vec_len}
 use Rattle.lb_queue.proofs.lists.end_tasks.Given as goal
 

@@ -1,3 +1,4 @@
+-- For `join` of src/lists.rt: a task joins the front, which is the end of the vector.
 use Rattle.std.proofs.Common.{rules, ◌∙◌, ap}
 use Rattle.lb_queue.specs.Tasks.{picked}
 use Rattle.lb_queue.proofs.Turned.{joined_waiting, joined_picked}

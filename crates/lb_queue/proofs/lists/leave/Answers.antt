@@ -1,3 +1,4 @@
+-- For `leave` of src/lists.rt: an awake task leaves the list, in which it stands at most once.
 use Rattle.std.proofs.Common.{reverse}
 use Rattle.lb_queue.proofs.Sound.{left_is, left_none}
 use Rattle.lb_queue.proofs.lists.leave.Goals as goal

@@ -1,3 +1,4 @@
+-- For `mask_asleep` of src/lists.rt: the task of that id, which sleeps, gets a mask.
 use Rattle.std.proofs.Common.{◌==◌, ◌∙◌, ap, arith, ◌<◌, ◌≤◌, length, List, get_or}
 use Rattle.std.specs.Prelude.{if◌then◌else◌}
 use Rattle.std.proofs.Math.ListN.{set}
@@ -11,7 +12,8 @@ loop-t-preserved c =
     let f = (λ (t : TaskRecord). if t.id == c.args.id then with_mask c.args.mask t else t) in
     let i = c.loop-t.t-index in
     let before = c.args.tasks.now.items in
-    let here : i < length before = let k = c.loop-t-test.true in let l = ap length c.deref_mut-t-items.ensures.value in omega arith in
+    let here : i < length before = let k = c.loop-t-test.true in let l = ap length c.deref_mut-t-items.ensures.value in
+    omega arith in
     ap (λ (xs : List TaskRecord). set xs i c.set_mask.new.self) c.loop-t.invariant
     ∙ mapped_set f i before c.set_mask.new.self c.t-item.result here
     (c.set_mask.ensures ∙ ap f (ap (λ (xs : List TaskRecord). get_or xs i c.t-item.result) c.loop-t.invariant

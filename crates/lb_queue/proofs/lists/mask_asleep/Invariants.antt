@@ -1,3 +1,4 @@
+-- The loops of `mask_asleep` of src/lists.rt: the task of that id, which sleeps, gets a mask.
 use Rattle.std.proofs.Common.{◌≡◌, ◌==◌}
 use Rattle.std.specs.Prelude.{if◌then◌else◌}
 use Rattle.lb_queue.specs.declared.record.TaskRecord.{TaskRecord}

@@ -1,3 +1,4 @@
+-- For `mask_awake` of src/lists.rt: the task of that id gets a mask.
 use Rattle.std.proofs.Common.{◌==◌, ◌∙◌, ap, arith, ◌<◌, ◌≤◌, length, List, get_or}
 use Rattle.std.specs.Prelude.{if◌then◌else◌}
 use Rattle.std.proofs.Math.ListN.{set}
@@ -11,7 +12,8 @@ loop-a-preserved c =
     let f = (λ (a : Awake). if a.task.id == c.args.id then masked c.args.cpu c.args.mask a else a) in
     let i = c.loop-a.a-index in
     let before = c.args.awake.now.items in
-    let here : i < length before = let k = c.loop-a-test.true in let l = ap length c.deref_mut-a-items.ensures.value in omega arith in
+    let here : i < length before = let k = c.loop-a-test.true in let l = ap length c.deref_mut-a-items.ensures.value in
+    omega arith in
     ap (λ (xs : List Awake). set xs i c.set_mask.new.self) c.loop-a.invariant
     ∙ mapped_set f i before c.set_mask.new.self c.a-item.result here
     (c.set_mask.ensures ∙ ap f (ap (λ (xs : List Awake). get_or xs i c.a-item.result) c.loop-a.invariant

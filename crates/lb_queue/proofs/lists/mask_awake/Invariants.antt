@@ -1,3 +1,4 @@
+-- The loops of `mask_awake` of src/lists.rt: the task of that id gets a mask.
 use Rattle.std.proofs.Common.{◌≡◌, ◌==◌}
 use Rattle.std.specs.Prelude.{if◌then◌else◌}
 use Rattle.lb_queue.specs.declared.awake.Awake.{Awake}

@@ -1,3 +1,4 @@
+-- The loops of `owe_all` of src/lists.rt: pending requests become owed.
 use Rattle.std.proofs.Common.{◌≡◌}
 use Rattle.lb_queue.specs.Requests.{owes}
 use Rattle.lb_queue.proofs.Mapped.{mapped}

@@ -1,3 +1,4 @@
+-- For `pick_back` of src/lists.rt: the task at the back is picked, and goes to the front.
 use Rattle.std.proofs.Common.{◌<◌, ◌∙◌, arith, sym, length}
 use Rattle.std.proofs.lemmas.Bool.{eqb-true, eqb-false}
 use Rattle.lb_queue.proofs.Turned.{nobody_picked, back_picked}

@@ -1,3 +1,4 @@
+-- For `preempt_all` of src/lists.rt: the running task is put down and waits.
 use Rattle.std.proofs.Common.{◌∙◌, ap, arith, ◌<◌, ◌≤◌, length, List, get_or}
 use Rattle.std.proofs.Math.ListN.{set}
 use Rattle.lb_queue.specs.declared.awake.Awake.{Awake}
@@ -10,7 +11,8 @@ loop-a-preserved c =
     let f = preempted c.args.clock in
     let i = c.loop-a.a-index in
     let before = c.args.awake.now.items in
-    let here : i < length before = let k = c.loop-a-test.true in let l = ap length c.deref_mut-a-items.ensures.value in omega arith in
+    let here : i < length before = let k = c.loop-a-test.true in let l = ap length c.deref_mut-a-items.ensures.value in
+    omega arith in
     ap (λ (xs : List Awake). set xs i c.preempt.new.self) c.loop-a.invariant
     ∙ mapped_set f i before c.preempt.new.self c.a-item.result here
     (c.preempt.ensures ∙ ap f (ap (λ (xs : List Awake). get_or xs i c.a-item.result) c.loop-a.invariant

@@ -1,3 +1,4 @@
+-- The loops of `preempt_all` of src/lists.rt: the running task is put down and waits.
 use Rattle.std.proofs.Common.{◌≡◌}
 use Rattle.lb_queue.specs.Tasks.{preempted}
 use Rattle.lb_queue.proofs.Mapped.{mapped}

@@ -1,3 +1,4 @@
+-- For `renice_asleep` of src/lists.rt.
 use Rattle.std.proofs.Common.{rules, ◌≡◌, ◌==◌, ◌∙◌, ap, sym}
 use Rattle.lb_queue.specs.declared.record.TaskRecord.{TaskRecord}
 use Rattle.lb_queue.specs.Commands.{with_nice}

@@ -1,3 +1,4 @@
+-- For `renice_awake` of src/lists.rt: the task of that id gets a nice value.
 use Rattle.std.proofs.Common.{rules, ◌≡◌, ◌==◌, ◌∙◌, ap, sym}
 use Rattle.lb_queue.specs.declared.awake.Awake.{Awake}
 use Rattle.lb_queue.specs.Commands.{reniced}

@@ -1,3 +1,5 @@
+-- For `rotate` of src/lists.rt: where two or more are awake, the one nearest the back that does not run takes
+-- the place of the running one.
 use Rattle.std.proofs.Common.{◌≤◌, ◌∙◌, sym, arith, length}
 use Rattle.lb_queue.proofs.Ticking.{rotate_short, rotate_none, rotate_some}
 use Rattle.lb_queue.proofs.lists.rotate.Goals as goal
@@ -23,4 +25,5 @@ returns-in_default-clause-items c =
     let l = c.len.ensures in
     let t = c.if-len-lt2.false in
     let two : 2 ≤ length c.args.awake.now.items = omega arith in
-    rotate_none c.args.clock c.args.awake.now.items two (rw c.deref.ensures.value at (sym c.first_waiting.ensures ∙ c.in_default.is))
+    rotate_none c.args.clock c.args.awake.now.items two
+    (rw c.deref.ensures.value at (sym c.first_waiting.ensures ∙ c.in_default.is))

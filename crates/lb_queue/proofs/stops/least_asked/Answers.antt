@@ -1,3 +1,4 @@
+-- For `least_asked` of src/stops.rt: the least id of the tasks that are asked to leave.
 use Rattle.lb_queue.proofs.Leasts.{least_more}
 use Rattle.lb_queue.proofs.stops.least_asked.Goals as goal
 

@@ -1,3 +1,4 @@
+-- The loops of `least_asked` of src/stops.rt: the least id of the tasks that are asked to leave.
 use Rattle.std.proofs.Common.{take}
 use Rattle.lb_queue.specs.Lists.{IsLeastAsked}
 use Rattle.lb_queue.proofs.stops.least_asked.Given as goal

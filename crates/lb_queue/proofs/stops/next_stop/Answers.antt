@@ -1,3 +1,5 @@
+-- For `next_stop` of src/stops.rt: the stop request of the least id, of the owed ones only if asked, in a
+-- list that is kept from the back to the front.
 use Rattle.std.proofs.Common.{◌∙◌, sym, ap}
 use Rattle.lb_queue.specs.Requests.{stop_of}
 use Rattle.lb_queue.proofs.Leasts.{next_is, next_none, all_go}

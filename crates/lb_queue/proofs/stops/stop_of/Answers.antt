@@ -1,3 +1,4 @@
+-- For `stop_of` of src/stops.rt: the request of a task goes to the least CPU of its mask.
 use Rattle.std.proofs.Common.{◌≡◌, ◌∙◌, sym, ap, subst, ◌==◌, Option, Some}
 use Rattle.std.specs.Prelude.{IfSome}
 use Rattle.lb_base.specs.Sets.{least}

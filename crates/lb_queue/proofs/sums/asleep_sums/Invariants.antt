@@ -1,3 +1,4 @@
+-- The loops of `asleep_sums` of src/sums.rt: over sleeping tasks, at a moment.
 use Rattle.std.proofs.Common.{take}
 use Rattle.lb_queue.specs.Figures.{asleep_value}
 use Rattle.lb_queue.specs.Sums.{AreSums}

@@ -1,3 +1,4 @@
+-- The loops of `awake_sums` of src/sums.rt: over awake tasks, at a moment.
 use Rattle.std.proofs.Common.{take}
 use Rattle.lb_queue.specs.Figures.{awake_value}
 use Rattle.lb_queue.specs.Sums.{AreSums}

@@ -1,3 +1,5 @@
+-- For `fill_views` of src/views.rt: what a pull at a moment sees of the awake tasks, from the front to the
+-- back.
 use Rattle.std.proofs.Common.{◌∙◌, map, reverse, sym, ap, take_all}
 use Rattle.lb_queue.specs.Values.{view_at}
 use Rattle.lb_queue.proofs.Turned.{map_reverse}

@@ -1,3 +1,5 @@
+-- For `set_order` of src/views.rt: the awake tasks stand in an order from now on, which has two parts of them
+-- the other way round.
 use Rattle.std.proofs.Common.{◌∙◌, ◌==◌, ℕ, ap, List}
 use Rattle.std.specs.Prelude.{unwrap_or, option_and_then, position, slice_get, length, ◌-◌}
 use Rattle.lb_queue.specs.declared.awake.Awake.{Awake}

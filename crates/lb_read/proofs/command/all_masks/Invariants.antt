@@ -1,3 +1,4 @@
+-- The loops of `all_masks` of src/command.rt: all masks that are left.
 use Rattle.std.proofs.Common.{◌≡◌, length}
 use Rattle.lb_read.specs.Exact.{each}
 use Rattle.lb_read.specs.Fields.{mask_in}

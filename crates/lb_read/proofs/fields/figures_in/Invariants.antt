@@ -1,3 +1,4 @@
+-- The loops of `figures_in` of src/fields.rt: figures, of rising CPUs.
 use Rattle.std.proofs.Common.{◌≡◌, eqb, length}
 use Rattle.std.specs.List.{slice_split}
 use Rattle.lb_read.specs.Exact.{each}

@@ -1,3 +1,4 @@
+-- The loops of `ids_in` of src/fields.rt: numbers of tasks; `-` is none.
 use Rattle.std.proofs.Common.{◌≡◌, eqb, length}
 use Rattle.std.specs.List.{slice_split}
 use Rattle.lb_read.specs.Exact.{each}

@@ -1,3 +1,4 @@
+-- For `head_of` of src/header.rt: reads the lines at the head that can be repeated.
 use Rattle.std.proofs.Common.{◌≡◌, ℕ, ◌+◌, ◌-◌, ◌<◌, Bool, true, false, ◌&&◌, ◌||◌, List, length, sym, ap, subst, ◌∙◌, arith}
 use Rattle.lb_trace.specs.declared.trace.TheConstants.{MAX_BYTES}
 use Rattle.lb_read.specs.Repeats.{can_repeat, is_parts, has_room}

@@ -1,3 +1,4 @@
+-- The loops of `head_of` of src/header.rt: reads the lines at the head that can be repeated.
 use Rattle.std.proofs.Common.{length}
 use Rattle.lb_read.proofs.HeadFacts.{HeadSoFar}
 use Rattle.lb_read.proofs.header.head_of.Given as goal

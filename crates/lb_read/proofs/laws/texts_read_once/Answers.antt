@@ -1,3 +1,5 @@
+-- For `texts_read_once` of src/laws.rt: a text reads as a history, or some line of it is the first that is no
+-- line of a history at its place; never both.
 use Rattle.lb_read.proofs.Refusals.{read_once, read_or_bad, none_is_bad, one_is_first}
 use Rattle.lb_read.proofs.laws.texts_read_once.Goals as goal
 

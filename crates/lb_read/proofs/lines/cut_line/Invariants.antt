@@ -1,3 +1,5 @@
+-- The loops of `cut_line` of src/lines.rt: the first line of a text, without its line feed, and what stands
+-- behind that; None where there is no line feed.
 use Rattle.std.proofs.Common.{◌≡◌, eqb, take, drop}
 use Rattle.std.specs.List.{slice_split}
 use Rattle.lb_text.proofs.Cut.{onto_front}

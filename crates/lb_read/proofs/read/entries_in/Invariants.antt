@@ -1,3 +1,4 @@
+-- The loops of `entries_in` of src/read.rt: the entries of a text, of which the first is this line.
 use Rattle.std.proofs.Common.{◌≡◌, ◌+◌, ◌≤◌, length}
 use Rattle.lb_read.specs.Texts.{lines_of, entries_in}
 use Rattle.lb_read.proofs.TextFacts.{entries_onto}

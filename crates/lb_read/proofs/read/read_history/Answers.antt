@@ -1,3 +1,5 @@
+-- For `read_history` of src/read.rt: the history that a text reads as, or its first line that is no line of a
+-- history at its place (docs/rules/history-text.md).
 use Rattle.lb_read.proofs.Refusals.{gives_read, gives_bad}
 use Rattle.lb_read.proofs.read.read_history.Goals as goal
 

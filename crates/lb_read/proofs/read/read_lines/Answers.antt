@@ -1,3 +1,4 @@
+-- For `read_lines` of src/read.rt: the history that a text reads as, line after line.
 use Rattle.std.proofs.Common.{◌≡◌, ℕ, true, Result, rules, sym, subst}
 use Rattle.std.specs.Str.{bytes_eq}
 use Rattle.lb_read.specs.declared.written.Read.{Read}

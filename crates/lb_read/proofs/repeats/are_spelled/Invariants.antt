@@ -1,3 +1,4 @@
+-- The loops of `are_spelled` of src/repeats.rt: whether all fields that are left are such texts.
 use Rattle.std.proofs.Common.{◌≡◌, length}
 use Rattle.std.specs.List.{list_all}
 use Rattle.lb_read.specs.Repeats.{is_spelled}

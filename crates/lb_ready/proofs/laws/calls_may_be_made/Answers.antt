@@ -1,3 +1,6 @@
+-- For `calls_may_be_made` of src/laws.rt: an entry that may be added to a ready machine meets what the calls
+-- of its queue ask, with the values that the course of its lane fixes; all but what a command asks it meets
+-- as soon as its lane may draw it (`tried`).
 use Rattle.lb_ready.proofs.Keeping.{DomainLaws}
 use Rattle.lb_ready.proofs.Calls.{calls_may_be_tried, calls_may_be_made, looks_may_be_decided, stops_may_be_taken, tasks_stand}
 use Rattle.lb_ready.proofs.laws.calls_may_be_made.Goals as goal

@@ -1,3 +1,5 @@
+-- For `entries_fall` of src/laws.rt: every entry that may be added lowers the number of entries that are
+-- left, whichever lane draws it.
 use Rattle.lb_ready.proofs.Work.{entries_fall}
 use Rattle.lb_ready.proofs.laws.entries_fall.Goals as goal
 

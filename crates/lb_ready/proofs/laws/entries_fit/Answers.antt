@@ -1,3 +1,6 @@
+-- For `entries_fit` of src/laws.rt: what the entries of a history of an accepted trace say is in the ranges
+-- of its text (docs/rules/history-text.md), tickets and previous tickets too; and so does each entry that may
+-- be added to a ready machine that has not drawn [`lb_core::MAX_TICKET`] entries.
 use Rattle.lb_ready.proofs.Histories.{entries_fit}
 use Rattle.lb_ready.proofs.Ranges.{ReadyLaws, entry_in}
 use Rattle.lb_ready.proofs.laws.entries_fit.Goals as goal

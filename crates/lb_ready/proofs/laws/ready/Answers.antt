@@ -1,3 +1,6 @@
+-- For `ready` of src/laws.rt: what every reachable state of the machine keeps: the opening machine of an
+-- accepted header is ready, and every entry that may be added keeps it so, where the nice value of its row,
+-- if it takes up one, is in range.
 use Rattle.lb_ready.proofs.Keeping.{LawsBelow, ready_start, ready_kept}
 use Rattle.lb_ready.proofs.Ranges.{fits_in_range}
 use Rattle.lb_ready.proofs.laws.ready.Goals as goal
@@ -26,4 +29,8 @@ returns c =
       turns = c.turns_stay_open.ensures;
       counts = c.turns_fit.ensures;
     } in
-    record { opens = ready_start laws; stays = λ m e k h r. ready_kept laws m e.owner e.lane e.prev e.what k h r; reads = fits_in_range }
+    record {
+      opens = ready_start laws;
+      stays = λ m e k h r. ready_kept laws m e.owner e.lane e.prev e.what k h r;
+      reads = fits_in_range;
+    }

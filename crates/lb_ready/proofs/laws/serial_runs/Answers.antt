@@ -1,3 +1,6 @@
+-- For `serial_runs` of src/laws.rt: a serial run is never stuck: a lane that serves its row while the others
+-- rest has a next entry; where all rest, each accepted row may be taken up, or else lane 0 goes on closing
+-- the history.
 use Rattle.lb_ready.proofs.Running.{service_goes_on, rows_are_taken, closing_goes_on, traces_have_runs}
 use Rattle.lb_ready.proofs.laws.serial_runs.Goals as goal
 

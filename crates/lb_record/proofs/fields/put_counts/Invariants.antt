@@ -1,3 +1,4 @@
+-- The loops of `put_counts` of src/fields.rt: numbers, each behind the mark.
 use Rattle.std.proofs.Common.{◌≡◌, ◌++◌, map, drop, decimal}
 use Rattle.lb_text.specs.Lines.{marked, StillStands}
 use Rattle.lb_record.proofs.fields.put_counts.Given as goal

@@ -1,3 +1,4 @@
+-- The loops of `put_masks` of src/fields.rt: the CPUs of masks, each behind a space.
 use Rattle.std.proofs.Common.{◌≡◌, ◌++◌, map, drop}
 use Rattle.lb_text.specs.Runs.{list_text}
 use Rattle.lb_text.specs.Lines.{marked, StillStands}

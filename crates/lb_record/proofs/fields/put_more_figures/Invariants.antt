@@ -1,3 +1,4 @@
+-- The loops of `put_more_figures` of src/fields.rt: names of figures, each behind a comma.
 use Rattle.std.proofs.Common.{◌≡◌, ◌++◌, map, drop}
 use Rattle.lb_text.specs.Lines.{marked, StillStands}
 use Rattle.lb_record.specs.Fields.{figure_text}

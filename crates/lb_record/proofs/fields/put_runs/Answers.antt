@@ -1,3 +1,5 @@
+-- For `put_runs` of src/fields.rt: the CPUs of a mask behind a comma, as a line of a trace has them: nothing
+-- where there are none.
 use Rattle.std.proofs.Common.{◌≡◌, ◌∷◌, ◌++◌, [], List, ℕ, false, refl, sym, ap, ◌∙◌, append_assoc}
 use Rattle.std.specs.Prelude.{is_none}
 use Rattle.lb_base.specs.Sets.{least}

@@ -1,3 +1,4 @@
+-- The loops of `put_cpus` of src/header.rt: the lines of CPUs, from CPU 0.
 use Rattle.std.proofs.Common.{◌≡◌, ◌++◌, drop}
 use Rattle.lb_text.specs.Lines.{lines_text, numbered, StillStands}
 use Rattle.lb_record.specs.Header.{cpu_line}

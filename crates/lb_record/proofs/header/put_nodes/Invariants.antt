@@ -1,3 +1,4 @@
+-- The loops of `put_nodes` of src/header.rt: the lines of the distances of nodes.
 use Rattle.std.proofs.Common.{◌≡◌, ◌++◌, map, drop}
 use Rattle.lb_text.specs.Lines.{lines_text, StillStands}
 use Rattle.lb_record.specs.Header.{distances_line}

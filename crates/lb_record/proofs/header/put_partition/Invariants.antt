@@ -1,3 +1,4 @@
+-- The loops of `put_partition` of src/header.rt: the CPUs of masks, each behind a comma.
 use Rattle.std.proofs.Common.{◌≡◌, ◌++◌, map, drop}
 use Rattle.lb_text.specs.Runs.{runs_text}
 use Rattle.lb_text.specs.Lines.{marked, StillStands}

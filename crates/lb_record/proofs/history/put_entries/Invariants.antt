@@ -1,3 +1,4 @@
+-- The loops of `put_entries` of src/history.rt: the lines of entries, from ticket 1.
 use Rattle.std.proofs.Common.{◌≡◌, ◌+◌, ◌++◌, true, drop}
 use Rattle.lb_core.specs.Ranges.{fit_from}
 use Rattle.lb_text.specs.Lines.{lines_text, numbered}

@@ -1,3 +1,5 @@
+-- For `spells_worked_lines` of src/laws.rt: worked lines of a header and of entries of every kind have the
+-- texts that are wanted (docs/rules/history-text.md).
 use Rattle.lb_record.proofs.Worked.{rows, moves, turns, ends, header}
 use Rattle.lb_record.proofs.laws.spells_worked_lines.Goals as goal
 

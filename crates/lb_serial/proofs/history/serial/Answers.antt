@@ -1,3 +1,5 @@
+-- For `serial` of src/history.rt: the serial history of a trace: the rows in file order, each with all that
+-- follows it until its lane rests, and the end (docs/rules/lanes.md).
 use Rattle.std.proofs.Common.{[], sym, ◌∙◌}
 use Rattle.lb_serial.proofs.Next.{all_drawn}
 use Rattle.lb_serial.proofs.Draws.{after_draw, closes_on}
@@ -23,4 +25,5 @@ loop-run-preserved c =
     (after_draw _ _ _ _ _ c.draw.new.self w c.in_ok-draw.ensures).0
 
 pub returns : goal.returns
-returns c = all_drawn c.args.trace.now [] c.loop-run.run c.loop-run.invariant.front (sym c.has_ended.ensures ∙ c.loop-run-test.false)
+returns c = all_drawn c.args.trace.now [] c.loop-run.run c.loop-run.invariant.front
+    (sym c.has_ended.ensures ∙ c.loop-run-test.false)

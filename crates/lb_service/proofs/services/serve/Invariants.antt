@@ -1,3 +1,4 @@
+-- The loops of `serve` of src/services.rt: serves all that is due, until the lane is at rest.
 use Rattle.lb_lane_laws.specs.Stays.{SameRows}
 use Rattle.lb_service.specs.Services.{StillDue}
 use Rattle.lb_service.proofs.services.serve.Given as goal

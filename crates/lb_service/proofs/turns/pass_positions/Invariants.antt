@@ -1,3 +1,4 @@
+-- The loops of `pass_positions` of src/turns.rt: passes the positions of an open turn, in their order.
 use Rattle.std.proofs.Common.{◌≡◌, false}
 use Rattle.lb_core.specs.Placed.{is_flight}
 use Rattle.lb_lane_laws.specs.Stays.{SameRows}

@@ -1,3 +1,5 @@
+-- For `steps_may_be_taken` of src/laws.rt: an entry that may be added to a ready machine meets what its step
+-- asks of the engine, where the nice value of its row, if it takes up one, is in range.
 use Rattle.lb_state.proofs.Taking.{ReadyLaws, steps_may_be_taken}
 use Rattle.lb_state.proofs.laws.steps_may_be_taken.Goals as goal
 

@@ -1,3 +1,4 @@
+-- For `sums_of` of src/statistics.rt.
 use Rattle.std.proofs.Common.{◌+◌, ℕ, List, [], ◌∷◌, ◌++◌, false, refl, sym, subst, arith}
 use Rattle.lb_base.specs.declared.mask.TheConstants.{MAX_CPUS}
 use Rattle.lb_base.specs.Mask.{members_below}
@@ -71,7 +72,8 @@ loop-next-preserved c =
     let d = (goal.at.loop-next-preserved c).In-Some in
     let here = at d in
     let room = here.in_range in
-    let more : IsSumOver c.args.position c.args.figs.now (members_below c.args.group c.in-Some.cpu ++ c.in-Some.cpu ∷ []) c.add.new.self =
+    let more : IsSumOver c.args.position c.args.figs.now
+    (members_below c.args.group c.in-Some.cpu ++ c.in-Some.cpu ∷ []) c.add.new.self =
     sums_more c.args.position c.args.figs.now
     (members_below c.args.group c.in-Some.cpu) c.in-Some.cpu c.loop-next.sums c.add.new.self (so_far d)
     (record {
@@ -100,5 +102,6 @@ pub returns : goal.returns
 returns c =
     let sums : IsSumOver c.args.position c.args.figs.now (members_below c.args.group MAX_CPUS) c.loop-next.sums =
     rw c.in_default.is at c.loop-next.invariant.so_far in
-    let all = all_summed c.args.position c.args.figs.now c.args.group c.loop-next.sums (rw (sym (members_all c.args.group)) at sums) in
+    let all = all_summed c.args.position c.args.figs.now c.args.group c.loop-next.sums
+    (rw (sym (members_all c.args.group)) at sums) in
     record { nr = all.nr; load = all.load; util = all.util; runnable = all.runnable; idle = all.idle; marked = all.marked }

@@ -1,3 +1,4 @@
+-- The loops of `sums_of` of src/statistics.rt.
 use Rattle.std.proofs.Common.{◌≤◌, ◌-◌}
 use Rattle.lb_base.specs.declared.mask.TheConstants.{MAX_CPUS}
 use Rattle.lb_base.specs.Mask.{members_below}

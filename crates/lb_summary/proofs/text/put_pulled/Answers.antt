@@ -1,3 +1,4 @@
+-- For `put_pulled` of src/text.rt: appends the lines of what was pulled.
 use Rattle.lb_summary.specs.Text.{pulled_text}
 use Rattle.lb_summary.proofs.Texts.{followed}
 use Rattle.lb_summary.proofs.text.put_pulled.Goals as goal

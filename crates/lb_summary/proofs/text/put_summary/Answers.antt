@@ -1,3 +1,4 @@
+-- For `put_summary` of src/text.rt: appends the lines of a summary.
 use Rattle.lb_summary.specs.Text.{text_of}
 use Rattle.lb_summary.proofs.Texts.{followed}
 use Rattle.lb_summary.proofs.text.put_summary.Goals as goal

@@ -1,3 +1,5 @@
+-- For `source_of_four` of src/busiest.rt: the source among four CPUs beside a busier one that is not of the
+-- group.
 use Rattle.std.proofs.Common.{◌≡◌, ℕ, ◌<◌, true, lit<, inl, inr}
 use Rattle.std.proofs.lemmas.Bool.{both_ways, cases_lt}
 use Rattle.lb_base.specs.declared.mask.Mask.{Mask}

@@ -1,3 +1,5 @@
+-- For `decide_for_two` of src/imbalance.rt: the decision of CPU 0 of two that share a cache, by their tasks,
+-- loads, utilisations and runnable averages.
 use Rattle.std.proofs.Common.{◌^◌, ◌<◌, [], ◌∷◌, lit<, refl, arith}
 use Rattle.lb_base.specs.declared.figure.Fig.{Fig}
 use Rattle.lb_base.specs.Mask.{has, members, members_below, without}

@@ -1,3 +1,4 @@
+-- For `two_cores_of_two_threads` of src/imbalance.rt.
 use Rattle.std.proofs.Common.{ℕ, [], ◌∷◌, lit<, lit≤, refl}
 use Rattle.lb_base.specs.declared.mask.Mask.{Mask}
 use Rattle.lb_base.specs.declared.figure.Fig.{Fig}
@@ -13,7 +14,8 @@ mask bits = record { bits = bits }
 fig : ℕ → ℕ → ℕ → ℕ → Fig
 fig nr load util runnable = record { n = 0; ticket = 0; nr = nr; load = load; util = util; runnable = runnable; flags = 0 }
 
-small : HaveSmallSums (fig 0 0 0 0 ∷ fig 1 100 100 100 ∷ fig 3 2000 800 900 ∷ fig 3 900 700 700 ∷ []) (mask 0) (mask 3 ∷ mask 12 ∷ [])
+small : HaveSmallSums (fig 0 0 0 0 ∷ fig 1 100 100 100 ∷ fig 3 2000 800 900 ∷ fig 3 900 700 700 ∷ []) (mask 0)
+    (mask 3 ∷ mask 12 ∷ [])
 unfolding total members members_below has without fig mask
 small = record { nr = lit< tt; load = lit< tt; util = lit< tt; runnable = lit< tt }
 

@@ -1,3 +1,4 @@
+-- For `kicked` of src/nohz.rt.
 use Rattle.std.proofs.Common.{◌≡◌, ℕ, ◌^◌, ◌<◌, true, rules, inl, inr}
 use Rattle.std.proofs.lemmas.Bool.{cases_lt, both_ways}
 use Rattle.lb_base.specs.declared.mask.Mask.{Mask}

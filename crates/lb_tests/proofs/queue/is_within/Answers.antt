@@ -1,3 +1,4 @@
+-- For `is_within` of src/queue.rt.
 use Rattle.std.proofs.Common.{rules, ◌<◌, ◌^◌}
 use Rattle.lb_queue.proofs.Masks.{below_is}
 use Rattle.lb_tests.proofs.queue.is_within.Goals as goal

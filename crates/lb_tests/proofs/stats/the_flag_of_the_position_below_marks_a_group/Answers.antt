@@ -1,3 +1,4 @@
+-- For `the_flag_of_the_position_below_marks_a_group` of src/stats.rt.
 use Rattle.std.proofs.Common.{◌≡◌, ℕ, ◌<◌, true, [], ◌∷◌, lit<, inl, inr}
 use Rattle.std.proofs.lemmas.Bool.{both_ways, cases_lt}
 use Rattle.lb_base.specs.declared.mask.Mask.{Mask}
@@ -20,7 +21,15 @@ below cpu here = elim (cases_lt cpu 3) [
 ]
 
 fig : ℕ → ℕ → ℕ → ℕ → ℕ → Fig
-fig nr load util runnable flags = record { n = 0; ticket = 0; nr = nr; load = load; util = util; runnable = runnable; flags = flags }
+fig nr load util runnable flags = record {
+  n = 0;
+  ticket = 0;
+  nr = nr;
+  load = load;
+  util = util;
+  runnable = runnable;
+  flags = flags;
+}
 
 small : HasSmallSums (fig 2 1500 1024 1024 0 ∷ fig 0 120 40 0 256 ∷ fig 3 2100 640 700 512 ∷ []) two
 unfolding total members members_below has two fig

@@ -1,3 +1,4 @@
+-- For `leads` of src/number.rt: whether some number from `least` to `most` begins with the digits of `value`.
 use Rattle.std.proofs.Common.{◌≡◌, ◌<◌, ◌^◌, arith}
 use Rattle.std.proofs.lemmas.Bool.{leb-true, le-leb, eq-eqb, eqb-true}
 use Rattle.lb_text.proofs.Leading.{begins_from, cut_none, cut_more_of, cut_leads, zero_leads, zero_leads_only}

@@ -1,3 +1,5 @@
+-- The loops of `leads` of src/number.rt: whether some number from `least` to `most` begins with the digits of
+-- `value`.
 use Rattle.lb_text.proofs.Leading.{IsCut}
 use Rattle.lb_text.proofs.number.leads.Given as goal
 

@@ -1,3 +1,5 @@
+-- For `nice_of` of src/number.rt: the nice value, from -20 to 19, that a text spells: a number, or `-` and a
+-- number that is not 0 (docs/rules/history-text.md).
 use Rattle.std.proofs.Common.{Some, ap, ◌∙◌, arith, pos, neg_ℤ}
 use Rattle.std.specs.Option.{option_map}
 use Rattle.std.proofs.lemmas.Int.{ints}

@@ -1,3 +1,5 @@
+-- For `number_within` of src/number.rt: the number from `least` to `most` that a text spells: `0`, or digits
+-- of which the first is not 0 (docs/rules/history-text.md).
 use Rattle.std.proofs.Common.{take, arith}
 use Rattle.lb_text.proofs.Digits.{number_spelled}
 use Rattle.lb_text.proofs.Prefix.{read_more, read_bad, read_empty, read_small, read_whole}

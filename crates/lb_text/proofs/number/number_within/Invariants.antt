@@ -1,3 +1,5 @@
+-- The loops of `number_within` of src/number.rt: the number from `least` to `most` that a text spells: `0`,
+-- or digits of which the first is not 0 (docs/rules/history-text.md).
 use Rattle.lb_text.proofs.Prefix.{IsRead}
 use Rattle.lb_text.proofs.number.number_within.Given as goal
 

@@ -1,3 +1,4 @@
+-- For `with_leading_digit` of src/number.rt: the same, where some number from `least` to `most` begins so.
 use Rattle.std.proofs.Common.{◌<◌, ◌^◌, ◌++◌, ◌∷◌, [], List, ℕ, Option, Some, sym, subst, refl, arith}
 use Rattle.std.proofs.lemmas.Bool.{both_ways}
 use Rattle.lb_text.specs.Numbers.{is_number}
@@ -29,4 +30,5 @@ returns-else-leads c text s go =
     let next : Spelled (Some c.in-Some.next) (text ++ a.byte ∷ []) =
     subst (λ (o : Option ℕ). GoesOn a.most (text ++ a.byte ∷ []) o) (sym c.in-Some.ensures)
     (goes_on_with a.most a.so_far text a.byte small s) in
-    both_ways c.leads.result c.if-leads.false (c.leads.ensures.1 (subst (λ (t : List ℕ). CanGoOn (is_number a.least a.most) t) next.0 go))
+    both_ways c.leads.result c.if-leads.false
+    (c.leads.ensures.1 (subst (λ (t : List ℕ). CanGoOn (is_number a.least a.most) t) next.0 go))

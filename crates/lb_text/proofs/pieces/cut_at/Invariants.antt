@@ -1,3 +1,4 @@
+-- The loops of `cut_at` of src/pieces.rt: the bytes before the first mark, and those after it.
 use Rattle.std.proofs.Common.{◌≡◌, eqb, take, drop}
 use Rattle.std.specs.List.{slice_split}
 use Rattle.lb_text.proofs.Cut.{onto_front}

@@ -1,3 +1,4 @@
+-- For `put_runs` of src/put.rt: appends the runs of a mask.
 use Rattle.std.proofs.Common.{◌++◌, ◌∷◌, [], sym, ap, ◌∙◌}
 use Rattle.std.proofs.lemmas.List.{append-nil}
 use Rattle.lb_text.specs.Runs.{run_text}

@@ -1,3 +1,4 @@
+-- The loops of `put_runs` of src/put.rt: appends the runs of a mask.
 use Rattle.lb_text.proofs.RunFacts.{IsPut, turns_left}
 use Rattle.lb_text.proofs.put.put_runs.Given as goal
 

@@ -1,3 +1,4 @@
+-- The loops of `run_end` of src/put.rt: the last CPU of the run that begins at this one.
 use Rattle.std.proofs.Common.{◌≡◌, ℕ, ◌<◌, ◌≤◌, ◌-◌, true}
 use Rattle.lb_base.specs.declared.mask.TheConstants.{MAX_CPUS}
 use Rattle.lb_base.specs.Mask.{has}

@@ -1,3 +1,4 @@
+-- For `a_lane_reads_its_own_work` of src/board.rt.
 use Rattle.std.proofs.Common.{◌≡◌, ℕ, zero, suc, ◌<◌, List, [], ◌∷◌, length, map, replicate, get_or, slice_get, set, refl, ap, sym, subst, arith, ◌∙◌}
 use Rattle.atomic_table.specs.Seated.{TableId}
 use Rattle.lb_board.specs.Board.{IsOfBoard, Sight, WriterIs, first_writer, first_writers, sight_of_all}

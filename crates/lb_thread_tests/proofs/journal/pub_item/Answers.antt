@@ -1,3 +1,4 @@
+-- For `pub_item` of src/journal.rt: the publisher answers it.
 use Rattle.std.proofs.Common.{rules, ◌≡◌, [], sym, subst}
 use Rattle.lb_journal.specs.Journal.{Fits}
 use Rattle.lb_thread_tests.proofs.Drawing.{pub_of, pub_fits}

@@ -1,3 +1,4 @@
+-- For `row_item` of src/journal.rt: lane 0 takes up its first row.
 use Rattle.std.proofs.Common.{rules, ◌≡◌, [], sym, subst}
 use Rattle.lb_journal.specs.Journal.{Fits}
 use Rattle.lb_thread_tests.proofs.Drawing.{row_of, row_fits}

@@ -1,3 +1,4 @@
+-- The loops of `a_wake_stands_on_three_lists` of src/machine.rt.
 use Rattle.lb_thread_tests.proofs.machine.a_wake_stands_on_three_lists.Given as goal
 
 -- the names are those of the machine before any entry

@@ -1,3 +1,5 @@
+-- For `two_lanes` of src/machine.rt: two lanes serve a row each, on two threads: the replies, and the closed
+-- lists.
 use denote.Param.Send.{IsSend, IsSync, arg_send, arg_sync, param_send, param_sync, recorded_send, recorded_sync, shr_send, struct_send}
 use denote.Param.{param}
 use Rattle.std.proofs.Crossing.{send as alloc_send}
@@ -7,7 +9,22 @@ use Rattle.lb_lane_laws.proofs.Crossing.{cpus_sync, lane_send}
 use Rattle.lb_thread_tests.proofs.machine.two_lanes.Goals as goal
 
 -- what goes to a lane's thread: the handle, the allocator, the machine, the lane and its row
-ruleset crossing = (tt, param_send, param_sync, arg_send, arg_sync, recorded_send, recorded_sync, struct_send, shr_send, alloc_send, reply.the_send, row.the_sync, lane_send, cpus_sync)
+ruleset crossing = (
+  tt,
+  param_send,
+  param_sync,
+  arg_send,
+  arg_sync,
+  recorded_send,
+  recorded_sync,
+  struct_send,
+  shr_send,
+  alloc_send,
+  reply.the_send,
+  row.the_sync,
+  lane_send,
+  cpus_sync,
+)
 
 pub join-first-requires-send-F : goal.join-first-requires-send-F
 join-first-requires-send-F g c κs within =

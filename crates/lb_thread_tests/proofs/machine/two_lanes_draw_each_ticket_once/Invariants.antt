@@ -1,3 +1,4 @@
+-- The loops of `two_lanes_draw_each_ticket_once` of src/machine.rt.
 use Rattle.lb_thread_tests.proofs.machine.two_lanes_draw_each_ticket_once.Given as goal
 
 -- the names are those of the machine before any entry

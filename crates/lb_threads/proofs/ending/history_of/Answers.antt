@@ -1,3 +1,4 @@
+-- For `history_of` of src/ending.rt: the history of a machine whose lanes have done their rows.
 use Rattle.std.proofs.Common.{◌≡◌, List, All, ap, sym, subst, ◌∙◌}
 use Rattle.lb_trace.specs.declared.trace.Header.{Header}
 use Rattle.lb_core.specs.declared.course.Course.{Course}
@@ -30,7 +31,8 @@ returns g c =
     let e' = c.in_ok-closed.closed in
     let end = c.in_ok-closed.ensures in
     let count = c.requires.count ∙ ap (λ (x : Header). x.lanes) h in
-    let kept : KeptLists t.header the_row.coded e'.seats = subst (λ (x : Header). KeptLists x the_row.coded e'.seats) h c.close.ensures.kept in
+    let kept : KeptLists t.header the_row.coded e'.seats = subst (λ (x : Header). KeptLists x the_row.coded e'.seats) h
+    c.close.ensures.kept in
     let finished : Finished t.header e e' end.0 = subst (λ (x : Header). Finished x e e' end.0) h end.1 in
     let owners = kept_by_owners t the_row.coded left_row.coded e e' end.0 c.args.lanes.items count c.requires.done
     c.in_ok-ended.ensures.left kept finished in

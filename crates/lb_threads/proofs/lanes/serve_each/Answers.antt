@@ -1,3 +1,4 @@
+-- For `serve_each` of src/lanes.rt: each lane serves its rows, on a thread of its own.
 use denote.Exit.{yes}
 use denote.Param.Send.{IsSend, arg_send, arg_sync, param_send, param_sync, recorded_sync, shr_sync, struct_sync}
 use denote.Param.{param}

@@ -1,3 +1,4 @@
+-- For `serve_rows` of src/rows.rt: serves the rows of a lane, in file order.
 use Rattle.std.proofs.Common.{ap, ◌∙◌}
 use Rattle.lb_cell.specs.Cells.{LaneIs as SideIs}
 use Rattle.lb_threads.proofs.Going.{next_row}

@@ -1,3 +1,4 @@
+-- The loops of `serve_rows` of src/rows.rt: serves the rows of a lane, in file order.
 use Rattle.lb_threads.proofs.Going.{HasServed}
 use Rattle.lb_threads.proofs.rows.serve_rows.Given as goal
 

@@ -1,3 +1,4 @@
+-- For `run_blank` of src/run.rt: the same, of a machine before any entry, which the names are of.
 use Rattle.std.proofs.Common.{◌≡◌, List, [], ◌++◌, length, take, drop, ap, sym, subst, ◌∙◌}
 use Rattle.std.proofs.lemmas.List.{take_all}
 use Rattle.lb_lane.specs.Lanes.{LaneIs}
@@ -19,4 +20,5 @@ history_of-requires-clause-done g c =
     let e = c.deref_mut.ensures in
     let count = c.in_ok-serve_lanes.ensures.count ∙ ap (λ (ls : List LaneIs). length ls) e.value in
     subst (λ (ls : List LaneIs). EachLane (IsDone c.args.trace.now.rows) ls)
-    (sym (written_back c.serve_lanes.new.lanes items c.in_ok-cpus.lanes.len count (sym e.len ∙ ap (λ (ls : List LaneIs). length ls) e.value))) c.in_ok-serve_lanes.ensures.done
+    (sym (written_back c.serve_lanes.new.lanes items c.in_ok-cpus.lanes.len count
+    (sym e.len ∙ ap (λ (ls : List LaneIs). length ls) e.value))) c.in_ok-serve_lanes.ensures.done

@@ -1,3 +1,6 @@
+-- The loops of `run_lanes` of src/run.rt: runs the machine of a trace, each lane on a thread of its own, and
+-- answers a legal history of it: it has the trace's header, keeps all rules of a legal history, and holds
+-- each lane's rows once, in file order.
 use Rattle.lb_threads.proofs.run.run_lanes.Given as goal
 
 -- the names are those of the machine before any entry

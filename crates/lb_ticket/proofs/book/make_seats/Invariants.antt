@@ -1,3 +1,4 @@
+-- The loops of `make_seats` of src/book.rt: the seats, made from the root.
 use Rattle.std.proofs.Common.{◌≡◌, ◌-◌, ◌≤◌, [], length, vec_capacity}
 use Rattle.lb_ticket.specs.Bare.{bare_root}
 use Rattle.lb_ticket.specs.Seats.{Numbered, AllEmpty}

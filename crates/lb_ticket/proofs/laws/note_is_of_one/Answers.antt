@@ -1,3 +1,4 @@
+-- For `note_is_of_one` of src/laws.rt: a note is of one ticket.
 use Rattle.std.proofs.Common.{◌≡◌, length, subst}
 use Rattle.lb_ticket.proofs.Learnt.{one_fact}
 use Rattle.lb_ticket.proofs.laws.note_is_of_one.Goals as goal

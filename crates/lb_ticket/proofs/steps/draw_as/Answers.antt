@@ -1,3 +1,4 @@
+-- For `draw_as` of src/steps.rt: one fetch-and-add of the ticket word.
 use Rattle.std.proofs.Common.{rules, [], ◌∷◌, ◌++◌, refl, sym, subst}
 use Rattle.std.specs.Prelude.{slice_index}
 use Rattle.lb_ticket.specs.Bare.{bare_drew, BareDraws, IsBareBelow}

@@ -1,3 +1,4 @@
+-- For `load` of src/steps.rt: the next ticket at this moment.
 use Rattle.std.proofs.Common.{refl, arith}
 use Rattle.std.specs.Prelude.{slice_index}
 use Rattle.atomic_table.specs.Table.{keeps}

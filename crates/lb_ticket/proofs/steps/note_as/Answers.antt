@@ -1,3 +1,4 @@
+-- For `note_as` of src/steps.rt: the note of a ticket.
 use Rattle.std.proofs.Common.{ap, arith, subst, sym}
 use Rattle.lb_ticket.specs.Bare.{IsBareBelow}
 use Rattle.lb_ticket.proofs.BareKeeping.{bare_notes}

@@ -1,3 +1,5 @@
+-- For `take_in` of src/steps.rt: what another knows or tells goes to a seat, which then loads the ticket
+-- word.
 use Rattle.std.proofs.Common.{ap, arith, subst}
 use Rattle.lb_ticket.specs.Bare.{BareMarks}
 use Rattle.lb_ticket.proofs.BareKeeping.{bare_learns}

@@ -1,3 +1,4 @@
+-- For `tell` of src/steps.rt: what a seat drew, for another to read.
 use Rattle.std.proofs.Common.{arith}
 use Rattle.lb_ticket.proofs.BareKeeping.{bare_tells}
 use Rattle.lb_ticket.proofs.steps.tell.Goals as goal

@@ -1,3 +1,4 @@
+-- The loops of `put_cpus` of src/lines.rt: appends the lines of all CPUs, of which there are so many.
 use Rattle.std.proofs.Common.{◌≡◌, ◌++◌, drop}
 use Rattle.lb_topo.specs.Text.{cpus_lines}
 use Rattle.lb_topo.proofs.lines.put_cpus.Given as goal

@@ -1,3 +1,4 @@
+-- The loops of `put_domains` of src/lines.rt: appends the lines of a CPU's domains.
 use Rattle.std.proofs.Common.{◌≡◌, ◌++◌, drop}
 use Rattle.std.specs.List.{flat_map}
 use Rattle.lb_domain.specs.Domains.{domains_at}

@@ -1,3 +1,4 @@
+-- The loops of `put_groups` of src/lines.rt: appends the groups of a domain, each behind a bar.
 use Rattle.std.proofs.Common.{◌≡◌, ◌++◌, drop}
 use Rattle.lb_domain.specs.Domains.{domains_at, domain_at}
 use Rattle.lb_topo.specs.Text.{groups_text}

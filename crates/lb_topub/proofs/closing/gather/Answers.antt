@@ -1,3 +1,4 @@
+-- For `gather` of src/closing.rt: spends a publisher and its lookers, and answers the last version.
 use Rattle.std.proofs.Common.{rules, ◌≡◌, get_or, ap, sym, subst, arith, ◌∙◌}
 use Rattle.std.proofs.lemmas.List.{get_or_default}
 use mathlib.Core.List.{IsPrefix}

@@ -1,3 +1,4 @@
+-- The loops of `gather` of src/closing.rt: spends a publisher and its lookers, and answers the last version.
 use Rattle.std.proofs.Common.{ℕ, ◌<◌, get_or}
 use mathlib.Core.List.{IsPrefix}
 use Rattle.lb_topub.specs.Versions.{VersionsSeen}

@@ -1,3 +1,4 @@
+-- The loops of `append` of src/copies.rt: puts a version behind what is pending.
 use Rattle.std.proofs.Common.{◌≡◌, drop}
 use Rattle.lb_topub.proofs.copies.append.Given as goal
 

@@ -1,3 +1,4 @@
+-- For `new_looker` of src/copies.rt: a looker that knows what is shown.
 use Rattle.std.proofs.Common.{rules}
 use Rattle.lb_topub.proofs.Books.{admits, forks, merges}
 use Rattle.lb_topub.proofs.copies.new_looker.Goals as goal

@@ -1,3 +1,4 @@
+-- The loops of `new_looker` of src/copies.rt: a looker that knows what is shown.
 use Rattle.std.proofs.Common.{◌≡◌}
 use Rattle.lb_topub.proofs.copies.new_looker.Given as goal
 

@@ -1,3 +1,4 @@
+-- The loops of `settle` of src/copies.rt: shows all that is pending.
 use Rattle.std.proofs.Common.{◌≡◌, drop}
 use Rattle.lb_topub.proofs.copies.settle.Given as goal
 

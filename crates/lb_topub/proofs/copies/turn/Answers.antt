@@ -1,3 +1,4 @@
+-- For `turn` of src/copies.rt: shows all that is pending.
 use Rattle.std.proofs.Common.{ap, ◌∙◌}
 use Rattle.lb_topub.proofs.Books.{turns}
 use Rattle.lb_topub.proofs.copies.turn.Goals as goal

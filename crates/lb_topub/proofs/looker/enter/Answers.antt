@@ -1,3 +1,4 @@
+-- For `enter` of src/looker.rt: a look at what is shown now.
 use Rattle.std.proofs.Common.{refl}
 use Rattle.lb_topub.proofs.Books.{turns}
 use Rattle.lb_topub.proofs.looker.enter.Goals as goal

@@ -1,3 +1,4 @@
+-- For `distances_in` of src/fields.rt: a node's distances, which are all fields after the first.
 use Rattle.std.proofs.Common.{rules, sym}
 use Rattle.csv.specs.Records.{fields_of}
 use Rattle.lb_text.specs.Numbers.{number_within}

@@ -1,3 +1,4 @@
+-- The loops of `distances_in` of src/fields.rt: a node's distances, which are all fields after the first.
 use Rattle.csv.specs.Records.{fields_of}
 use Rattle.lb_text.specs.Numbers.{number_within}
 use Rattle.lb_trace.specs.declared.trace.TheConstants.{MAX_DISTANCE}

@@ -1,3 +1,4 @@
+-- For `masks_from` of src/fields.rt: the partition masks, which are all fields from a place on.
 use Rattle.std.proofs.Common.{rules, sym}
 use Rattle.csv.specs.Records.{fields_of}
 use Rattle.lb_base.specs.Mask.{no_cpus}

@@ -1,3 +1,5 @@
+-- For `is_bad_distance` of src/machine.rt: whether the last row of distances cannot stand below those before
+-- it.
 use Rattle.std.proofs.Common.{◌-◌, length, ◌∙◌, arith, rules}
 use Rattle.lb_levels.specs.Rows.{is_bad_entry}
 use Rattle.lb_base.proofs.Ranges.{one_passes, none_passes}

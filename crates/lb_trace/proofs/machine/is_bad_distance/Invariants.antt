@@ -1,3 +1,5 @@
+-- The loops of `is_bad_distance` of src/machine.rt: whether the last row of distances cannot stand below
+-- those before it.
 use Rattle.std.proofs.Common.{◌≡◌, ℕ, ◌<◌, false}
 use Rattle.lb_levels.specs.Rows.{is_bad_entry}
 use Rattle.lb_trace.proofs.machine.is_bad_distance.Given as goal

@@ -1,3 +1,4 @@
+-- For `nodes_of` of src/machine.rt: how many nodes there are: 0 to the greatest that a CPU names.
 use Rattle.std.proofs.Common.{arith, ◌∙◌, ap}
 use Rattle.std.proofs.lemmas.List.{take_more}
 use Rattle.lb_levels.specs.Rows.{no_row}

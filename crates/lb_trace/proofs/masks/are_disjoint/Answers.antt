@@ -1,3 +1,4 @@
+-- For `are_disjoint` of src/masks.rt: whether no two masks share a CPU.
 use Rattle.std.proofs.Common.{sym}
 use Rattle.std.proofs.lemmas.Bool.{not-false, not-true}
 use Rattle.lb_trace.proofs.MaskFacts.{one_more, one_shared}

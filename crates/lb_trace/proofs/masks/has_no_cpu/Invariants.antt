@@ -1,3 +1,4 @@
+-- The loops of `has_no_cpu` of src/masks.rt: whether some mask has an undeclared CPU.
 use Rattle.std.proofs.Common.{◌≡◌, true, take}
 use Rattle.std.specs.List.{list_all}
 use Rattle.lb_base.specs.Sets.{is_below}

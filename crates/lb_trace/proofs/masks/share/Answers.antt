@@ -1,3 +1,4 @@
+-- For `share` of src/masks.rt: whether two masks share a CPU.
 use Rattle.std.proofs.Common.{◌∙◌}
 use Rattle.lb_base.proofs.Sets.{apart_is}
 use Rattle.lb_trace.proofs.masks.share.Goals as goal

@@ -1,3 +1,4 @@
+-- For `lines_from` of src/read.rt: reads all lines of a text.
 use Rattle.std.proofs.Common.{◌≡◌, ◌≤◌, ◌+◌, ◌∷◌, ◌++◌, length, length-append, true, List, ℕ, refl, sym, ap, ◌∙◌, arith, rules}
 use Rattle.std.specs.List.{join_with_byte}
 use Rattle.std.proofs.lemmas.List.Splits.{join_with_byte-slice_split}
@@ -61,6 +62,7 @@ returns-in-Err-Bad-clause-reading c =
     let next = c.in-Some-next_piece.next.now in
     let rest = c.next_piece-in-loop-next.new.self in
     let more : c.loop-next.lines ≡ next ∷ rest = search rules in
-    let stands : is_plain line ≡ true → Stands c.loop-next.reader (line ++ 10 ∷ join_with_byte 10 (next ∷ rest)) = rw more at inv.stands in
+    let stands : is_plain line ≡ true → Stands c.loop-next.reader (line ++ 10 ∷ join_with_byte 10 (next ∷ rest)) = rw
+    more at inv.stands in
     let step = rw c.in-Err-Bad.field-0-is at (c.in-Err-Bad.ensures.step (join_with_byte 10 (next ∷ rest)) stands) in
     rw c.in-Err-Bad.field-0-is (sym (rw more at inv.from) ∙ rw step.0 refl)

@@ -1,3 +1,4 @@
+-- The loops of `lines_from` of src/read.rt: reads all lines of a text.
 use Rattle.std.proofs.Common.{◌≡◌, ◌≤◌, ◌+◌, ◌∷◌, true, length}
 use Rattle.std.specs.List.{join_with_byte}
 use Rattle.lb_fields.specs.Pieces.{pieces, is_plain}

@@ -1,3 +1,5 @@
+-- For `parser` of src/parser.rt: the parser of the program's words: a subcommand for each command, none with
+-- a help of its own.
 use Rattle.std.proofs.Common.{ap, ap₂, refl, true, ◌≡◌, ◌∙◌, codes}
 use Rattle.std.proofs.lemmas.Result.{IfOk-weaker}
 use Rattle.clap.specs.Words.{App, app_of, new_app, with_subcommand}

@@ -1,3 +1,4 @@
+-- The loops of `has_special` of src/words.rt.
 use Rattle.std.proofs.Common.{◌≡◌, drop, map, string_bytes}
 use Rattle.std.specs.List.{list_any}
 use Rattle.lb_words.specs.Parser.{is_special}

@@ -1,3 +1,5 @@
+-- For `work_of` of src/words.rt: the work that the words ask for; None exactly where they are no command
+-- (README.md).
 use Rattle.std.proofs.Common.{◌≡◌, false, [], map, string_bytes, rules, sym, ap, inl, inr, ◌∙◌}
 use Rattle.std.specs.List.{list_any}
 use Rattle.clap.specs.Words.{App, app_of, fault_of, is_simple, is_simple_and_free, subcommand_of}

@@ -1,3 +1,5 @@
+-- For `Board::new` of src/board.rt: a cell with an opening figure for each of `cpus` CPUs, a writer for each
+-- CPU and a reader for each of `lanes` lanes.
 use Rattle.std.proofs.Common.{rules, map, ap, sym, ◌∙◌}
 use Rattle.lb_board.proofs.Opening.{opened_more, writers_cells}
 use Rattle.lb_board.proofs.board.Board.new.Goals as goal

@@ -1,3 +1,5 @@
+-- For `Reader::read` of src/reader.rt: one of the CPU's published figures: the last that is seen now, and no
+-- earlier one than this reader saw or was told of.
 use Rattle.std.proofs.Common.{sym, ◌∙◌, ap}
 use Rattle.lb_board.specs.Board.{cell_of}
 use Rattle.lb_board.proofs.Sights.{same_get, within, saw, saw_later, saw_figure}

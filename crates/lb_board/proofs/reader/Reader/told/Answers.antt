@@ -1,3 +1,5 @@
+-- For `Reader::told` of src/reader.rt: makes known all that the writer has published, so that a lane reads
+-- its own work back.
 use Rattle.std.proofs.Common.{sym, ◌∙◌, ap, subst, ◌≡◌, ◌<◌, length, slice_get, set}
 use Rattle.std.proofs.lemmas.Option.{slice_get_within}
 use mathlib.Core.List.{IsPrefix}

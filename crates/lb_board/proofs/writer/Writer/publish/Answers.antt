@@ -1,3 +1,4 @@
+-- For `Writer::publish` of src/writer.rt: adds a figure to those that the CPU published.
 use Rattle.std.proofs.Common.{rules, sym, ◌∙◌, ap, length, slice_get}
 use Rattle.lb_board.specs.Board.{Posts, seen_by}
 use Rattle.lb_seen.proofs.Steps.{adds}

@@ -1,3 +1,5 @@
+-- For `Before::enter` of src/enter.rt: draws the entry of a queue for a lane, upon the cell and the lane as
+-- they were before it.
 use Rattle.std.proofs.Common.{rules, sym, subst}
 use Rattle.lb_ticket.specs.Seats.{SeatIs}
 use Rattle.lb_journal.specs.Journal.{Journal}
@@ -12,7 +14,8 @@ returns-clause-cell g c =
     let n = g.N.Names in
     let b = c.args.self in
     cell_more n.header n.book n.board b.cell b.lane c.args.what c.args.cell.now.queue c.draw_at.new.log
-    c.args.cell.now.room c.draw_at.result c.item_of-item.ensures.cell c.requires.may.of_queue c.requires.may.at_work c.requires.room.0 c.requires.room.1
+    c.args.cell.now.room c.draw_at.result c.item_of-item.ensures.cell c.requires.may.of_queue c.requires.may.at_work
+    c.requires.room.0 c.requires.room.1
     (search rules) (search rules) (search rules) (search rules) (search rules)
 
 pub returns-clause-lane : goal.returns-clause-lane

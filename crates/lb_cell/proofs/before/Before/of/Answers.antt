@@ -1,3 +1,4 @@
+-- For `Before::of` of src/before.rt: the cell and the lane as they are now.
 use Rattle.std.proofs.Common.{subst, sym, ◌∙◌, ap}
 use Rattle.lb_journal.specs.contracts.journal.Left.{the_row}
 use Rattle.lb_cell.specs.Cells.{CellKeeps, LaneKeeps}

@@ -1,3 +1,4 @@
+-- For `Cell::answer` of src/answer.rt: answers the command of the lane's row, by a `did`.
 use Rattle.std.proofs.Common.{rules, ◌≡◌, ◌∙◌, ap, sym, subst}
 use Rattle.lb_core.specs.CourseAfter.{answered}
 use Rattle.lb_cell.specs.Draws.{BeforeIs}

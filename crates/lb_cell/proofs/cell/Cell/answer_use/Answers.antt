@@ -1,3 +1,6 @@
+-- For `Cell::answer_use` of src/opening.rt: answers the lane's `use`, the last entry that it drew: a turn
+-- opens, by a `turn`, and the lane has the counters that it found; or it is shut where one is open, by a
+-- `shut`.
 use Rattle.std.proofs.Common.{is_some, ap, sym, ◌∙◌}
 use Rattle.lb_queue.specs.Turns.{positions_found}
 use Rattle.lb_core.specs.Course.{turn_kind}

@@ -1,3 +1,5 @@
+-- For `Cell::ask` of src/requests.rt: asks the source of a failed pull for a push to the turn's CPU, by an
+-- `ask`.
 use Rattle.std.proofs.Common.{rules}
 use Rattle.lb_cell.proofs.Asking.{may_ask}
 use Rattle.lb_cell.proofs.cell.Cell.ask.Goals as goal

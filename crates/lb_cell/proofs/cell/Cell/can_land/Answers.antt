@@ -1,3 +1,5 @@
+-- For `Cell::can_land` of src/landing.rt: whether what a landing of the lane's hand asks of this queue holds:
+-- room and the landings are booked, the tasks come to this CPU, and none of them is known here.
 use Rattle.std.proofs.Common.{rules, ◌≡◌, ◌<◌, ◌≤◌, not, length, sym, ap, ◌∙◌}
 use Rattle.std.specs.List.{list_all}
 use Rattle.lb_queue.specs.declared.record.TaskRecord.{TaskRecord}

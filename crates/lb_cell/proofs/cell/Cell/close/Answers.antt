@@ -1,3 +1,5 @@
+-- For `Cell::close` of src/ends.rt: closes the position in work of the lane's open turn, by a `close`, and
+-- answers how it ended.
 use Rattle.std.proofs.Common.{rules, ◌≡◌, subst}
 use Rattle.lb_core.specs.declared.entry.What.TheVariants as what
 use Rattle.lb_core.specs.Rules.{closed_counters}

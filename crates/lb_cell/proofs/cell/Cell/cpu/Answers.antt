@@ -1,3 +1,4 @@
+-- For `Cell::cpu` of src/cell.rt: the CPU of the queue.
 use Rattle.std.proofs.Common.{sym, ap, ◌∙◌, map}
 use Rattle.lb_queue.specs.Queue.{QueueState}
 use Rattle.lb_ticket.specs.Tickets.{pair}

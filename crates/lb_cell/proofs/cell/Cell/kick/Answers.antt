@@ -1,3 +1,4 @@
+-- For `Cell::kick` of src/requests.rt: kicks a tickless CPU, by a `kick`.
 use Rattle.std.proofs.Common.{rules}
 use Rattle.lb_cell.proofs.Asking.{may_kick}
 use Rattle.lb_cell.proofs.cell.Cell.kick.Goals as goal

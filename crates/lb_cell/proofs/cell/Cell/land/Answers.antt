@@ -1,3 +1,5 @@
+-- For `Cell::land` of src/landing.rt: the tasks of the lane's hand land here, by an `in`, for which room and
+-- the landings are booked.
 use Rattle.std.proofs.Common.{rules}
 use Rattle.lb_cell.proofs.Moving.{may_land}
 use Rattle.lb_cell.proofs.cell.Cell.land.Goals as goal

@@ -1,3 +1,5 @@
+-- For `Cell::leave` of src/leaving.rt: the task of the lane's wake leaves for another CPU, by an `out wake`,
+-- in a hand that goes there and is empty.
 use Rattle.std.proofs.Common.{rules, ◌≡◌, length, arith}
 use Rattle.lb_queue.specs.Hands.{leave}
 use Rattle.lb_cell.proofs.Moving.{wake_left, one_leaves, came, are_for}

@@ -1,3 +1,4 @@
+-- For `Cell::leave_by_push` of src/serving.rt: the task of the push leaves, if there is one.
 use Rattle.std.proofs.Common.{rules, ◌≡◌, length, if◌then◌else◌}
 use Rattle.lb_queue.specs.Hands.{take_push}
 use Rattle.lb_cell.proofs.Moving.{push_left, pushes, few_pushed, came, are_for}

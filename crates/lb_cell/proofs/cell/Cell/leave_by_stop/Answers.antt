@@ -1,3 +1,4 @@
+-- For `Cell::leave_by_stop` of src/serving.rt: the task of an owed stop leaves.
 use Rattle.std.proofs.Common.{rules, ◌≡◌, true, length, arith}
 use Rattle.lb_queue.specs.Hands.{take_stop}
 use Rattle.lb_cell.proofs.Moving.{stop_left, one_stops, came, are_for}

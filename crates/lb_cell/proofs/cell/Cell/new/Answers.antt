@@ -1,3 +1,5 @@
+-- For `Cell::new` of src/making.rt: the cell of a CPU before any entry: its queue as the header declares it,
+-- its seat, which drew nothing, and its writer, which published the opening figure alone.
 use Rattle.std.proofs.Common.{◌≡◌, ◌∙◌, ap, sym, subst, arith, length, map, All, []}
 use Rattle.std.proofs.lemmas.List.Elements.{All-nil}
 use Rattle.lb_ticket.specs.Tickets.{pair}

@@ -1,3 +1,4 @@
+-- For `Cell::open_turn` of src/opening.rt: the turn opens.
 use Rattle.std.proofs.Common.{rules}
 use Rattle.lb_cell.proofs.Turning.{may_turn}
 use Rattle.lb_cell.proofs.cell.Cell.open_turn.Goals as goal

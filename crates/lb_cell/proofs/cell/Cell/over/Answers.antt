@@ -1,3 +1,4 @@
+-- For `Cell::over` of src/ends.rt: ends the lane's open turn, by an `over`.
 use Rattle.std.proofs.Common.{rules}
 use Rattle.lb_cell.proofs.Closing.{may_over}
 use Rattle.lb_cell.proofs.cell.Cell.over.Goals as goal

@@ -1,3 +1,4 @@
+-- For `Cell::shut_turn` of src/opening.rt: the turn is shut.
 use Rattle.std.proofs.Common.{rules}
 use Rattle.lb_cell.proofs.Turning.{may_shut}
 use Rattle.lb_cell.proofs.cell.Cell.shut_turn.Goals as goal

@@ -1,3 +1,6 @@
+-- For `Cell::take` of src/pulling.rt: takes from this queue, the source of the lane's last look, what that
+-- look asks for, by an `out pull`, in a hand that goes to the turn's CPU, is empty and has room for a whole
+-- pull; as many landings are booked there.
 use Rattle.std.proofs.Common.{rules, ◌≡◌, length, refl}
 use Rattle.lb_queue.specs.Hands.{take_pull}
 use Rattle.lb_cell.proofs.Moving.{pull_left, many_pulled, few_pulled, came, are_for}

@@ -1,3 +1,5 @@
+-- For `Lane::draw` of src/own.rt: draws an entry of the lane's own list, which the lane may draw, and answers
+-- its ticket.
 use Rattle.std.proofs.Common.{rules, ◌≡◌, ◌∙◌, sym, subst}
 use Rattle.lb_journal.specs.contracts.journal.Left.{the_row}
 use Rattle.lb_cell.specs.Cells.{LaneIs, IsInRange, lane_of}

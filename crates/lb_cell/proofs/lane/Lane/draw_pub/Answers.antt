@@ -1,3 +1,5 @@
+-- For `Lane::draw_pub` of src/publish.rt: draws the `pub` of a version in the publisher's list, which it
+-- fits, and answers its ticket.
 use Rattle.std.proofs.Common.{rules, ◌≡◌, ◌∙◌, ◌++◌, ◌∷◌, [], sym, subst, refl, map, length}
 use Rattle.lb_ticket.specs.Tickets.{pair}
 use Rattle.lb_journal.specs.Journal.{Fits, Journal}

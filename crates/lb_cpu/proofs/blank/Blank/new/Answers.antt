@@ -1,3 +1,6 @@
+-- For `Blank::new` of src/blank.rt: the machine of an accepted trace before any entry: a book with a seat for
+-- each owner, a board with the opening figures, version 1 with the masks of the header, the queues with the
+-- tasks that are declared, and the rows of each lane in their order.
 use Rattle.std.proofs.Common.{◌≡◌, ◌+◌, List, ◌∷◌, [], length, map, ap, sym, subst, ◌∙◌, arith}
 use Rattle.std.specs.List.{range_with_len}
 use Rattle.lb_base.specs.declared.mask.Mask.{Mask}
@@ -18,7 +21,8 @@ invariant_of-result g c =
     let accepted : IsHeader h = subst (λ (x : Header). IsHeader x) (sym same) c.requires.header in
     let board = c.in_ok-board.board in
     let seats = c.in_ok-seats.seats in
-    let cells : length board ≡ length h.cpus = (let b = c.in_ok-board.ensures.board in let l = c.len-cpus.ensures in omega arith) in
+    let cells : length board ≡ length h.cpus =
+    (let b = c.in_ok-board.ensures.board in let l = c.len-cpus.ensures in omega arith) in
     let owners : c.in_ok-book.book.owners ≡ 17 + length h.cpus =
     (let o = c.in_ok-book.ensures.seats.0 in let l = c.len-cpus.ensures in omega arith) in
     let count : length seats.queues.items ≡ length h.cpus =

@@ -1,3 +1,4 @@
+-- The loops of `Cpus::choose` of src/turning.rt: a version that the lane vouches for.
 use Rattle.lb_cpu.specs.Turns.{LooksOn}
 use Rattle.lb_cpu.proofs.cpus.Cpus.choose.Given as goal
 

@@ -1,3 +1,4 @@
+-- For `Cpus::command` of src/command.rt: serves the lane's next row, and answers what the queue answered.
 use Rattle.lb_journal.specs.contracts.journal.Journal.{the_row}
 use Rattle.lb_cpu.proofs.InService.{commanded_if}
 use Rattle.lb_cpu.proofs.cpus.Cpus.command.Goals as goal

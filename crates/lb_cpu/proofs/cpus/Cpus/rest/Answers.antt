@@ -1,3 +1,5 @@
+-- For `Cpus::rest` of src/rest.rt: takes the locks apart, with the lanes that `start` made, in the order of
+-- their numbers.
 use Rattle.std.proofs.Common.{ℕ, ◌≡◌, Some, List, map, length, vec_len, slice_get, All, ap, sym, subst, ◌∙◌}
 use Rattle.std.proofs.lemmas.List.{length-map}
 use mathlib.Core.List.{IsPrefix}
@@ -44,7 +46,8 @@ gather-requires-2 g c =
     let lanes = c.args.lanes.items in
     let lookers = lookers_are n.header n.book n.board g.N.Versions.versions the_row.coded left_row.coded lanes
     c.in_ok-lanes.lanes.seats.items c.in_ok-lanes.ensures.lanes in
-    let of = ap (λ (p : PublisherIs). p.publisher.book) c.end-publisher.ensures.parts ∙ c.end-publisher.ensures.kept.versions_are in
+    let of = ap (λ (p : PublisherIs). p.publisher.book) c.end-publisher.ensures.parts ∙
+    c.end-publisher.ensures.kept.versions_are in
     record {
       lookers =
           subst (λ (ls : List VersionsSeen). All (λ l. l.book ≡ c.end-publisher.result.0.book) ls)
@@ -58,7 +61,15 @@ new-requires g c =
     let k = c.self.invariant in
     let x = c.self.inside in
     let cpus : CpusIs =
-    record { header = x.header; layout = x.machine; book = x.book; board = x.board; cells = vec_len x.cells; unused = x.unused.items } in
+    record {
+      header = x.header;
+      layout = x.machine;
+      book = x.book;
+      board = x.board;
+      cells = vec_len x.cells;
+      unused =
+          x.unused.items;
+    } in
     let p : PublisherIs = record { publisher = c.end-publisher.result.0; seat = c.end-publisher.result.1 } in
     let lanes = c.args.lanes.items in
     let ls = c.in_ok-lanes.lanes.seats.items in
@@ -77,24 +88,30 @@ new-requires g c =
       header_is = k.header_is;
       accepted = k.accepted;
       book_is = k.book_is;
-      numbered = subst (λ (t : TableId). Numbered t 0 all) (sym k.book_is) (all_numbered n.header n.book n.board g.N.Versions.versions the_row.coded left_row.coded p lanes ls x.unused.items cells.queues.items
+      numbered = subst (λ (t : TableId). Numbered t 0 all) (sym k.book_is)
+          (all_numbered n.header n.book n.board g.N.Versions.versions the_row.coded left_row.coded p lanes ls
+          x.unused.items cells.queues.items
           cells.seats.items cells.writers.items all left);
       owners = k.owners;
-      all_seats = all_counted n.header n.book n.board g.N.Versions.versions the_row.coded left_row.coded p lanes ls x.unused.items cells.queues.items
+      all_seats = all_counted n.header n.book n.board g.N.Versions.versions the_row.coded left_row.coded p lanes ls
+          x.unused.items cells.queues.items
           cells.seats.items cells.writers.items all left ∙ sym k.owners;
       all_queues = c.in_ok-cells.ensures.count ∙ k.queues;
       all_courses = ap (λ (l : List Course). length l) courses ∙ length-map lanes course ∙ c.requires.lanes.1;
       all_notes = c.in_ok-lanes.ensures.notes.count ∙ c.requires.lanes.1;
       all_tickets = ap (λ (l : List ℕ). length l) tickets ∙ length-map lanes ticket ∙ c.requires.lanes.1;
-      lists = all_kept n.header n.book n.board g.N.Versions.versions the_row.coded left_row.coded p lanes ls x.unused.items cells.queues.items
+      lists = all_kept n.header n.book n.board g.N.Versions.versions the_row.coded left_row.coded p lanes ls
+          x.unused.items cells.queues.items
           cells.seats.items cells.writers.items all left c.plain_is_kept.ensures c.saw_is_read.ensures;
-      replays = all_replays n.header n.book n.board g.N.Versions.versions the_row.coded left_row.coded p lanes ls x.unused.items cells.queues.items
+      replays = all_replays n.header n.book n.board g.N.Versions.versions the_row.coded left_row.coded p lanes ls
+          x.unused.items cells.queues.items
           cells.seats.items cells.writers.items all left;
       lasts =
           subst (λ (cs : List Course). KnowLasts left_row.coded (length n.header.cpus) cs c.in_ok-lanes.lanes.tickets.items all)
           (sym courses)
           (subst (λ (ts : List ℕ). KnowLasts left_row.coded (length n.header.cpus) (map course lanes) ts all) (sym tickets)
-          (all_lasts n.header n.book n.board g.N.Versions.versions the_row.coded left_row.coded p lanes ls x.unused.items cells.queues.items
+          (all_lasts n.header n.book n.board g.N.Versions.versions the_row.coded left_row.coded p lanes ls
+          x.unused.items cells.queues.items
           cells.seats.items cells.writers.items all left));
       quiet =
           subst (λ (cs : List Course). (f : Course) → slice_get cs 0 ≡ Some f → IsFirstCourse n.header f) (sym courses)
@@ -115,7 +132,15 @@ returns-clause-left g c =
     let k = c.self.invariant in
     let x = c.self.inside in
     let cpus : CpusIs =
-    record { header = x.header; layout = x.machine; book = x.book; board = x.board; cells = vec_len x.cells; unused = x.unused.items } in
+    record {
+      header = x.header;
+      layout = x.machine;
+      book = x.book;
+      board = x.board;
+      cells = vec_len x.cells;
+      unused =
+          x.unused.items;
+    } in
     let p : PublisherIs = record { publisher = c.end-publisher.result.0; seat = c.end-publisher.result.1 } in
     let lanes = c.args.lanes.items in
     let ls = c.in_ok-lanes.lanes.seats.items in
@@ -128,7 +153,8 @@ returns-clause-left g c =
     c.in_ok-seats.ensures in
     subst (λ (e : EndedIs). (k : ℕ) (l : LaneIs) → slice_get lanes k ≡ Some l → LaneIsLeft left_row.coded e.seats k l)
     (sym c.new.ensures)
-    (left_lane n.header n.book n.board g.N.Versions.versions the_row.coded left_row.coded p lanes ls x.unused.items cells.queues.items
+    (left_lane n.header n.book n.board g.N.Versions.versions the_row.coded left_row.coded p lanes ls x.unused.items
+    cells.queues.items
     cells.seats.items cells.writers.items all left)
 
 pub returns-clause-open : goal.returns-clause-open
@@ -137,7 +163,15 @@ returns-clause-open g c =
     let k = c.self.invariant in
     let x = c.self.inside in
     let cpus : CpusIs =
-    record { header = x.header; layout = x.machine; book = x.book; board = x.board; cells = vec_len x.cells; unused = x.unused.items } in
+    record {
+      header = x.header;
+      layout = x.machine;
+      book = x.book;
+      board = x.board;
+      cells = vec_len x.cells;
+      unused =
+          x.unused.items;
+    } in
     let p : PublisherIs = record { publisher = c.end-publisher.result.0; seat = c.end-publisher.result.1 } in
     let lanes = c.args.lanes.items in
     let ls = c.in_ok-lanes.lanes.seats.items in
@@ -149,7 +183,8 @@ returns-clause-open g c =
     c.in_ok-cells.ensures.cells c.in_ok-cells.ensures.count c.in_ok-lanes.ensures.readers c.gather.ensures.seen
     c.in_ok-seats.ensures in
     subst (λ (e : EndedIs). NothingCloses e.seats) (sym c.new.ensures)
-    (all_open n.header n.book n.board g.N.Versions.versions the_row.coded left_row.coded p lanes ls x.unused.items cells.queues.items
+    (all_open n.header n.book n.board g.N.Versions.versions the_row.coded left_row.coded p lanes ls x.unused.items
+    cells.queues.items
     cells.seats.items cells.writers.items all left)
 
 pub returns-clause-versions : goal.returns-clause-versions

@@ -1,3 +1,4 @@
+-- For `Cpus::take_up` of src/command.rt: takes up the row, which is the lane's next.
 use Rattle.lb_journal.specs.contracts.journal.Journal.{the_row}
 use Rattle.lb_cpu.proofs.InService.{service_if}
 use Rattle.lb_cpu.proofs.cpus.Cpus.take_up.Goals as goal

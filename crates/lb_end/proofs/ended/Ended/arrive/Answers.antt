@@ -1,3 +1,4 @@
+-- For `Ended::arrive` of src/serving.rt: it lands by an `in` above all that was drawn.
 use Rattle.std.proofs.Common.{ℕ, ◌≡◌, ◌+◌, ◌≤◌, ◌<◌, Some, true, ◌&&◌, List, [], refl, sym, subst, ap, ◌∙◌, arith, inl, inr}
 use Rattle.lb_queue.specs.declared.answers.OutCause.TheVariants as cause
 use Rattle.lb_core.specs.declared.course.Course.{Course}
@@ -18,7 +19,8 @@ pub returns-clause-on : goal.returns-clause-on
 returns-clause-on g c =
     let out = c.requires.left in
     on c.closing_goes_on.ensures g.N.Names.header
-    (let lanes = c.keeps.ensures.accepted.most_lanes in omega (arith, lanes)) (17 + c.args.cpu) (item_of g.N.Names.header (owner.Queue c.args.cpu) (first_course c.follow.new.self) (first_course c.land.new.self)
+    (let lanes = c.keeps.ensures.accepted.most_lanes in omega (arith, lanes)) (17 + c.args.cpu)
+    (item_of g.N.Names.header (owner.Queue c.args.cpu) (first_course c.follow.new.self) (first_course c.land.new.self)
     (first_ticket c.follow.new.self) (what.Landed c.args.landing)) c.args.self.now c.follow.new.self c.land.new.self
     c.follow-2.new.self (omega arith) c.follow.ensures.seats (ap first_ticket c.follow.ensures.same) c.land.ensures.drew
     c.follow-2.ensures.seats (ap first_ticket c.follow-2.ensures.same) refl

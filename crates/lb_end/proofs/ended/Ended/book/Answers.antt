@@ -1,3 +1,4 @@
+-- For `Ended::book` of src/booking.rt: books a landing at a queue.
 use Rattle.std.proofs.Common.{ℕ, ◌≡◌, ◌≤◌, ◌+◌, length, sym, subst, ap, ◌∙◌, arith}
 use Rattle.std.proofs.lemmas.Result.{on_ok_weaker}
 use Rattle.lb_queue.specs.Queue.{BookedQueue}

@@ -1,3 +1,5 @@
+-- For `Ended::depart` of src/serving.rt: the task of the next stop request leaves by an `out` above all that
+-- was drawn.
 use Rattle.std.proofs.Common.{ℕ, ◌≡◌, ◌+◌, ◌≤◌, ◌<◌, Some, true, ◌&&◌, List, [], refl, sym, subst, ap, ◌∙◌, arith, inl, inr}
 use Rattle.lb_queue.specs.declared.answers.OutCause.TheVariants as cause
 use Rattle.lb_core.specs.declared.course.Course.{Course}
@@ -19,19 +21,24 @@ pub returns-clause-on : goal.returns-clause-on
 returns-clause-on g c =
     let form : (first_course c.follow.new.self).form ≡ form.Rest =
     ap (λ (e : EndedIs). (first_course e).form) c.follow.ensures.same ∙ c.requires.rest in
-    let closes : (is_out_at_rest (what.Out cause.Stop c.leave.new.hand.to c.args.out) (first_course c.follow.new.self).form && true)
+    let closes : (is_out_at_rest (what.Out cause.Stop c.leave.new.hand.to c.args.out)
+    (first_course c.follow.new.self).form && true)
     ≡ true =
     ap (λ (f : Form). is_out_at_rest (what.Out cause.Stop c.leave.new.hand.to c.args.out) f && true) form in
     on c.closing_goes_on.ensures g.N.Names.header
-    (let lanes = c.keeps.ensures.accepted.most_lanes in omega (arith, lanes)) (17 + c.args.cpu) (item_of g.N.Names.header (owner.Queue c.args.cpu) (first_course c.follow.new.self) (first_course c.leave.new.self)
-    (first_ticket c.follow.new.self) (what.Out cause.Stop c.leave.new.hand.to c.args.out)) c.args.self.now c.follow.new.self c.leave.new.self
+    (let lanes = c.keeps.ensures.accepted.most_lanes in omega (arith, lanes)) (17 + c.args.cpu)
+    (item_of g.N.Names.header (owner.Queue c.args.cpu) (first_course c.follow.new.self) (first_course c.leave.new.self)
+    (first_ticket c.follow.new.self) (what.Out cause.Stop c.leave.new.hand.to c.args.out)) c.args.self.now
+    c.follow.new.self c.leave.new.self
     c.follow-2.new.self (omega arith) c.follow.ensures.seats (ap first_ticket c.follow.ensures.same) c.leave.ensures.drew
     c.follow-2.ensures.seats (ap first_ticket c.follow-2.ensures.same) refl
     (λ above.
     (c.closes_now.ensures g.N.Names.header _ _
     (under c.closing_goes_on.ensures g.N.Names.header
-    (let lanes = c.keeps.ensures.accepted.most_lanes in omega (arith, lanes)) (17 + c.args.cpu) (item_of g.N.Names.header (owner.Queue c.args.cpu) (first_course c.follow.new.self) (first_course c.leave.new.self)
-    (first_ticket c.follow.new.self) (what.Out cause.Stop c.leave.new.hand.to c.args.out)) c.args.self.now c.follow.new.self c.leave.new.self
+    (let lanes = c.keeps.ensures.accepted.most_lanes in omega (arith, lanes)) (17 + c.args.cpu)
+    (item_of g.N.Names.header (owner.Queue c.args.cpu) (first_course c.follow.new.self) (first_course c.leave.new.self)
+    (first_ticket c.follow.new.self) (what.Out cause.Stop c.leave.new.hand.to c.args.out)) c.args.self.now
+    c.follow.new.self c.leave.new.self
     c.follow-2.new.self (omega arith) c.follow.ensures.seats (ap first_ticket c.follow.ensures.same) c.leave.ensures.drew
     c.follow-2.ensures.seats (ap first_ticket c.follow-2.ensures.same) above)).0
     ∙ c.requires.pending)
@@ -44,11 +51,14 @@ pub returns-clause-left : goal.returns-clause-left
 returns-clause-left g c =
     let form : (first_course c.follow.new.self).form ≡ form.Rest =
     ap (λ (e : EndedIs). (first_course e).form) c.follow.ensures.same ∙ c.requires.rest in
-    let closes : (is_out_at_rest (what.Out cause.Stop c.leave.new.hand.to c.args.out) (first_course c.follow.new.self).form && true)
+    let closes : (is_out_at_rest (what.Out cause.Stop c.leave.new.hand.to c.args.out)
+    (first_course c.follow.new.self).form && true)
     ≡ true =
     ap (λ (f : Form). is_out_at_rest (what.Out cause.Stop c.leave.new.hand.to c.args.out) f && true) form in
     left c.closing_goes_on.ensures g.N.Names.header
-    (let lanes = c.keeps.ensures.accepted.most_lanes in omega (arith, lanes)) (17 + c.args.cpu) (item_of g.N.Names.header (owner.Queue c.args.cpu) (first_course c.follow.new.self) (first_course c.leave.new.self)
-    (first_ticket c.follow.new.self) (what.Out cause.Stop c.leave.new.hand.to c.args.out)) c.args.self.now c.follow.new.self c.leave.new.self
+    (let lanes = c.keeps.ensures.accepted.most_lanes in omega (arith, lanes)) (17 + c.args.cpu)
+    (item_of g.N.Names.header (owner.Queue c.args.cpu) (first_course c.follow.new.self) (first_course c.leave.new.self)
+    (first_ticket c.follow.new.self) (what.Out cause.Stop c.leave.new.hand.to c.args.out)) c.args.self.now
+    c.follow.new.self c.leave.new.self
     c.follow-2.new.self (omega arith) c.follow.ensures.seats (ap first_ticket c.follow.ensures.same) c.leave.ensures.drew
     c.follow-2.ensures.seats (ap first_ticket c.follow-2.ensures.same) closes

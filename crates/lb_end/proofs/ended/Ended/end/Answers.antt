@@ -1,3 +1,4 @@
+-- For `Ended::end` of src/finish.rt: lane 0 ends the history.
 use Rattle.std.proofs.Common.{ℕ, ◌≡◌, ◌+◌, ◌<◌, ◌≤◌, [], List, length, refl, sym, subst, ap, ◌∙◌, get_or, set, arith}
 use Rattle.std.proofs.lemmas.List.{get_or-set_same}
 use Rattle.lb_trace.specs.declared.trace.Header.{Header}

@@ -1,3 +1,5 @@
+-- For `Ended::finish` of src/finish.rt: serves every pending stop request, CPUs rising and tasks rising, by
+-- `out stop` and `in`, and draws the `end` of lane 0. It answers the CPUs whose active request is unserved.
 use Rattle.std.proofs.Common.{ap, refl}
 use Rattle.lb_journal.specs.declared.journal.Journal.{the_code}
 use Rattle.lb_journal.specs.contracts.journal.Left.{the_row}

@@ -1,3 +1,4 @@
+-- For `Ended::first_pending` of src/requests.rt: the least CPU with a pending stop request.
 use Rattle.std.proofs.Common.{rules, ℕ, ◌<◌, ◌≤◌, length, arith}
 use Rattle.lb_base.proofs.Ranges.{found, not_found}
 use Rattle.lb_queue.specs.Requests.{has_pending}

@@ -1,3 +1,4 @@
+-- The loops of `Ended::first_pending` of src/requests.rt: the least CPU with a pending stop request.
 use Rattle.std.proofs.Common.{◌≡◌, ◌<◌, ℕ, false}
 use Rattle.lb_queue.specs.Requests.{has_pending}
 use Rattle.lb_end.specs.Drawing.{state_at}

@@ -1,3 +1,4 @@
+-- For `Ended::follow` of src/steps.rt: the seat of one owner follows that of another.
 use Rattle.std.proofs.Common.{◌≡◌, List, length, set, sym, subst, ap, ◌∙◌}
 use Rattle.std.specs.Vec.{with_items}
 use Rattle.std.proofs.lemmas.List.{length-set, with_items_is}

@@ -1,3 +1,5 @@
+-- The loops of `Ended::follow_others` of src/steps.rt: lane 0's seat follows those of all lanes above it and
+-- of the queues.
 use Rattle.std.proofs.Common.{ℕ, ◌≡◌, ◌<◌, ◌≤◌, All}
 use Rattle.std.specs.Prelude.{slice_get}
 use Rattle.lb_journal.specs.Owners.{lists_of}

@@ -1,3 +1,5 @@
+-- For `Ended::land` of src/serving.rt: the task of lane 0's hand lands where it goes, and lane 0 is at rest
+-- again.
 use Rattle.std.proofs.Common.{ℕ, refl, ◌≡◌, ◌+◌, ◌<◌, ◌≤◌, List, length, sym, subst, ap, ◌∙◌, map, get_or, set, arith}
 use Rattle.std.proofs.lemmas.List.{get_or-set_same}
 use Rattle.lb_queue.specs.Queue.{BookedQueue, QueueState}
@@ -108,7 +110,8 @@ returns-clause-drew g c =
       notes = set e.notes 0 c.draw_in.new.note;
     }))
     (drew_parts e.book.table the_row.coded (17 + c.args.cpu) old e c.index_mut-2.result.now c.draw_in.new.seat c.draw_in.new.last
-    c.draw_in.new.note (set e.queues c.args.cpu c.draw_in.new.queue) (set e.notes 0 c.draw_in.new.note) q.seat d (sym f.ticket) some)
+    c.draw_in.new.note (set e.queues c.args.cpu c.draw_in.new.queue) (set e.notes 0 c.draw_in.new.note) q.seat d
+    (sym f.ticket) some)
 
 pub draw_in-requires-clause-asks : goal.draw_in-requires-clause-asks
 draw_in-requires-clause-asks g c =

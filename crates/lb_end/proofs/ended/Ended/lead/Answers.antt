@@ -1,3 +1,5 @@
+-- For `Ended::lead` of src/steps.rt: lane 0's seat follows all others, and so stands above all that was
+-- drawn: the publisher's follows lane 0's before, for what lane 0 drew itself.
 use Rattle.std.proofs.Common.{ℕ, ◌≡◌, ◌<◌, List, [], get_or, sym, subst, ap, All}
 use Rattle.lb_ticket.specs.declared.item.Drawn.{Drawn}
 use Rattle.lb_journal.specs.Journal.{Journal}

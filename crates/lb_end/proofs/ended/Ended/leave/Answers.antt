@@ -1,3 +1,5 @@
+-- For `Ended::leave` of src/serving.rt: the task of a queue's next pending stop request leaves in a hand that
+-- goes where it does.
 use Rattle.std.proofs.Common.{ℕ, false, refl, ◌≡◌, ◌+◌, ◌<◌, ◌≤◌, List, length, sym, subst, ap, ◌∙◌, map, get_or, set, arith}
 use Rattle.std.proofs.lemmas.List.{get_or-set_same}
 use Rattle.lb_queue.specs.Queue.{BookedQueue, QueueState}
@@ -105,8 +107,10 @@ returns-clause-drew g c =
       tickets = set e.tickets 0 c.draw_out.new.last;
       notes = set e.notes 0 c.draw_out.new.note;
     }))
-    (drew_parts e.book.table the_row.coded (17 + c.args.cpu) old e c.index_mut-2.result.now c.draw_out.new.seat c.draw_out.new.last
-    c.draw_out.new.note (set e.queues c.args.cpu c.draw_out.new.queue) (set e.notes 0 c.draw_out.new.note) q.seat d (sym f.ticket) some)
+    (drew_parts e.book.table the_row.coded (17 + c.args.cpu) old e c.index_mut-2.result.now c.draw_out.new.seat
+    c.draw_out.new.last
+    c.draw_out.new.note (set e.queues c.args.cpu c.draw_out.new.queue) (set e.notes 0 c.draw_out.new.note) q.seat d
+    (sym f.ticket) some)
 
 pub draw_out-requires-clause-course : goal.draw_out-requires-clause-course
 draw_out-requires-clause-course g c =

@@ -1,3 +1,5 @@
+-- For `Ended::move_task` of src/requests.rt: the task of a stop request leaves and lands, with no refusal
+-- between: room and lists are made.
 use Rattle.std.proofs.Common.{ℕ, ◌≡◌, ◌+◌, false, List, map, sym, ap, ◌∙◌, arith}
 use Rattle.lb_queue.specs.Queue.{knows}
 use Rattle.lb_queue.specs.Tasks.{ids}

@@ -1,3 +1,4 @@
+-- For `Ended::next_stop` of src/booking.rt: the next pending stop request of a queue that has one.
 use Rattle.std.proofs.Common.{ℕ, ◌≡◌, Some, true, false, is_some, length, sym, ap, ◌∙◌}
 use Rattle.lb_base.proofs.Ranges.{found_at}
 use Rattle.lb_queue.specs.declared.answers.Stop.{Stop}

@@ -1,3 +1,4 @@
+-- For `Ended::reserve` of src/booking.rt: makes room for an entry in the list of an owner.
 use Rattle.std.proofs.Common.{ℕ, ◌≡◌, ◌≤◌, ◌<◌, OnOk, length, set, sym, subst, ap, ◌∙◌}
 use Rattle.std.specs.Prelude.{slice_get}
 use Rattle.lb_journal.specs.Owners.{lists_of}

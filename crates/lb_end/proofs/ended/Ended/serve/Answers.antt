@@ -1,3 +1,4 @@
+-- For `Ended::serve` of src/requests.rt: serves the next stop request of the least CPU with one.
 use Rattle.std.proofs.Common.{ℕ, ◌≡◌, ◌+◌, ◌≤◌, ◌<◌, false, List, [], get_or, length, map, sym, subst, ap, arith}
 use Rattle.lb_queue.specs.Queue.{knows}
 use Rattle.lb_ticket.specs.declared.item.Drawn.{Drawn}

@@ -1,3 +1,5 @@
+-- For `Ended::serve_all` of src/requests.rt: serves every pending stop request, CPUs rising and, at a CPU,
+-- tasks rising.
 use Rattle.std.proofs.Common.{ℕ, ◌<◌, length, sym, ◌∙◌}
 use Rattle.lb_base.proofs.Ranges.{found_at}
 use Rattle.lb_queue.specs.Requests.{has_pending}

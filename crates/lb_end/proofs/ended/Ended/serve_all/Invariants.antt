@@ -1,3 +1,5 @@
+-- The loops of `Ended::serve_all` of src/requests.rt: serves every pending stop request, CPUs rising and, at
+-- a CPU, tasks rising.
 use Rattle.lb_end.specs.Closing.{ClosesOn}
 use Rattle.lb_end.specs.Finished.{AllRest}
 use Rattle.lb_end.proofs.ended.Ended.serve_all.Given as goal

@@ -1,3 +1,4 @@
+-- For `Ended::unserved` of src/finish.rt: the CPUs whose active request is unserved.
 use Rattle.std.proofs.Common.{rules, arith, ◌≡◌, ◌≤◌, ℕ, ◌&&◌, ltb, length, is_some, subst}
 use Rattle.lb_base.specs.Mask.{has}
 use Rattle.lb_base.proofs.Sets.{same_where}

@@ -1,3 +1,4 @@
+-- For `Engine::book` of src/engine/hands.rt: books so many landings at the queue of a CPU.
 use Rattle.std.proofs.Common.{ℕ, ◌+◌, ◌<◌, refl, subst}
 use Rattle.lb_engine.specs.contracts.engine.Engine.{the_view}
 use Rattle.lb_engine.proofs.Booking.{booked_more, booked_now}

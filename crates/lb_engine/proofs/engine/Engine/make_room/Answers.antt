@@ -1,3 +1,4 @@
+-- For `Engine::make_room` of src/engine/queues.rt: there is room for a figure more of a CPU.
 use Rattle.std.proofs.Common.{◌≤◌, ℕ, List, refl, sym, ap, subst, ◌∙◌}
 use Rattle.lb_base.specs.declared.figure.Fig.{Fig}
 use Rattle.lb_engine.specs.Held.{Held}

@@ -1,3 +1,5 @@
+-- For `Engine::publish_figure` of src/engine/queues.rt: the queue of a CPU publishes its figure, which its
+-- lane knows from then on.
 use Rattle.std.proofs.Common.{List, [], ◌∷◌, ◌++◌, length, refl, ap, ◌∙◌}
 use Rattle.lb_base.specs.declared.figure.Fig.{Fig}
 use Rattle.lb_base.specs.Room.{WithRoom}

@@ -1,3 +1,4 @@
+-- For `Engine::serve` of src/engine/take.rt: what an entry of a queue changes itself.
 use Rattle.std.proofs.Common.{ℕ, ◌+◌, ◌<◌, List, length, ap, sym, subst}
 use Rattle.lb_core.specs.declared.entry.What.{What}
 use Rattle.lb_engine.specs.Held.{Held, booked_at}

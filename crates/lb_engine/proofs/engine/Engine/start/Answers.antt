@@ -1,3 +1,4 @@
+-- For `Engine::start` of src/engine/opening.rt: the machine of an accepted trace before any entry.
 use Rattle.std.proofs.Common.{List, [], ◌∷◌, length, map, replicate, None, refl, sym, ap, ◌∙◌}
 use Rattle.std.proofs.lemmas.List.{length-map}
 use Rattle.lb_domain.specs.Topologies.{DomainsWithin}

@@ -1,3 +1,4 @@
+-- For `Engine::step` of src/engine/take.rt: the step of an entry, but for the last tickets.
 use Rattle.std.proofs.Common.{◌≡◌, None, false, OnOk, ap, refl, sym, subst, ◌∙◌}
 use Rattle.lb_core.specs.declared.entry.Owner.{Owner}
 use Rattle.lb_core.specs.declared.entry.Owner.TheVariants as owner

@@ -1,3 +1,4 @@
+-- For `Engine::take` of src/engine/take.rt: the step of an entry that may be added.
 use Rattle.std.proofs.Common.{ℕ, ◌+◌, slice_set, ap, ◌∙◌}
 use Rattle.lb_core.specs.Machine.{MachineState}
 use Rattle.lb_core.specs.Step.{after}

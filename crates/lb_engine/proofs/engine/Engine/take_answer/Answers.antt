@@ -1,3 +1,4 @@
+-- For `Engine::take_answer` of src/engine/queues.rt: a queue answers a command.
 use Rattle.std.proofs.Common.{◌≡◌, length, ap, refl, sym, subst}
 use Rattle.lb_queue.specs.Queue.{QueueState}
 use Rattle.lb_core.specs.declared.course.Course.{Course}

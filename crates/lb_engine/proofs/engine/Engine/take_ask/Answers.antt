@@ -1,3 +1,4 @@
+-- For `Engine::take_ask` of src/engine/queues.rt: a queue is asked to push a task.
 use Rattle.std.proofs.Common.{ap, refl}
 use Rattle.lb_core.specs.declared.entry.What.TheVariants as what
 use Rattle.lb_core.specs.Step.{after}

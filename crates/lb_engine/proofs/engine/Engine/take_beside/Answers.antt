@@ -1,3 +1,5 @@
+-- For `Engine::take_beside` of src/engine/take.rt: the step of an entry of a lane or the publisher, but for
+-- the last tickets.
 use Rattle.std.proofs.Common.{◌≡◌, OnOk, List, ap, sym, subst, ◌∙◌}
 use Rattle.lb_core.specs.declared.entry.FigName.{FigName}
 use Rattle.lb_core.specs.declared.entry.What.{What}

@@ -1,3 +1,4 @@
+-- For `Engine::take_close` of src/engine/turns.rt: a position of the open turn is done.
 use Rattle.std.proofs.Common.{◌≡◌, Bool, Option, ap, refl, sym, ◌∙◌}
 use Rattle.lb_base.specs.declared.shape.Shape.{Shape}
 use Rattle.lb_interval.specs.declared.Outcome.{Outcome}

@@ -1,3 +1,4 @@
+-- For `Engine::take_kick` of src/engine/queues.rt: a tickless CPU is kicked.
 use Rattle.std.proofs.Common.{ap, refl}
 use Rattle.lb_core.specs.declared.entry.What.TheVariants as what
 use Rattle.lb_core.specs.Step.{after}

@@ -1,3 +1,4 @@
+-- For `Engine::take_landing` of src/engine/hands.rt: the tasks of a hand land at their queue.
 use Rattle.std.proofs.Common.{refl}
 use Rattle.lb_core.specs.declared.entry.What.TheVariants as what
 use Rattle.lb_core.specs.Step.{after}

@@ -1,3 +1,5 @@
+-- For `Engine::take_of_queue` of src/engine/take.rt: the step of an entry of a queue, but for the last
+-- tickets.
 use Rattle.std.proofs.Common.{◌≡◌, ◌<◌, length, ap, sym, subst, ◌∙◌, arith}
 use Rattle.lb_core.specs.Machine.{MachineState, course_at}
 use Rattle.lb_core.specs.Placed.{is_flight}

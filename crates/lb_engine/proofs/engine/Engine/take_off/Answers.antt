@@ -1,3 +1,4 @@
+-- For `Engine::take_off` of src/engine/hands.rt: tasks leave a queue in the hand of a lane.
 use Rattle.std.proofs.Common.{◌≡◌, Option, length, ap, refl, sym, subst, ◌∙◌}
 use Rattle.lb_core.specs.declared.entry.What.TheVariants as what
 use Rattle.lb_core.specs.CourseAfter.{takes_off}

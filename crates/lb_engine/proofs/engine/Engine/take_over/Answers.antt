@@ -1,3 +1,4 @@
+-- For `Engine::take_over` of src/engine/turns.rt: the open turn ends.
 use Rattle.std.proofs.Common.{◌≡◌, ◌<◌, nat_lt, length, ap, refl, sym, subst, ◌∙◌, arith}
 use Rattle.lb_core.specs.declared.course.Course.{Course}
 use Rattle.lb_core.specs.declared.entry.What.TheVariants as what

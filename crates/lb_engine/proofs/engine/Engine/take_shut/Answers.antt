@@ -1,3 +1,4 @@
+-- For `Engine::take_shut` of src/engine/turns.rt: a turn is refused, since one is open at the queue.
 use Rattle.std.proofs.Common.{◌≡◌, nat_lt, length, ap, refl, ◌∙◌}
 use Rattle.lb_core.specs.declared.entry.What.TheVariants as what
 use Rattle.lb_core.specs.Course.{turn_domains}

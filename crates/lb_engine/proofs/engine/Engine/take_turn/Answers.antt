@@ -1,3 +1,4 @@
+-- For `Engine::take_turn` of src/engine/turns.rt: a turn opens at a queue.
 use Rattle.std.proofs.Common.{◌≡◌, List, ap, refl, ◌∙◌}
 use Rattle.lb_base.specs.declared.shape.Shape.{Shape}
 use Rattle.lb_core.specs.declared.entry.What.TheVariants as what

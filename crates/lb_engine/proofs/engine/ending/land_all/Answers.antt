@@ -1,3 +1,4 @@
+-- For `land_all` of src/engine/ending.rt: each hand lands where it goes, the last lane's first.
 use Rattle.std.proofs.Common.{◌≡◌, Option, List, [], ◌∷◌, ◌++◌, ap, subst, ◌∙◌}
 use Rattle.lb_queue.specs.Hands.{HandState}
 use Rattle.lb_engine.specs.Ending.{CanLand}

@@ -1,3 +1,4 @@
+-- The loops of `land_all` of src/engine/ending.rt: each hand lands where it goes, the last lane's first.
 use Rattle.std.proofs.Common.{map, vec_len}
 use Rattle.lb_engine.specs.Ending.{CanLand}
 use Rattle.lb_engine.proofs.engine.ending.land_all.Given as goal

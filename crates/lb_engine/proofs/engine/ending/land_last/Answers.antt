@@ -1,3 +1,4 @@
+-- For `land_last` of src/engine/ending.rt: a hand lands where it goes.
 use Rattle.std.proofs.Common.{ℕ, slice_index_or, slice_set, sym, subst}
 use Rattle.lb_queue.specs.declared.answers.OutCause.TheVariants.{Stop}
 use Rattle.lb_engine.specs.Ending.{CanLand}

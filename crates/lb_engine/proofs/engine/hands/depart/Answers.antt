@@ -1,3 +1,4 @@
+-- For `depart` of src/engine/hands.rt: tasks leave a queue in the hand of a lane, as its course notes.
 use Rattle.std.proofs.Common.{sym, ◌∙◌}
 use Rattle.lb_engine.proofs.Leaving.{noted_course, noted_hand, noted_rest, as_many, goes_there, stays_bound}
 use Rattle.lb_engine.proofs.engine.hands.depart.Goals as goal

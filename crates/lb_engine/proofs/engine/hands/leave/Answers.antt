@@ -1,3 +1,5 @@
+-- For `leave` of src/engine/hands.rt: the `out` that is due, by the form of the course: tasks leave the queue
+-- in a hand.
 use Rattle.std.proofs.Common.{None, sym, subst}
 use Rattle.lb_core.specs.declared.course.Form.{Form}
 use Rattle.lb_engine.specs.Leaves.{GoesTo, HaveLeft, out_with}

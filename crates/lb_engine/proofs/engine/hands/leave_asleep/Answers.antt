@@ -1,3 +1,4 @@
+-- For `leave_asleep` of src/engine/hands.rt: the task leaves, where it has to wake elsewhere.
 use Rattle.std.proofs.Common.{sym, ◌∙◌}
 use Rattle.lb_engine.proofs.Leaving.{left_asleep}
 use Rattle.lb_engine.proofs.engine.hands.leave_asleep.Goals as goal

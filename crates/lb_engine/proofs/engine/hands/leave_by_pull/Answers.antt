@@ -1,3 +1,4 @@
+-- For `leave_by_pull` of src/engine/hands.rt: tasks leave by a pull, if one is due.
 use Rattle.std.proofs.Common.{Some, ap}
 use Rattle.lb_queue.specs.declared.answers.Taken.{Taken}
 use Rattle.lb_engine.proofs.Leaving.{left_by_pull}

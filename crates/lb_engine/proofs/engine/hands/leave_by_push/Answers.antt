@@ -1,3 +1,4 @@
+-- For `leave_by_push` of src/engine/hands.rt: a task leaves by the active request, if one is pending.
 use Rattle.std.proofs.Common.{sym, ◌∙◌}
 use Rattle.lb_engine.proofs.Leaving.{push_goes, left_by_push}
 use Rattle.lb_engine.proofs.engine.hands.leave_by_push.Goals as goal

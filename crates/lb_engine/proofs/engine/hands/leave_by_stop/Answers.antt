@@ -1,3 +1,5 @@
+-- For `leave_by_stop` of src/engine/hands.rt: the task of the next stop request leaves, of the owed requests
+-- only if asked.
 use Rattle.std.proofs.Common.{sym, ◌∙◌}
 use Rattle.lb_engine.proofs.Leaving.{left_by_stop}
 use Rattle.lb_engine.proofs.engine.hands.leave_by_stop.Goals as goal

@@ -1,3 +1,4 @@
+-- The loops of `place_all` of src/engine/hands.rt: the tasks are at a place.
 use Rattle.std.proofs.Common.{◌≡◌, drop, length}
 use Rattle.lb_core.specs.Step.{set_places}
 use Rattle.lb_engine.proofs.engine.hands.place_all.Given as goal

@@ -1,3 +1,4 @@
+-- The loops of `figures_named` of src/engine/lanes.rt: the figures with these names.
 use Rattle.std.proofs.Common.{◌≡◌, map, take}
 use Rattle.lb_core.specs.Machine.{figures_named}
 use Rattle.lb_engine.proofs.engine.lanes.figures_named.Given as goal

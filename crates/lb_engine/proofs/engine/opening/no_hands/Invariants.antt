@@ -1,3 +1,4 @@
+-- The loops of `no_hands` of src/engine/opening.rt: no lane has a hand.
 use Rattle.std.proofs.Common.{◌≡◌, ◌≤◌, None, replicate, vec_capacity}
 use Rattle.lb_engine.proofs.engine.opening.no_hands.Given as goal
 

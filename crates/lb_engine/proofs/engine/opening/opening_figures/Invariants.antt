@@ -1,3 +1,4 @@
+-- The loops of `opening_figures` of src/engine/opening.rt: the figures of the queues before any entry.
 use Rattle.std.proofs.Common.{◌≡◌, map, take, [], ◌∷◌}
 use Rattle.lb_queue.specs.Figures.{figure}
 use Rattle.lb_engine.proofs.engine.opening.opening_figures.Given as goal

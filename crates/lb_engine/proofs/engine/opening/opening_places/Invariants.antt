@@ -1,3 +1,4 @@
+-- The loops of `opening_places` of src/engine/opening.rt: each task's place before any entry.
 use Rattle.std.proofs.Common.{◌≡◌, map, take}
 use Rattle.lb_core.specs.declared.place.Place.TheVariants.{Asleep}
 use Rattle.lb_engine.proofs.engine.opening.opening_places.Given as goal

@@ -1,3 +1,5 @@
+-- For `Lane::adopt` of src/adopt.rt: draws the `use` of a chosen version, in the hold of the lock of the
+-- queue that answers it: its ticket is above all that the queue has drawn.
 use Rattle.std.proofs.Common.{◌≡◌, ◌∙◌, None, true, sym, ap, subst, arith}
 use Rattle.lb_core.specs.declared.entry.What.TheVariants.{Adopt}
 use Rattle.lb_journal.specs.contracts.journal.Journal.{the_row}

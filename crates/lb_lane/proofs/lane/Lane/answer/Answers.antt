@@ -1,3 +1,5 @@
+-- For `Lane::answer` of src/at_queues.rt: the queue answers the command of the lane's row, as
+-- [`Cell::answer`] does.
 use Rattle.std.proofs.Common.{◌≡◌, ◌∙◌, false, refl, ap}
 use Rattle.lb_core.specs.declared.entry.What.TheVariants.{Did}
 use Rattle.lb_journal.specs.contracts.journal.Journal.{the_row}

@@ -1,3 +1,5 @@
+-- For `Lane::answer_use` of src/turns.rt: the queue answers the `use` that the lane drew last, over the
+-- domains that the lane has, as by `Cell::answer_use`.
 use Rattle.std.proofs.Common.{◌≡◌, ◌∙◌, false, ap}
 use Rattle.lb_cell.specs.Turns.{turn_what}
 use Rattle.lb_journal.specs.contracts.journal.Journal.{the_row}

@@ -1,3 +1,5 @@
+-- For `Lane::ask` of src/in_turns.rt: asks the queue, the source of a failed pull, for a push to the turn's
+-- CPU, as [`Cell::ask`] does.
 use Rattle.std.proofs.Common.{◌≡◌, ◌∙◌, false, refl, ap}
 use Rattle.lb_core.specs.declared.entry.What.TheVariants.{Ask}
 use Rattle.lb_journal.specs.contracts.journal.Journal.{the_row}

@@ -1,3 +1,4 @@
+-- For `Lane::can_look` of src/due.rt: whether a look at the position in work may be drawn.
 use Rattle.std.proofs.Common.{rules, ℕ, ◌≡◌, ◌↔◌, true, false, ap, sym, subst}
 use Rattle.lb_base.specs.Mask.{has}
 use Rattle.lb_trace.specs.declared.trace.Header.{Header}

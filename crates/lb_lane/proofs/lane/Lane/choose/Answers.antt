@@ -1,3 +1,5 @@
+-- For `Lane::choose` of src/choose.rt: looks at a version, and copies the domains of a CPU in it; None where
+-- the lane does not vouch for the version yet, since it has not read its `pub`.
 use Rattle.lb_journal.specs.contracts.journal.Journal.{the_row}
 use Rattle.lb_lane.specs.Lanes.{LaneIs}
 use Rattle.lb_lane.proofs.Choosing.{has_cpu, sees_versions, chosen_of}

@@ -1,3 +1,5 @@
+-- For `Lane::close` of src/in_turns.rt: closes the position in work, and answers how it ended, as
+-- [`Cell::close`] does.
 use Rattle.std.proofs.Common.{refl, sym, subst}
 use Rattle.lb_cell.specs.Turns.{CanClose, closing}
 use Rattle.lb_journal.specs.contracts.journal.Journal.{the_row}

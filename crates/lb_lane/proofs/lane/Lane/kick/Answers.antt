@@ -1,3 +1,4 @@
+-- For `Lane::kick` of src/in_turns.rt: kicks the tickless CPU of the queue, as [`Cell::kick`] does.
 use Rattle.std.proofs.Common.{◌≡◌, ◌∙◌, false, refl, ap}
 use Rattle.lb_core.specs.declared.entry.What.TheVariants.{Kick}
 use Rattle.lb_journal.specs.contracts.journal.Journal.{the_row}

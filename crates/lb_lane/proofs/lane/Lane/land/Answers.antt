@@ -1,3 +1,4 @@
+-- For `Lane::land` of src/at_queues.rt: the tasks of the lane's hand land at the queue, as by [`Cell::land`].
 use Rattle.std.proofs.Common.{◌≡◌, ◌∙◌, false, refl, ap}
 use Rattle.lb_core.specs.declared.entry.What.TheVariants.{Landed}
 use Rattle.lb_queue.specs.Tasks.{ids}

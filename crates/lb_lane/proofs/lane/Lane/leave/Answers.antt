@@ -1,3 +1,5 @@
+-- For `Lane::leave` of src/at_queues.rt: the task of the lane's wake leaves the queue for another CPU, as by
+-- [`Cell::leave`].
 use Rattle.std.proofs.Common.{◌≡◌, ◌∙◌, false, refl, ap}
 use Rattle.lb_core.specs.declared.entry.What.TheVariants.{Out}
 use Rattle.lb_queue.specs.Tasks.{ids}

@@ -1,3 +1,5 @@
+-- For `Lane::look` of src/look.rt: looks at the domain in work: reads a figure of each CPU that is not
+-- excluded, decides on just these, and draws the look above their tickets.
 use Rattle.std.proofs.Common.{rules, [], sym, subst}
 use Rattle.lb_journal.specs.contracts.journal.Journal.{the_row}
 use Rattle.lb_lane.specs.Lanes.{LaneIs}

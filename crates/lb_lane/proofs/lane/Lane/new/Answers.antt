@@ -1,3 +1,5 @@
+-- For `Lane::new` of src/making.rt: a lane before its first row: its side drew nothing and has seen a figure
+-- of each CPU, its looker has seen version 1, which is the header's, and the rows are its own.
 use Rattle.std.proofs.Common.{List, sym, subst}
 use Rattle.lb_domain.specs.declared.domain.Domain.{Domain}
 use Rattle.lb_journal.specs.contracts.journal.Journal.{the_row}

@@ -1,3 +1,4 @@
+-- For `Lane::over` of src/in_turns.rt: ends the lane's open turn, as [`Cell::over`] does.
 use Rattle.std.proofs.Common.{◌≡◌, ◌∙◌, false, refl, ap}
 use Rattle.lb_core.specs.declared.entry.What.TheVariants.{Over}
 use Rattle.lb_journal.specs.contracts.journal.Journal.{the_row}

@@ -1,3 +1,4 @@
+-- For `Lane::row` of src/row.rt: takes up the lane's next row, while no row is in service.
 use Rattle.std.proofs.Common.{true, rules, ◌≡◌, ◌∙◌, ◌+◌, ◌<◌, false, length, ap, sym, subst, refl}
 use Rattle.lb_core.specs.declared.entry.What.TheVariants.{Row}
 use Rattle.lb_core.specs.Rules.{is_undeclared}

@@ -1,3 +1,5 @@
+-- For `Lane::scan` of src/scan.rt: scans after a tick's turn: reads a figure of each CPU of the widest
+-- domain, and draws the scan above their tickets.
 use Rattle.std.proofs.Common.{rules, [], sym, subst}
 use Rattle.lb_journal.specs.contracts.journal.Journal.{the_row}
 use Rattle.lb_lane.specs.Lanes.{LaneIs}

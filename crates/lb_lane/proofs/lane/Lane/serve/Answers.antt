@@ -1,3 +1,4 @@
+-- For `Lane::serve` of src/at_queues.rt: the tasks that are due leave the queue, as by [`Cell::serve`].
 use Rattle.std.proofs.Common.{◌≡◌, ◌∙◌, false, refl, ap}
 use Rattle.lb_core.specs.declared.entry.What.TheVariants.{Out}
 use Rattle.lb_queue.specs.Tasks.{ids}

@@ -1,3 +1,5 @@
+-- For `Lane::take` of src/in_turns.rt: takes from the queue what the lane's last look asks for, as
+-- [`Cell::take`] does.
 use Rattle.std.proofs.Common.{◌≡◌, ◌∙◌, false, refl, ap}
 use Rattle.lb_core.specs.declared.entry.What.TheVariants.{Out}
 use Rattle.lb_queue.specs.Tasks.{ids}

@@ -1,3 +1,6 @@
+-- For `Lane::turn` of src/turns.rt: opens a turn of the queue's CPU: the lane takes up the chosen version, by
+-- a `use` that is later than all entries of the queue, and the queue answers it, over the domains that the
+-- lane has then.
 use Rattle.std.proofs.Common.{rules, ◌≡◌, ◌∙◌, None, if◌then◌else◌, subst, sym}
 use Rattle.lb_core.specs.declared.course.Form.TheVariants as forms
 use Rattle.lb_core.specs.Asks.{OpeningAsks}

@@ -1,3 +1,5 @@
+-- For `PublisherCell::new` of src/making.rt: the publisher with its seat, which drew nothing: version 1,
+-- which is the header's, is published alone.
 use Rattle.lb_lane.proofs.Opening.{new_publisher}
 use Rattle.lb_lane.proofs.publisher.PublisherCell.new.Goals as goal
 

@@ -1,3 +1,5 @@
+-- For `PublisherCell::publish` of src/publish.rt: publishes the masks of a `rebuild` as a new version, draws
+-- its `pub`, and tells the lane's looker of it, all in one hold of the lock; it answers the version.
 use Rattle.std.proofs.Common.{rules, ◌≡◌, ◌∙◌, ◌+◌, ◌++◌, ◌∷◌, [], length, sym, subst, ap, arith, All}
 use Rattle.std.proofs.lemmas.List.{length-append}
 use Rattle.lb_domain.specs.Topologies.{domains_within}

@@ -1,3 +1,5 @@
+-- For `PublisherCell::vouch` of src/publisher.rt: lets a lane vouch for all versions: it reads the `pub` of
+-- each, so that each further ticket of it is above them, and its looker is told of them.
 use Rattle.std.proofs.Common.{◌≡◌, ◌∙◌, ◌+◌, length, refl, sym, subst, ap, arith}
 use Rattle.lb_ticket.specs.Seats.{SeatIs}
 use Rattle.lb_journal.specs.Journal.{Journal}

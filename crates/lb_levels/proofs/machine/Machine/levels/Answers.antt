@@ -1,3 +1,4 @@
+-- For `Machine::levels` of src/machine.rt: how many levels there are, 3 to `MAX_LEVELS`.
 use Rattle.std.proofs.Common.{◌≤◌, length, ap, arith, rules}
 use Rattle.lb_levels.specs.Rows.{Layout}
 use Rattle.lb_levels.specs.Spans.{levels_of}

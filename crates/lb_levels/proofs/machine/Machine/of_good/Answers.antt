@@ -1,3 +1,4 @@
+-- For `Machine::of_good` of src/machine.rt: the machine of rows and distances without a fault.
 use Rattle.std.proofs.Common.{List, map, ◌∙◌, ap, arith}
 use Rattle.lb_base.specs.declared.shape.LevelName.{LevelName}
 use Rattle.lb_levels.specs.Faults.{nodes_of}
@@ -28,7 +29,8 @@ spans_of-requires-clause-square c =
 
 pub spans_of-requires-clause-nodes : goal.spans_of-requires-clause-nodes
 spans_of-requires-clause-nodes c =
-    fits_nodes c.args.cpus.now c.args.distances.now c.requires.some (good c.args.cpus.now c.args.distances.now c.requires.good).fits
+    fits_nodes c.args.cpus.now c.args.distances.now c.requires.some
+    (good c.args.cpus.now c.args.distances.now c.requires.good).fits
 
 pub invariant_of-result : goal.invariant_of-result
 unfolding spans_of
@@ -41,5 +43,6 @@ invariant_of-result c =
       nodes = c.requires.nodes;
       good = c.requires.good;
       names = names;
-      spans = spans ∙ ap (λ (ls : List LevelName). map (spans_at c.args.cpus.now c.args.distances.now) ls) (c.as_slice.ensures ∙ names);
+      spans = spans ∙ ap (λ (ls : List LevelName). map (spans_at c.args.cpus.now c.args.distances.now) ls)
+          (c.as_slice.ensures ∙ names);
     }

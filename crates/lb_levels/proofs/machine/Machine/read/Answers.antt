@@ -1,3 +1,4 @@
+-- For `Machine::read` of src/machine.rt: the machine of these CPUs, whose nodes have these distances.
 use Rattle.std.proofs.Common.{sym, ◌∙◌, arith}
 use Rattle.lb_levels.specs.Faults.{nodes_of}
 use Rattle.lb_levels.proofs.FaultOrder.{good, fits_length}

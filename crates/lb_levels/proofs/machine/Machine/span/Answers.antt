@@ -1,3 +1,5 @@
+-- For `Machine::span` of src/machine.rt: the CPUs that share with a CPU what a level stands for, among them
+-- the CPU itself.
 use Rattle.std.proofs.Common.{length, ◌∙◌, ap, arith}
 use Rattle.lb_levels.specs.Rows.{Layout}
 use Rattle.lb_levels.specs.Spans.{levels_of, level_at, span_of}
@@ -7,7 +9,13 @@ use Rattle.lb_levels.proofs.machine.Machine.span.Goals as goal
 pub get-requires : goal.get-requires
 get-requires c =
     let levels = ap (λ (m : Layout). length (levels_of m.distances)) c.self.view_is in
-    omega (arith, ap length c.self.invariant.spans, length-spans_of c.self.inside.cpus c.self.inside.distances, levels, c.requires.level)
+    omega (
+      arith,
+      ap length c.self.invariant.spans,
+      length-spans_of c.self.inside.cpus c.self.inside.distances,
+      levels,
+      c.requires.level,
+    )
 
 pub get-requires-2 : goal.get-requires-2
 get-requires-2 c =

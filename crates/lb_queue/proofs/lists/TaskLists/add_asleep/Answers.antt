@@ -1,3 +1,4 @@
+-- For `TaskLists::add_asleep` of src/lists.rt: a task that is known nowhere sleeps from now on.
 use Rattle.std.proofs.Common.{sym, subst}
 use Rattle.lb_queue.specs.contracts.lists.TaskLists.{the_view}
 use Rattle.lb_queue.specs.Kept.{IsTask}

@@ -1,3 +1,4 @@
+-- For `TaskLists::add_gone` of src/lists.rt: a task that is known nowhere is gone from now on.
 use Rattle.std.proofs.Common.{sym, subst}
 use Rattle.lb_queue.specs.contracts.lists.TaskLists.{the_view}
 use Rattle.lb_queue.specs.Kept.{IsTask}

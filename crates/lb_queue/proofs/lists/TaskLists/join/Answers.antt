@@ -1,3 +1,5 @@
+-- For `TaskLists::join` of src/lists.rt: a task joins the front of the awake ones, and is picked where nobody
+-- runs.
 use Rattle.std.proofs.Common.{◌≡◌, true, sym, subst}
 use Rattle.lb_base.specs.Mask.{has}
 use Rattle.lb_queue.specs.contracts.lists.TaskLists.{the_view}
@@ -13,4 +15,5 @@ invariant_of-self c =
     kept_in (the_view c.self.inside) _ _ _ _ _ c.args.clock _ c.args.task c.self.invariant known.numbered
     (subst (λ (l : Lists). IsUnknown l c.args.task.id) back c.requires.unknown)
     (subst HasRoom back c.requires.room)
-    (subst (λ (l : Lists). has c.args.task.mask l.cpu ≡ true) back c.requires.permitted) c.join.ensures.items c.join.ensures.capacity
+    (subst (λ (l : Lists). has c.args.task.mask l.cpu ≡ true) back c.requires.permitted) c.join.ensures.items
+    c.join.ensures.capacity

@@ -1,3 +1,5 @@
+-- The loops of `TaskLists::land` of src/lists.rt: tasks land, one after the other, for which landings are
+-- booked.
 use Rattle.std.proofs.Common.{vec_len}
 use Rattle.lb_queue.proofs.Landing.{IsLanding}
 use Rattle.lb_queue.proofs.lists.TaskLists.land.Given as goal

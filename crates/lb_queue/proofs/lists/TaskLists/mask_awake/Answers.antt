@@ -1,3 +1,4 @@
+-- For `TaskLists::mask_awake` of src/lists.rt: the awake task of that id gets a mask.
 use Rattle.std.proofs.Common.{rules, ◌≡◌, ◌==◌, ◌∙◌, refl, sym, ap, cond, reverse}
 use Rattle.lb_queue.specs.declared.awake.Awake.{Awake}
 use Rattle.lb_queue.specs.contracts.lists.TaskLists.{the_view}

@@ -1,3 +1,5 @@
+-- For `TaskLists::next_stop` of src/lists.rt: the stop request of the least id, of the owed ones only if
+-- asked.
 use Rattle.lb_queue.proofs.Keeping.{once_awake}
 use Rattle.lb_queue.proofs.lists.TaskLists.next_stop.Goals as goal
 

@@ -1,3 +1,4 @@
+-- For `TaskLists::renice_asleep` of src/lists.rt: the sleeping task of that id gets a nice value.
 use Rattle.std.proofs.Common.{w32, ℤ, ◌≡◌, ◌==◌, ◌∙◌, ap, refl, cond}
 use Rattle.lb_queue.specs.declared.record.TaskRecord.{TaskRecord}
 use Rattle.lb_queue.specs.contracts.lists.TaskLists.{the_view}

@@ -1,3 +1,4 @@
+-- For `TaskLists::renice_awake` of src/lists.rt: the awake task of that id gets a nice value.
 use Rattle.std.proofs.Common.{w32, ℤ, ◌≡◌, ◌==◌, ◌∙◌, refl, sym, ap, cond, reverse}
 use Rattle.lb_queue.specs.declared.awake.Awake.{Awake}
 use Rattle.lb_queue.specs.contracts.lists.TaskLists.{the_view}

@@ -1,3 +1,5 @@
+-- For `TaskLists::set_order` of src/lists.rt: the awake tasks stand in an order from now on, which has two
+-- parts of them the other way round.
 use Rattle.std.proofs.Common.{◌∙◌, sym, subst, length, List, ap}
 use Rattle.lb_queue.specs.declared.awake.Awake.{Awake}
 use Rattle.lb_queue.specs.Lists.{Lists}

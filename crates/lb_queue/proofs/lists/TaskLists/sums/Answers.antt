@@ -1,3 +1,5 @@
+-- For `TaskLists::sums` of src/lists.rt: the sums of what the signals say at a moment, those of the runnable
+-- averages over the awake tasks alone.
 use Rattle.std.proofs.Common.{length, arith, reverse, refl, ap}
 use Rattle.std.proofs.lemmas.List.{length-reverse}
 use Rattle.lb_queue.specs.declared.awake.Awake.{Awake}
@@ -8,20 +10,23 @@ use Rattle.lb_queue.proofs.lists.TaskLists.sums.Goals as goal
 
 pub awake_sums-awake-requires : goal.awake_sums-awake-requires
 awake_sums-awake-requires c =
-    let k = known_length _ (reverse c.self.inside.awake.items) c.self.inside.asleep.items c.self.inside.gone.items c.self.invariant.sound in
+    let k = known_length _ (reverse c.self.inside.awake.items) c.self.inside.asleep.items c.self.inside.gone.items
+    c.self.invariant.sound in
     let r = length-reverse c.self.inside.awake.items in
     let d = ap length c.deref.ensures.value in
     omega arith
 
 pub asleep_sums-asleep-requires : goal.asleep_sums-asleep-requires
 asleep_sums-asleep-requires c =
-    let k = known_length _ (reverse c.self.inside.awake.items) c.self.inside.asleep.items c.self.inside.gone.items c.self.invariant.sound in
+    let k = known_length _ (reverse c.self.inside.awake.items) c.self.inside.asleep.items c.self.inside.gone.items
+    c.self.invariant.sound in
     let d = ap length c.deref-2.ensures.value in
     omega arith
 
 pub overflow_add-result : goal.overflow_add-result
 overflow_add-result c =
-    let k = known_length _ (reverse c.self.inside.awake.items) c.self.inside.asleep.items c.self.inside.gone.items c.self.invariant.sound in
+    let k = known_length _ (reverse c.self.inside.awake.items) c.self.inside.asleep.items c.self.inside.gone.items
+    c.self.invariant.sound in
     let r = length-reverse c.self.inside.awake.items in
     let d = ap length c.deref.ensures.value in
     let e = ap length c.deref-2.ensures.value in
@@ -31,7 +36,8 @@ overflow_add-result c =
 
 pub overflow_add-result-2 : goal.overflow_add-result-2
 overflow_add-result-2 c =
-    let k = known_length _ (reverse c.self.inside.awake.items) c.self.inside.asleep.items c.self.inside.gone.items c.self.invariant.sound in
+    let k = known_length _ (reverse c.self.inside.awake.items) c.self.inside.asleep.items c.self.inside.gone.items
+    c.self.invariant.sound in
     let r = length-reverse c.self.inside.awake.items in
     let d = ap length c.deref.ensures.value in
     let e = ap length c.deref-2.ensures.value in

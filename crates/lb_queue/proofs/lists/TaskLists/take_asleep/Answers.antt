@@ -1,3 +1,4 @@
+-- For `TaskLists::take_asleep` of src/lists.rt: a sleeping task is taken out.
 use Rattle.lb_queue.specs.contracts.lists.TaskLists.{the_view}
 use Rattle.lb_queue.proofs.Keeping.{kept_up, unknown_if, same_if}
 use Rattle.lb_queue.proofs.lists.TaskLists.take_asleep.Goals as goal

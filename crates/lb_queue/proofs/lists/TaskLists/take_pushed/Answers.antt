@@ -1,3 +1,5 @@
+-- For `TaskLists::take_pushed` of src/lists.rt: the awake task nearest the back that may run at a CPU is
+-- taken out.
 use Rattle.std.proofs.Common.{List, ◌∙◌, reverse, map, ap}
 use Rattle.lb_active.specs.Choice.{pick_of}
 use Rattle.lb_base.specs.declared.view.TaskView.{TaskView}

@@ -1,3 +1,5 @@
+-- For `TaskLists::tick` of src/lists.rt: another task takes the place of the running one, and pending
+-- requests become owed.
 use Rattle.std.proofs.Common.{◌≡◌, ◌∙◌, refl, sym, ap, map, reverse, length, arith}
 use Rattle.std.proofs.lemmas.List.{length-reverse}
 use Rattle.lb_queue.specs.contracts.lists.TaskLists.{the_view}
@@ -8,7 +10,8 @@ use Rattle.lb_queue.proofs.Ticking.{sound_ticked}
 use Rattle.lb_queue.proofs.lists.TaskLists.tick.Goals as goal
 
 pub rotate-requires : goal.rotate-requires
-rotate-requires c = λ u. once_awake u c.self.inside.awake.items c.self.inside.asleep.items c.self.inside.gone.items c.self.invariant.sound
+rotate-requires c = λ u. once_awake u c.self.inside.awake.items c.self.inside.asleep.items c.self.inside.gone.items
+    c.self.invariant.sound
 
 pub invariant_of-self : goal.invariant_of-self
 invariant_of-self c =

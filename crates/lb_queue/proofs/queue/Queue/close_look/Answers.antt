@@ -1,3 +1,4 @@
+-- For `Queue::close_look` of src/queue/turns.rt: closes a position of the open turn with its outcome.
 use Rattle.std.proofs.Common.{◌≡◌, ◌∙◌, true, Some, None, refl, ap, List}
 use Rattle.std.specs.Prelude.{if◌then◌else◌, Option}
 use Rattle.lb_interval.specs.declared.Counters.{Counters}

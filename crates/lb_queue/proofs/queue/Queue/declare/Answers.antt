@@ -1,3 +1,4 @@
+-- For `Queue::declare` of src/queue.rt: declares a task: it sleeps here.
 use Rattle.std.proofs.Common.{◌≡◌, sym, subst, false}
 use Rattle.lb_queue.specs.contracts.queue.Queue.{the_view}
 use Rattle.lb_queue.specs.declared.record.TaskRecord.{TaskRecord}

@@ -1,3 +1,5 @@
+-- For `Queue::exit` of src/queue/commands.rt: a task that is awake or asleep here ends; one that is awake
+-- falls asleep first.
 use Rattle.std.proofs.Common.{◌∙◌, ap, refl}
 use Rattle.lb_queue.specs.contracts.queue.Queue.{the_view}
 use Rattle.lb_queue.specs.Lists.{Lists}

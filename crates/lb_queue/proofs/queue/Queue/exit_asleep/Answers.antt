@@ -1,3 +1,4 @@
+-- For `Queue::exit_asleep` of src/queue/commands.rt: an exit of a task that is not awake here.
 use Rattle.std.proofs.Common.{◌≡◌, ◌∙◌, sym, subst, ap, None}
 use Rattle.lb_queue.specs.contracts.queue.Queue.{the_view}
 use Rattle.lb_queue.specs.Queue.{BookedQueue}

@@ -1,3 +1,5 @@
+-- For `Queue::land` of src/queue/hands.rt: the tasks of a hand that goes here join the front, one after the
+-- other in the order in which they left.
 use Rattle.std.proofs.Common.{◌≡◌, ◌<◌, ◌∙◌, sym, subst, ap, refl, false, arith, length, max}
 use Rattle.std.specs.Prelude.{All}
 use Rattle.std.proofs.lemmas.Bool.{eqb-true, eqb-false}

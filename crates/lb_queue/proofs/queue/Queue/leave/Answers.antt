@@ -1,3 +1,5 @@
+-- For `Queue::leave` of src/queue/hands.rt: a task that has to wake elsewhere leaves in a hand that goes
+-- there, and has room for it.
 use Rattle.std.proofs.Common.{◌≡◌, ◌∙◌, sym, subst, Some}
 use Rattle.lb_queue.specs.contracts.queue.Queue.{the_view}
 use Rattle.lb_queue.specs.Queue.{BookedQueue, away}
@@ -7,14 +9,16 @@ use Rattle.lb_queue.proofs.queue.Queue.leave.Goals as goal
 
 pub load-requires-clause-permitted : goal.load-requires-clause-permitted
 load-requires-clause-permitted c =
-    let away = subst (λ (b : BookedQueue). away b.state c.args.id ≡ Some c.args.hand.now.to) (sym c.self.view_is) c.requires.away in
+    let away = subst (λ (b : BookedQueue). away b.state c.args.id ≡ Some c.args.hand.now.to) (sym c.self.view_is)
+    c.requires.away in
     rw c.advanced.ensures.value (leaves_there
     (the_view c.self.inside).state c.args.id c.in-Some.task c.args.hand.now.to c.in-Some.ensures.found away)
 
 pub returns-clause-step : goal.returns-clause-step
 returns-clause-step c =
     let q = (the_view c.self.inside).state in
-    let fact = subst (λ (b : BookedQueue). away b.state c.args.id ≡ Some c.args.hand.now.to) (sym c.self.view_is) c.requires.away in
+    let fact = subst (λ (b : BookedQueue). away b.state c.args.id ≡ Some c.args.hand.now.to) (sym c.self.view_is)
+    c.requires.away in
     elim c.match-take_asleep.branch [
       | in-Some w ↦ rw (← c.self.view_is)
           (leave_done q c.args.at c.args.id c.max-self-inside.result w.in-Some.task c.take_asleep.new.self
@@ -25,7 +29,8 @@ returns-clause-step c =
 pub returns-clause-hand : goal.returns-clause-hand
 returns-clause-hand c =
     let q = (the_view c.self.inside).state in
-    let fact = subst (λ (b : BookedQueue). away b.state c.args.id ≡ Some c.args.hand.now.to) (sym c.self.view_is) c.requires.away in
+    let fact = subst (λ (b : BookedQueue). away b.state c.args.id ≡ Some c.args.hand.now.to) (sym c.self.view_is)
+    c.requires.away in
     elim c.match-take_asleep.branch [
       | in-Some w ↦ rw (← c.self.view_is)
           (w.hand-is ∙ w.load.ensures ∙ leave_hand q c.args.at c.args.id c.max-self-inside.result w.in-Some.task

@@ -1,3 +1,4 @@
+-- For `Queue::opens` of src/queue/turns.rt: what [`Queue::turn`] with these arguments would answer.
 use Rattle.std.proofs.Common.{◌∙◌, sym, ap, is_some}
 use Rattle.lb_queue.specs.Queue.{BookedQueue}
 use Rattle.lb_queue.proofs.Opening.{opens_not, opens_so}

@@ -1,3 +1,4 @@
+-- For `Queue::positions` of src/queue/turns.rt: the positions of a turn.
 use Rattle.std.proofs.Common.{◌≡◌, ◌∙◌, ◌&&◌, true, false, max, sym, ap, refl}
 use Rattle.lb_queue.specs.Queue.{BookedQueue, nobody, clock_at}
 use Rattle.lb_queue.proofs.Opening.{positions_tick, positions_idle, positions_nohz, positions_none}

@@ -1,3 +1,4 @@
+-- For `Queue::refuse_sleep` of src/queue/commands.rt: a sleep of a task that is not awake here.
 use Rattle.std.proofs.Common.{◌≡◌, ◌∙◌, sym, subst, None, is_some, false}
 use Rattle.lb_queue.specs.contracts.queue.Queue.{the_view}
 use Rattle.lb_queue.specs.Queue.{BookedQueue}

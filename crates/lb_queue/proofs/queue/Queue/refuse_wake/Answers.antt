@@ -1,3 +1,4 @@
+-- For `Queue::refuse_wake` of src/queue/commands.rt: a wake of a task that does not sleep here.
 use Rattle.std.proofs.Common.{◌≡◌, ◌∙◌, sym, subst, None, is_some, false}
 use Rattle.lb_queue.specs.contracts.queue.Queue.{the_view}
 use Rattle.lb_queue.specs.Queue.{BookedQueue}

@@ -1,3 +1,4 @@
+-- For `Queue::renice` of src/queue/commands.rt: sets a task's nice value, -20 to 19. Its signal stays.
 use Rattle.std.proofs.Common.{ℤ, w32, ◌≡◌, ◌∙◌, sym, subst, ap, is_some, false}
 use Rattle.std.proofs.lemmas.Int.{to_z-of_z}
 use Rattle.lb_queue.specs.contracts.queue.Queue.{the_view}

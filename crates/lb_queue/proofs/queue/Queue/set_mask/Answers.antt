@@ -1,3 +1,4 @@
+-- For `Queue::set_mask` of src/queue/commands.rt: sets a task's mask.
 use Rattle.std.proofs.Common.{◌≡◌, ◌∙◌, sym, subst, is_some, false}
 use Rattle.lb_queue.specs.Queue.{BookedQueue}
 use Rattle.lb_queue.specs.Tasks.{task_with, awake_with}

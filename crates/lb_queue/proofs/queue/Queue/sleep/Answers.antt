@@ -1,3 +1,5 @@
+-- For `Queue::sleep` of src/queue/commands.rt: a task that is awake here falls asleep, and its stop request
+-- is dropped.
 use Rattle.std.proofs.Common.{◌∙◌, ap, refl}
 use Rattle.lb_queue.specs.contracts.queue.Queue.{the_view}
 use Rattle.lb_queue.specs.Lists.{Lists}

@@ -1,3 +1,6 @@
+-- For `Queue::take` of src/queue/hands.rt: a pull takes out of the awake tasks what docs/rules/picked-list.md
+-- picks, at most [`EXAMINED_AT_MOST`] tasks: they leave in the hand in the order in which they are picked,
+-- and the others stand in the order that the examination left.
 use Rattle.std.proofs.Common.{◌≡◌, ◌≤◌, ◌∙◌, ℕ, List, sym, ap, subst, Some, ◌++◌, map}
 use Rattle.lb_queue.specs.Lists.{Lists}
 use Rattle.lb_queue.specs.declared.answers.Taken.{Taken}

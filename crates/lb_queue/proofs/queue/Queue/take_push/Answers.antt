@@ -1,3 +1,5 @@
+-- For `Queue::take_push` of src/queue/hands.rt: a pending active request goes to the hand's destination: the
+-- task nearest the back whose mask has it, the running one too, leaves in the hand, which has room for it.
 use Rattle.std.proofs.Common.{◌≡◌, ◌∙◌, sym, ap, Option}
 use Rattle.std.specs.Prelude.{is_some}
 use Rattle.lb_queue.specs.contracts.queue.Queue.{the_view}

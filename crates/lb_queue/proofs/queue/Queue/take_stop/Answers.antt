@@ -1,3 +1,5 @@
+-- For `Queue::take_stop` of src/queue/hands.rt: a task whose pending stop request goes to the hand's
+-- destination leaves in the hand, which has room for it.
 use Rattle.std.proofs.Common.{◌≡◌, ◌∙◌, sym, subst, Some}
 use Rattle.lb_queue.specs.contracts.queue.Queue.{the_view}
 use Rattle.lb_queue.specs.Queue.{BookedQueue}
@@ -8,14 +10,16 @@ use Rattle.lb_queue.proofs.queue.Queue.take_stop.Goals as goal
 
 pub load-requires-clause-permitted : goal.load-requires-clause-permitted
 load-requires-clause-permitted c =
-    let stop = subst (λ (b : BookedQueue). stop_to b.state c.args.id ≡ Some c.args.hand.now.to) (sym c.self.view_is) c.requires.pending in
+    let stop = subst (λ (b : BookedQueue). stop_to b.state c.args.id ≡ Some c.args.hand.now.to) (sym c.self.view_is)
+    c.requires.pending in
     stops_there (the_view c.self.inside).state c.args.id c.max-self-inside.result c.in-Some.task c.args.hand.now.to
     c.in-Some.ensures.found stop
 
 pub returns-clause-step : goal.returns-clause-step
 returns-clause-step c =
     let q = (the_view c.self.inside).state in
-    let fact = subst (λ (b : BookedQueue). stop_to b.state c.args.id ≡ Some c.args.hand.now.to) (sym c.self.view_is) c.requires.pending in
+    let fact = subst (λ (b : BookedQueue). stop_to b.state c.args.id ≡ Some c.args.hand.now.to) (sym c.self.view_is)
+    c.requires.pending in
     elim c.match-take_awake.branch [
       | in-Some w ↦ rw (← c.self.view_is)
           (stop_done q c.args.at c.args.id c.max-self-inside.result w.in-Some.task c.take_awake.new.self
@@ -27,7 +31,8 @@ returns-clause-step c =
 pub returns-clause-hand : goal.returns-clause-hand
 returns-clause-hand c =
     let q = (the_view c.self.inside).state in
-    let fact = subst (λ (b : BookedQueue). stop_to b.state c.args.id ≡ Some c.args.hand.now.to) (sym c.self.view_is) c.requires.pending in
+    let fact = subst (λ (b : BookedQueue). stop_to b.state c.args.id ≡ Some c.args.hand.now.to) (sym c.self.view_is)
+    c.requires.pending in
     elim c.match-take_awake.branch [
       | in-Some w ↦ rw (← c.self.view_is)
           (w.hand-is ∙ w.load.ensures ∙ stop_hand q c.args.at c.args.id c.max-self-inside.result w.in-Some.task

@@ -1,3 +1,5 @@
+-- For `Queue::turn` of src/queue/turns.rt: opens a turn over the shapes of a version of the CPU's domains,
+-- the i-th of them of position i, for a lane.
 use Rattle.std.proofs.Common.{◌≡◌, ◌∙◌, sym, ap, refl, subst, arith}
 use Rattle.lb_queue.specs.contracts.queue.Queue.{the_view}
 use Rattle.lb_queue.specs.Queue.{BookedQueue}
@@ -17,7 +19,8 @@ invariant_of-self-2 c =
     let fit : FitCounters q c.args.version c.args.shapes.now =
     subst (λ (b : BookedQueue). FitCounters b.state c.args.version c.args.shapes.now) (sym c.self.view_is) c.requires.fit in
     let found = found_is q c.args.at c.max-self-inside-2.result c.args.version c.args.shapes.now c.self.inside.counted
-    c.self.inside.counters.items c.find_counters.new.counters.items refl c.max-self-inside-2.ensures c.find_counters.ensures.items in
+    c.self.inside.counters.items c.find_counters.new.counters.items refl c.max-self-inside-2.ensures
+    c.find_counters.ensures.items in
     let positions : c.positions-positions.result ≡ positions_found q c.args.at c.args.kind c.args.version c.args.shapes.now =
     c.positions-positions.ensures ∙ ap (λ
     (b : BookedQueue). positions_found b.state c.args.at c.args.kind c.args.version c.args.shapes.now) (sym c.self.view_is) in
@@ -27,14 +30,19 @@ invariant_of-self-2 c =
       same_cpu = c.self.invariant.same_cpu;
       levels = rw found (found_few q c.args.at c.args.version c.args.shapes.now fit c.requires.few);
       counters_fit = let k = c.self.invariant.counters_fit in let e = c.find_counters.ensures.capacity in omega arith;
-      turn = (refl, λ p h. rw found (positions_within q c.args.at c.args.kind c.args.version c.args.shapes.now p fit (rw positions at h)));
+      turn = (
+        refl,
+        λ p h. rw found (positions_within q c.args.at c.args.kind c.args.version c.args.shapes.now p fit
+            (rw positions at h)),
+      );
     }
 
 pub returns-clause-step : goal.returns-clause-step
 returns-clause-step c =
     let q = (the_view c.self.inside).state in
     let found = found_is q c.args.at c.max-self-inside-2.result c.args.version c.args.shapes.now c.self.inside.counted
-    c.self.inside.counters.items c.find_counters.new.counters.items refl c.max-self-inside-2.ensures c.find_counters.ensures.items in
+    c.self.inside.counters.items c.find_counters.new.counters.items refl c.max-self-inside-2.ensures
+    c.find_counters.ensures.items in
     let positions : c.positions-positions.result ≡ positions_found q c.args.at c.args.kind c.args.version c.args.shapes.now =
     c.positions-positions.ensures ∙ ap (λ
     (b : BookedQueue). positions_found b.state c.args.at c.args.kind c.args.version c.args.shapes.now) (sym c.self.view_is) in

@@ -1,3 +1,5 @@
+-- For `Queue::view` of src/queue/values.rt: the `i`-th awake task from the front as a pull at the moment `at`
+-- would see it: with its values and its hotness at the greater of the clock and `at`.
 use Rattle.std.proofs.Common.{ℕ, ◌∙◌, sym, ap, map, slice_get}
 use Rattle.lb_queue.specs.Values.{views, view_at}
 use Rattle.lb_queue.proofs.queue.Queue.view.Goals as goal

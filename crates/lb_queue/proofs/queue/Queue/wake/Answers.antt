@@ -1,3 +1,5 @@
+-- For `Queue::wake` of src/queue/commands.rt: a task that sleeps here wakes: it joins the front, and is
+-- picked where nobody runs.
 use Rattle.std.proofs.Common.{◌≡◌, ◌∙◌, sym, subst, ap, refl, None}
 use Rattle.lb_queue.specs.contracts.queue.Queue.{the_view}
 use Rattle.lb_queue.specs.Queue.{BookedQueue, away}

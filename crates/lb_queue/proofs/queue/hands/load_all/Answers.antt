@@ -1,3 +1,4 @@
+-- For `load_all` of src/queue/hands.rt: tasks that wait leave in a hand, one after the other.
 use Rattle.std.proofs.Common.{◌<◌, ◌∙◌, ℕ, List, length, take, get_or, arith, sym, subst, ap}
 use Rattle.std.proofs.lemmas.List.{take_more, length-take-le}
 use Rattle.lb_queue.specs.declared.awake.Awake.{Awake}
@@ -6,7 +7,8 @@ use Rattle.lb_queue.proofs.Taking.{IsTaking, taking_none, taking_next, taking_ro
 use Rattle.lb_queue.proofs.queue.hands.load_all.Goals as goal
 
 pub loop-id-init : goal.loop-id-init
-loop-id-init c = taking_none c.args.cpu c.args.clock c.args.lists.now c.args.hand.now c.load_nothing.new.self c.load_nothing.ensures
+loop-id-init c = taking_none c.args.cpu c.args.clock c.args.lists.now c.args.hand.now c.load_nothing.new.self
+    c.load_nothing.ensures
 
 pub load_one-requires-clause-can_go : goal.load_one-requires-clause-can_go
 load_one-requires-clause-can_go c =

@@ -1,3 +1,4 @@
+-- For `load_one` of src/queue/hands.rt: a task that waits leaves in a hand.
 use Rattle.std.proofs.Common.{◌∙◌, ap, List}
 use Rattle.lb_queue.specs.declared.awake.Awake.{Awake}
 use Rattle.lb_queue.specs.Lists.{Lists}

@@ -1,3 +1,4 @@
+-- For `due_counted` of src/queue/turns.rt: the positions of counters that are due.
 use Rattle.std.proofs.Common.{◌≡◌, ◌&&◌, nat_lt, ℕ, arith, subst, length}
 use Rattle.lb_base.specs.Mask.{has}
 use Rattle.lb_interval.specs.After.{is_due}

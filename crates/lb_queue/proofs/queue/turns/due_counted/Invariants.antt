@@ -1,3 +1,4 @@
+-- The loops of `due_counted` of src/queue/turns.rt: the positions of counters that are due.
 use Rattle.std.proofs.Common.{◌≡◌, ◌&&◌, nat_lt, ℕ}
 use Rattle.lb_base.specs.Mask.{has}
 use Rattle.lb_interval.specs.After.{is_due}

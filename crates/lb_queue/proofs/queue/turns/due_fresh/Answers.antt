@@ -1,3 +1,5 @@
+-- For `due_fresh` of src/queue/turns.rt: the positions that are due by counters that are fresh at some
+-- milliseconds.
 use Rattle.std.proofs.Common.{◌≡◌, ◌∙◌, ◌&&◌, nat_lt, ℕ, sym, ap, arith, subst, map, length}
 use Rattle.std.proofs.lemmas.List.{length-map}
 use Rattle.lb_base.specs.Mask.{has}

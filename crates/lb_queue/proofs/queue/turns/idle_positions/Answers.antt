@@ -1,3 +1,5 @@
+-- For `idle_positions` of src/queue/turns.rt: the positions of a newly-idle turn, which opens none where
+-- somebody is awake.
 use Rattle.std.proofs.Common.{◌≡◌, ℕ, nat_lt, arith, subst}
 use Rattle.lb_base.specs.Mask.{has}
 use Rattle.lb_queue.specs.Turns.{idle_levels}

@@ -1,3 +1,4 @@
+-- For `levels` of src/queue/turns.rt: how many levels a newly-idle turn goes up.
 use Rattle.std.proofs.Common.{◌≡◌, ◌≤◌, ◌∙◌, true, sym, arith}
 use Rattle.lb_base.proofs.Members.{length-members_le}
 use Rattle.lb_newidle.specs.Budget.{goes_on}

@@ -1,3 +1,4 @@
+-- The loops of `levels` of src/queue/turns.rt: how many levels a newly-idle turn goes up.
 use Rattle.std.proofs.Common.{◌≡◌, ◌+◌, ◌*◌, ◌≤◌, drop}
 use Rattle.lb_queue.specs.Turns.{idle_levels}
 use Rattle.lb_queue.proofs.queue.turns.levels.Given as goal

@@ -1,3 +1,4 @@
+-- The loops of `renew` of src/queue/turns.rt: the counters of each shape are made fresh.
 use Rattle.std.proofs.Common.{◌≡◌, map, take, vec_capacity, vec_len}
 use Rattle.lb_queue.specs.Turns.{fresh_at}
 use Rattle.lb_queue.proofs.queue.turns.renew.Given as goal

@@ -1,3 +1,4 @@
+-- For `imbalance_flags` of src/queue/values.rt: the flags of the positions that are marked as imbalanced.
 use Rattle.std.proofs.Common.{◌≤◌, ◌^◌, ◌+◌, arith}
 use Rattle.std.proofs.Math.Pow.{pow_mono}
 use Rattle.lb_queue.specs.Turns.{no_counters}

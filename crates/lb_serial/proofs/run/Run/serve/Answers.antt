@@ -1,3 +1,5 @@
+-- For `Run::serve` of src/run.rt: serves the row of the trace at this place, from 0: its lane takes it up,
+-- and goes on until it rests.
 use Rattle.std.proofs.Common.{◌≡◌, true, sym, ◌∙◌, subst}
 use Rattle.lb_trace.specs.declared.trace.Header.{Header}
 use Rattle.lb_trace.specs.declared.trace.Row.{Row}

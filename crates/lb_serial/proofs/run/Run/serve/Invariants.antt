@@ -1,3 +1,5 @@
+-- The loops of `Run::serve` of src/run.rt: serves the row of the trace at this place, from 0: its lane takes
+-- it up, and goes on until it rests.
 use Rattle.std.proofs.Common.{◌+◌, ◌-◌, drop, length}
 use Rattle.lb_serial.specs.Fronts.{most_entries, IsServing}
 use Rattle.lb_serial.proofs.run.Run.serve.Given as goal

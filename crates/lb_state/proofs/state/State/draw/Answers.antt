@@ -1,3 +1,5 @@
+-- For `State::draw` of src/state.rt: draws the serial entry of a lane, which takes up the last published
+-- version and reads each queue's last figure, and takes it.
 use Rattle.std.proofs.Common.{arith, ◌<◌, ◌≡◌, ◌+◌, true, sym, subst, Option, option_copied}
 use Rattle.std.specs.Prelude.{IfSome}
 use Rattle.lb_core.specs.declared.history.TheConstants.{MAX_TICKET}
@@ -20,7 +22,8 @@ take-requires-clause-asks c =
     c.in-Some.is c.in_ok-drawn.ensures.drawn in
     let accepted = subst (λ (x : MachineState). IfSome c.args.row (λ r. is_row x.header r.now ≡ true))
     (sym c.self.view_is) c.requires.accepted in
-    let few : m.ticket < MAX_TICKET = (let t = c.ticket.ensures in let f = c.if-ticket-ge-MAX_TICKET.false in omega (arith, t, f)) in
+    let few : m.ticket < MAX_TICKET = (let t = c.ticket.ensures in let f = c.if-ticket-ge-MAX_TICKET.false in omega
+    (arith, t, f)) in
     let nice : nice_fits e.what ≡ true =
     drawn_nice c.ready.ensures.reads c.entries_fit.ensures.entries m c.args.lane c.args.row e ready few accepted next in
     c.steps_may_be_taken.ensures m e ready next.may nice
@@ -35,7 +38,8 @@ invariant_of-self c =
     c.in-Some.is c.in_ok-drawn.ensures.drawn in
     let accepted = subst (λ (x : MachineState). IfSome c.args.row (λ r. is_row x.header r.now ≡ true))
     (sym c.self.view_is) c.requires.accepted in
-    let few : m.ticket < MAX_TICKET = (let t = c.ticket.ensures in let f = c.if-ticket-ge-MAX_TICKET.false in omega (arith, t, f)) in
+    let few : m.ticket < MAX_TICKET = (let t = c.ticket.ensures in let f = c.if-ticket-ge-MAX_TICKET.false in omega
+    (arith, t, f)) in
     let nice : nice_fits e.what ≡ true =
     drawn_nice c.ready.ensures.reads c.entries_fit.ensures.entries m c.args.lane c.args.row e ready few accepted next in
     record {
@@ -48,7 +52,9 @@ returns-clause-in_range c =
     let m = c.self.inside.engine.machine in
     let accepted = subst (λ (x : MachineState). IfSome c.args.row (λ r. is_row x.header r.now ≡ true))
     (sym c.self.view_is) c.requires.accepted in
-    let few : m.ticket < MAX_TICKET = (let t = c.ticket.ensures in let f = c.if-ticket-ge-MAX_TICKET.false in omega (arith, t, f)) in
+    let few : m.ticket < MAX_TICKET = (let t = c.ticket.ensures in let f = c.if-ticket-ge-MAX_TICKET.false in omega
+    (arith, t, f)) in
     subst (λ (x : MachineState). IfSome c.in_ok-drawn.drawn (λ e. entry_fits (x.ticket + 1) e ≡ true)) c.self.view_is
-    (each_drawn_fits c.entries_fit.ensures.entries m c.args.lane c.args.row c.in_ok-drawn.drawn c.self.invariant.ready few accepted
+    (each_drawn_fits c.entries_fit.ensures.entries m c.args.lane c.args.row c.in_ok-drawn.drawn c.self.invariant.ready
+    few accepted
     c.in_ok-drawn.ensures.drawn)

@@ -1,3 +1,4 @@
+-- For `State::start` of src/state.rt: the machine of an accepted header before any entry.
 use Rattle.std.proofs.Common.{sym, subst}
 use Rattle.lb_ready.specs.Ready.{IsReady}
 use Rattle.lb_state.proofs.state.State.start.Goals as goal

@@ -1,3 +1,4 @@
+-- For `Summary::of` of src/summary.rt: counts the entries of a legal history, each in the state before it.
 use Rattle.std.proofs.Common.{◌≡◌, arith, List, [], length, ◌∙◌, ap, drop}
 use Rattle.std.proofs.lemmas.List.{drop_all}
 use Rattle.lb_core.specs.declared.entry.Entry.{Entry}
@@ -13,7 +14,8 @@ count-requires-clause-small c =
 
 pub count-requires-clause-may : goal.count-requires-clause-may
 count-requires-clause-may c = (goes_at c.ready.ensures.stays c.ready.ensures.reads _ _ c.loop-entry.state
-    c.loop-entry.entry-index c.entry-item.result _ _ c.as_slice-entry-items.ensures c.loop-entry.invariant c.loop-entry-test.true c.entry-item.is).may
+    c.loop-entry.entry-index c.entry-item.result _ _ c.as_slice-entry-items.ensures c.loop-entry.invariant
+    c.loop-entry-test.true c.entry-item.is).may
 
 pub step-requires : goal.step-requires
 step-requires c = (goes_at c.ready.ensures.stays c.ready.ensures.reads _ _ c.loop-entry.state c.loop-entry.entry-index

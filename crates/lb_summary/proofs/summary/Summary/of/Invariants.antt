@@ -1,3 +1,5 @@
+-- The loops of `Summary::of` of src/summary.rt: counts the entries of a legal history, each in the state
+-- before it.
 use Rattle.std.proofs.Common.{◌+◌, drop}
 use Rattle.lb_summary.specs.Summary.{steps_of, summary_of}
 use Rattle.lb_summary.proofs.Going.{IsCounting}

@@ -1,3 +1,5 @@
+-- For `Book::close` of src/book.rt: takes all seats back, in the order of their numbers, and answers their
+-- lists.
 use Rattle.std.proofs.Common.{rules, ◌⊎◌, ◌≡◌, ◌+◌, ◌∷◌, ◌++◌, [], length, map, reverse, sym, ap, ◌∙◌, subst, arith, length-append, append_assoc}
 use Rattle.std.proofs.lemmas.List.{map-append, reverse-append, length-reverse, length-map}
 use Rattle.lb_ticket.specs.Tickets.{Among}

@@ -1,3 +1,5 @@
+-- The loops of `Book::close` of src/book.rt: takes all seats back, in the order of their numbers, and answers
+-- their lists.
 use Rattle.std.proofs.Common.{◌≡◌, ◌⊎◌, ◌+◌, ◌++◌, ◌≤◌, [], length, vec_capacity, map, reverse}
 use Rattle.lb_ticket.specs.Tickets.{Among}
 use Rattle.lb_ticket.specs.Bare.{bare_columns_of}

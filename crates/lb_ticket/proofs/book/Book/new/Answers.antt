@@ -1,3 +1,5 @@
+-- For `Book::new` of src/book.rt: a book of `owners` owners, at most 4,096, and the seat of each, with the
+-- numbers from 0. Nothing is drawn yet.
 use Rattle.lb_ticket.proofs.BareKeeping.{bare_opens}
 use Rattle.lb_ticket.proofs.book.Book.new.Goals as goal
 

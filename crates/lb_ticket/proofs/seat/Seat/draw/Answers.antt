@@ -1,3 +1,5 @@
+-- For `Seat::draw` of src/seat.rt: draws the next ticket for an item, and answers it; the first ticket of a
+-- book is 1. It is above the one that the item quotes and above all that this seat drew before.
 use Rattle.std.proofs.Common.{rules, map, sym, subst, ap, ◌∙◌, [], ◌∷◌}
 use Rattle.lb_ticket.specs.Facts.{held_of, QuoteIsKnown}
 use Rattle.lb_ticket.specs.Tickets.{AllBelow}

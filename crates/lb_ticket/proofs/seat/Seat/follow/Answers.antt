@@ -1,3 +1,4 @@
+-- For `Seat::follow` of src/seat.rt: reads what another seat drew so far, which that one keeps.
 use Rattle.std.proofs.Common.{rules, ◌++◌, map, sym, ap, ◌∙◌, subst}
 use Rattle.lb_ticket.specs.Facts.{held_of, HeldBelow}
 use Rattle.lb_ticket.specs.Bare.{first_held}

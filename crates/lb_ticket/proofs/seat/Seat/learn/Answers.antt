@@ -1,3 +1,5 @@
+-- For `Seat::learn` of src/seat.rt: learns a note, which is spent: this seat may quote its ticket, and each
+-- later ticket of this seat is above it.
 use Rattle.std.proofs.Common.{rules}
 use Rattle.lb_ticket.proofs.seat.Seat.learn.Goals as goal
 

@@ -1,3 +1,5 @@
+-- For `Seat::mark` of src/seat.rt: the next ticket at this moment: each later ticket of this seat is that or
+-- a greater one.
 use Rattle.std.proofs.Common.{rules}
 use Rattle.lb_ticket.proofs.seat.Seat.mark.Goals as goal
 

@@ -1,3 +1,4 @@
+-- For `Seat::note` of src/seat.rt: the note of the ticket `k`, which this seat drew and did not note before.
 use Rattle.std.proofs.Common.{rules}
 use Rattle.lb_ticket.proofs.seat.Seat.note.Goals as goal
 

@@ -1,3 +1,4 @@
+-- For `Known::add` of src/history.rt: adds a version to what is known, and says whether it did.
 use Rattle.std.proofs.Common.{sym, ◌∙◌, ap}
 use Rattle.lb_topub.proofs.Adding.{adds_moves}
 use Rattle.lb_topub.proofs.history.Known.add.Goals as goal

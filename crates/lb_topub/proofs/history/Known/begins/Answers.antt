@@ -1,3 +1,4 @@
+-- For `Known::begins` of src/history.rt: of two beginnings of one list the shorter begins the longer.
 use Rattle.std.proofs.Common.{◌≤◌, List, length, ap, subst, arith}
 use mathlib.Core.List.{IsPrefix}
 use Rattle.lb_domain.specs.Topologies.{DomainsWithin}

@@ -1,3 +1,5 @@
+-- The loops of `Publisher::new` of src/publisher.rt: a publisher of a first topology, which is version 1, and
+-- so many lookers, which have seen that version.
 use Rattle.std.proofs.Common.{◌≡◌, ◌≤◌, replicate, vec_capacity}
 use Rattle.left_right.specs.Sides.{view}
 use Rattle.lb_topub.specs.Shown.{Knows}

@@ -1,3 +1,4 @@
+-- For `Reading::dist_line` of src/header_lines.rt: takes a `dist` line, or answers its code.
 use Rattle.lb_trace.proofs.DistanceFacts.{in_range_with}
 use Rattle.csv.specs.Records.{fields_of}
 use Rattle.lb_trace.proofs.reading.Reading.dist_line.Goals as goal

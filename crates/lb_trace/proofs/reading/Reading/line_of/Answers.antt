@@ -1,3 +1,5 @@
+-- For `Reading::line_of` of src/reading.rt: takes a line by its kind, whose place and number of fields are
+-- right.
 use Rattle.std.proofs.Common.{refl}
 use Rattle.csv.specs.Records.{fields_of}
 use Rattle.lb_trace.specs.declared.kind.LineKind.TheVariants as kinds

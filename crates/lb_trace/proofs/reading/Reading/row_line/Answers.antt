@@ -1,3 +1,4 @@
+-- For `Reading::row_line` of src/reading.rt: takes a row, whose place and number of fields are right.
 use Rattle.std.proofs.Common.{refl}
 use Rattle.csv.specs.Records.{fields_of}
 use Rattle.lb_trace.specs.declared.kind.RowKind.TheVariants as rows

@@ -1,3 +1,4 @@
+-- For `Reading::take_line` of src/reading.rt: takes the next line, before which the reader of fields stands.
 use Rattle.std.proofs.Common.{rules}
 use Rattle.lb_trace.proofs.LineFacts.{empty_line}
 use Rattle.lb_trace.proofs.reading.Reading.take_line.Goals as goal

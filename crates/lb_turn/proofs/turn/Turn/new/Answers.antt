@@ -1,3 +1,4 @@
+-- For `Turn::new` of src/turn.rt: the turn of a course, over the topology of the version that it took up.
 use Rattle.std.proofs.Common.{List, length, arith, ap, ◌∙◌}
 use Rattle.lb_domain.specs.declared.domain.Domain.{Domain}
 use Rattle.lb_domain.specs.Domains.{domains_at}

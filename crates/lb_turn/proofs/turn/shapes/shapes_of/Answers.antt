@@ -1,3 +1,4 @@
+-- For `shapes_of` of src/turn/shapes.rt: the shapes of domains.
 use Rattle.std.proofs.Common.{ℕ, ◌≡◌, ◌<◌, length, arith, sym, ap, take, ◌∙◌}
 use Rattle.std.proofs.Math.Seq.{take-length}
 use Rattle.std.proofs.Math.ListN.{length-set}

@@ -1,3 +1,4 @@
+-- The loops of `shapes_of` of src/turn/shapes.rt: the shapes of domains.
 use Rattle.std.proofs.Common.{◌≡◌, length, take}
 use Rattle.lb_levels.specs.declared.limits.TheConstants.{MAX_LEVELS}
 use Rattle.lb_core.specs.Course.{shapes_of}
