@@ -1,4 +1,4 @@
-//! A load balancer's machine, run over a trace.
+//! The program: it takes the words of the command line, makes the real source and sinks, and calls `top`.
 #![tactic(auto)]
 
 ghost use Rattle.std.specs.Prelude.{◌≡◌, ◌⊎◌, IfErr};

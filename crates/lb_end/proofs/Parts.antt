@@ -9,6 +9,8 @@ use Rattle.atomic_table.specs.Seated.{TableId}
 use Rattle.lb_queue.specs.Queue.{BookedQueue}
 use Rattle.lb_trace.specs.declared.trace.Header.{Header}
 use Rattle.lb_core.specs.declared.course.Course.{Course}
+use Rattle.lb_core.specs.declared.entry.Owner.{Owner}
+use Rattle.lb_core.specs.declared.entry.What.{What}
 use Rattle.lb_core.specs.Course.{opening_course}
 use Rattle.lb_ticket.specs.declared.item.Drawn.{Drawn}
 use Rattle.lb_ticket.specs.Seats.{NoteIs, SeatIs}
@@ -18,7 +20,7 @@ use Rattle.lb_journal.specs.Owners.{GrowthKeeps, QueueGrows, UsesVersion}
 use Rattle.lb_cell.specs.LastEntries.{IsLast}
 use Rattle.lb_end.specs.Ends.{EndedIs, EndedKeeps, IsFirstCourse}
 use Rattle.lb_end.specs.Seats.{list_at}
-use Rattle.lb_end.specs.Drawing.{Drew, DrewItem, first_course, first_ticket, state_at}
+use Rattle.lb_end.specs.Drawing.{Drew, DrewItem, first_course, first_ticket, item_of, state_at}
 use Rattle.lb_end.proofs.Seating.{kept_at, numbered_at}
 use Rattle.lb_end.proofs.Keeping.{header_at, keeps_drawn, list_is, lists_more, long_lists, replays_drawn}
 use Rattle.lb_end.proofs.Chaining.{number_else, number_is, number_now}
@@ -26,12 +28,19 @@ use Rattle.lb_end.proofs.Chaining.{number_else, number_is, number_now}
 pub there : {A : Type 0} (xs : List A) (i : ℕ) (x : A) → i < length xs → x ≡ get_or xs i x → slice_get xs i ≡ Some x
 there xs i x lt e = slice_get-get_or xs i x lt ∙ ap Some (sym e)
 
+-- the same in a machine as contracts see it
+pub seat_there : (e v : EndedIs) → e ≡ v → (k : ℕ) (s : SeatIs Journal) → k < length v.seats → s ≡ get_or e.seats k s
+    → slice_get e.seats k ≡ Some s
+seat_there e v seen k s lt is = there e.seats k s (subst (λ (x : EndedIs). k < length x.seats) (sym seen) lt) is
+
 -- what lane 0 has
 pub record FirstIs (h : Header) (left : Coded Left) (e : EndedIs) (c : Course) (t : ℕ) (n : Option NoteIs) : Type 0 where
   pub course : first_course e ≡ c
   pub ticket : first_ticket e ≡ t
   pub quiet : IsFirstCourse h c
   pub last : IsLast e.book.table left (length h.cpus) 0 c t n
+  pub courses : 0 < length e.courses
+  pub tickets : 0 < length e.tickets
 
 pub first_is : (h : Header) (book : TableId) (code : Coded Journal) (left : Coded Left) (e : EndedIs)
     → EndedKeeps h book code left e
@@ -50,6 +59,8 @@ first_is h book code left e k c t n ec et en =
       ticket = get_or_from_slice_get e.tickets 0 t 0 tt';
       quiet = k.quiet c tc;
       last = subst (λ (b : TableId). IsLast b left (length h.cpus) 0 c t n) (sym k.book_is) (k.first c t n tc tt' tn);
+      courses = omega (arith, some, ac);
+      tickets = omega (arith, some, at);
     }
 
 -- what a queue has
@@ -119,6 +130,33 @@ drew_parts table left k item e s s' t n queues notes here d prev some = record {
   held = get_or-set_same e.tickets 0 t 0 some;
   course = refl;
 }
+
+-- the same of the machine as contracts see it
+pub drew_seen : (h : Header) (left : Coded Left) (k : ℕ) (o : Owner) (w : What) (e v : EndedIs) (c c' : Course) (p t : ℕ)
+    (m n : Option NoteIs) (s s' : SeatIs Journal) (queues : List BookedQueue) → (header : e.header ≡ h) → e ≡ v
+    → FirstIs h left e c p m → slice_get e.seats k ≡ Some s → DrewItem e.book.table left (item_of e.header o c c' p w) s s' t n
+    → Drew k (item_of h o (first_course v) (get_or (set e.courses 0 c') 0 (opening_course 0)) (first_ticket v) w) v (record e {
+      seats = set e.seats k s';
+      queues = queues;
+      courses = set e.courses 0 c';
+      tickets = set e.tickets 0 t;
+      notes = set e.notes 0 n;
+    })
+drew_seen h left k o w e v c c' p t m n s s' queues header seen f here d =
+    subst (λ (x : Type 0). x)
+    (λ i.
+    Drew k
+    (item_of (header i) o ((sym f.course ∙ ap first_course seen) i)
+    (sym (get_or-set_same e.courses 0 c' (opening_course 0) f.courses) i) ((sym f.ticket ∙ ap first_ticket seen) i) w)
+    (seen i) (record e {
+      seats = set e.seats k s';
+      queues = queues;
+      courses = set e.courses 0 c';
+      tickets = set e.tickets 0 t;
+      notes = set e.notes 0 n;
+    }))
+    (drew_parts e.book.table left k (item_of e.header o c c' p w) e s s' t n queues (set e.notes 0 n) here d (sym f.ticket)
+    f.tickets)
 
 pub bookings_kept : (queues : List BookedQueue) (cpu : ℕ) (q q' : BookedQueue) → slice_get queues cpu ≡ Some q
     → q'.booked ≡ q.booked → map (λ (x : BookedQueue). x.booked) (set queues cpu q') ≡ map (λ (x : BookedQueue). x.booked) queues

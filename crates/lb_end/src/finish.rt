@@ -1,4 +1,4 @@
-//! The entries that close a history.
+//! The entries that close a history (docs/rules/lanes.md).
 ghost use Rattle.std.specs.Prelude.{◌≡◌, ◌<◌, ◌≤◌, ◌+◌, ◌^◌, ◌&&◌, nat_lt, is_some, length, OnOk, IfOk, OnErr};
 ghost use Rattle.lb_base.specs.Sets.{mask_where};
 ghost use Rattle.lb_core.specs.declared.course.Form.TheVariants as form;

@@ -20,7 +20,7 @@ use Rattle.lb_journal.specs.declared.journal.Journal.{the_code}
 use Rattle.lb_journal.specs.contracts.journal.Left.{the_row}
 use Rattle.lb_end.specs.Ends.{EndedIs, IsFirstCourse}
 use Rattle.lb_end.specs.Drawing.{Drew, booked_at, first_course, first_ticket, item_of, state_at}
-use Rattle.lb_end.proofs.Parts.{first_is, queue_is, drew_parts, bookings_kept, keeps_at_queue}
+use Rattle.lb_end.proofs.Parts.{first_is, queue_is, drew_seen, bookings_kept, keeps_at_queue}
 use Rattle.lb_end.proofs.ended.Ended.land.Goals as goal
 
 pub draw_in-requires-clause-book : goal.draw_in-requires-clause-book
@@ -45,15 +45,6 @@ draw_in-requires-clause-queue g c =
 
 pub invariant_of-self : goal.invariant_of-self
 invariant_of-self g c =
-    let e : EndedIs = record {
-      header = c.self.inside.header;
-      book = c.self.inside.book;
-      seats = c.self.inside.seats.items;
-      queues = c.self.inside.queues.items;
-      courses = c.self.inside.courses.items;
-      tickets = c.self.inside.tickets.items;
-      notes = c.self.inside.notes.items;
-    } in
     let q =
     queue_is g.N.Names.header g.N.Names.book the_code the_row.coded _ c.self.invariant c.args.cpu c.requires.cpu _ _
     c.index_mut.ensures.value c.index_mut-2.ensures.value in
@@ -61,57 +52,21 @@ invariant_of-self g c =
     let item : Journal =
     item_of c.self.inside.header (owner.Queue c.args.cpu) c.index_mut-3.result.now c.draw_in.new.course c.index_mut-4.result.now
     (what.Landed c.args.landing) in
-    keeps_at_queue c.growth_keeps.ensures c.queue_grows.ensures g.N.Names.header g.N.Names.book the_code the_row.coded e
+    keeps_at_queue c.growth_keeps.ensures c.queue_grows.ensures g.N.Names.header g.N.Names.book the_code the_row.coded _
     c.self.invariant c.args.cpu c.index_mut.result.now c.draw_in.new.queue c.index_mut-2.result.now c.draw_in.new.seat item
     c.draw_in.new.last c.draw_in.new.note q d.drew c.self.invariant.header_is refl refl tt d.step
     (subst (λ (h : Header). IsFirstCourse h c.draw_in.new.course) c.self.invariant.header_is d.course.1)
 
 pub returns-clause-drew : goal.returns-clause-drew
 returns-clause-drew g c =
-    let e : EndedIs = record {
-      header = c.self.inside.header;
-      book = c.self.inside.book;
-      seats = c.self.inside.seats.items;
-      queues = c.self.inside.queues.items;
-      courses = c.self.inside.courses.items;
-      tickets = c.self.inside.tickets.items;
-      notes = c.self.inside.notes.items;
-    } in
     let q =
     queue_is g.N.Names.header g.N.Names.book the_code the_row.coded _ c.self.invariant c.args.cpu c.requires.cpu _ _
     c.index_mut.ensures.value c.index_mut-2.ensures.value in
     let f =
     first_is g.N.Names.header g.N.Names.book the_code the_row.coded _ c.self.invariant _ _ _ c.index_mut-3.ensures.value
     c.index_mut-4.ensures.value c.index_mut-5.ensures.value in
-    let d = c.draw_in.ensures.drew in
-    let lane = c.self.invariant.accepted.some_lane in
-    let some : 0 < length e.tickets = (let all = c.self.invariant.all_tickets in omega (arith, lane, all)) in
-    let one : 0 < length e.courses = (let all = c.self.invariant.all_courses in omega (arith, lane, all)) in
-    let w : What = (what.Landed c.args.landing) in
-    let after = c.draw_in.new.course in
-    let old : Journal =
-    item_of c.self.inside.header (owner.Queue c.args.cpu) c.index_mut-3.result.now after c.index_mut-4.result.now w in
-    let courses : List Course = set e.courses 0 after in
-    let item : old
-    ≡ item_of g.N.Names.header (owner.Queue c.args.cpu) (first_course c.args.self.now) (get_or courses 0 (opening_course 0))
-    (first_ticket c.args.self.now) w =
-    (λ i.
-    item_of (c.self.invariant.header_is i) (owner.Queue c.args.cpu)
-    ((sym f.course ∙ ap first_course c.self.view_is) i)
-    (sym (get_or-set_same e.courses 0 after (opening_course 0) one) i)
-    ((sym f.ticket ∙ ap first_ticket c.self.view_is) i) w) in
-    subst (λ (t : Type 0). t)
-    (λ i.
-    Drew (17 + c.args.cpu) (item i) (c.self.view_is i) (record e {
-      seats = set e.seats (17 + c.args.cpu) c.draw_in.new.seat;
-      queues = set e.queues c.args.cpu c.draw_in.new.queue;
-      courses = courses;
-      tickets = set e.tickets 0 c.draw_in.new.last;
-      notes = set e.notes 0 c.draw_in.new.note;
-    }))
-    (drew_parts e.book.table the_row.coded (17 + c.args.cpu) old e c.index_mut-2.result.now c.draw_in.new.seat c.draw_in.new.last
-    c.draw_in.new.note (set e.queues c.args.cpu c.draw_in.new.queue) (set e.notes 0 c.draw_in.new.note) q.seat d
-    (sym f.ticket) some)
+    drew_seen g.N.Names.header the_row.coded (17 + c.args.cpu) (owner.Queue c.args.cpu) (what.Landed c.args.landing)
+    _ _ _ _ _ _ _ _ _ _ _ c.self.invariant.header_is c.self.view_is f q.seat c.draw_in.ensures.drew
 
 pub draw_in-requires-clause-asks : goal.draw_in-requires-clause-asks
 draw_in-requires-clause-asks g c =
