@@ -107,7 +107,8 @@ def written(words, given=None):
 
 
 def run(words, given):
-    """The status, the seconds, the peak memory in bytes, the bytes written and the last line of one run."""
+    """The status, the seconds, those of processors, the peak memory in bytes, the bytes written and the last line of one
+    run."""
     given.seek(0)
     out, into = os.pipe()
     began = time.monotonic()
@@ -121,15 +122,15 @@ def run(words, given):
     _, status, used = os.wait4(child, 0)
     seconds = time.monotonic() - began
     last = tail.splitlines()[-1].decode() if tail.endswith(b"\n") else ""
-    return os.waitstatus_to_exitcode(status), seconds, used.ru_maxrss * 1024, size, last
+    return os.waitstatus_to_exitcode(status), seconds, used.ru_utime + used.ru_stime, used.ru_maxrss * 1024, size, last
 
 
 def measure(name, words, given, entries_in, wanted=0, tries=3):
     """Runs the program so many times, prints the quickest run in a line, and answers its seconds. `entries_in`
     says how many entries the last line that was written tells of."""
-    status, seconds, peak, out, last = min((run(words, given) for _ in range(tries)), key=lambda found: found[1])
+    status, seconds, busy, peak, out, last = min((run(words, given) for _ in range(tries)), key=lambda found: found[1])
     size = os.fstat(given.fileno()).st_size
-    line = "%-44s %8.3f s, %6.0f MB" % (name, seconds, peak / 1e6)
+    line = "%-44s %8.3f s, %8.3f s of processors, %6.0f MB" % (name, seconds, busy, peak / 1e6)
     if status != wanted:
         line += ", status %d" % status
     elif last:
